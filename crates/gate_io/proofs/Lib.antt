@@ -1,0 +1,3 @@
+-- Lemmas.
+pub mod Moved
+pub mod Windows
