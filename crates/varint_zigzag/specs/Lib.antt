@@ -1,0 +1,4 @@
+-- Numbers as bytes, and signed numbers as unsigned ones.
+pub mod Bounds
+pub mod Varint
+pub mod Zigzag

@@ -1,0 +1,17 @@
+//! Variable-length numbers of seven bits a byte, the low ones first, and signed numbers folded onto unsigned ones, as
+//! the Compact protocol of Apache Thrift spells its integers.
+#![tactic(auto)]
+
+mod fault;
+mod laws;
+mod reading;
+#[cfg(test)]
+mod tests;
+mod writing;
+mod zigzag;
+
+pub use fault::VarFault;
+pub use laws::{folded_and_back, one_front, shortest_is_least};
+pub use reading::{read_u16, read_u32, read_u64};
+pub use writing::{write_u32, write_u64};
+pub use zigzag::{unzigzag32, unzigzag64, zigzag32, zigzag64};
