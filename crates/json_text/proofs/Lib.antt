@@ -1,0 +1,9 @@
+pub mod Escapes
+pub mod Turns
+pub mod Ints
+pub mod Spellings
+pub mod Blobs
+pub mod BlobPieces
+pub mod Lanes
+pub mod Runs
+pub mod Numbers

@@ -1,0 +1,25 @@
+use Rattle.std.proofs.Common.{sym, ap, ◌∙◌, arith}
+use lib.Count.{count_trailing_zeros}
+use Rattle.json_text.specs.Blob.{is_no_symbol, is_symbol}
+use Rattle.json_text.proofs.Runs.{run_bound, not-not, run_through, run_stops}
+use Rattle.json_text.proofs.run.symbols_end.Goals as goal
+
+pub returns-then-found-ne0-clause-value : goal.returns-then-found-ne0-clause-value
+returns-then-found-ne0-clause-value c =
+    let found = c.no_symbols-found in
+    let run = run_stops is_no_symbol is_symbol (λ x. not-not (is_symbol x)) c.args.bytes.now c.loop-end.«end» 32 (omega arith) (omega arith) (omega (arith, found.ensures)) ∙ ap (count_trailing_zeros 64) (sym found.ensures) in
+    omega (arith, run, c.loop-end.invariant.0)
+
+pub returns-then-found-ne0-clause-bound : goal.returns-then-found-ne0-clause-bound
+returns-then-found-ne0-clause-bound c =
+    let found = c.no_symbols-found in
+    let run = run_stops is_no_symbol is_symbol (λ x. not-not (is_symbol x)) c.args.bytes.now c.loop-end.«end» 32 (omega arith) (omega arith) (omega (arith, found.ensures)) ∙ ap (count_trailing_zeros 64) (sym found.ensures) in
+    omega (arith, run, run_bound is_symbol c.args.bytes.now c.loop-end.«end» c.loop-end.invariant.1)
+
+pub loop-end-preserved : goal.loop-end-preserved
+loop-end-preserved c =
+    let run = run_through is_no_symbol is_symbol (λ x. not-not (is_symbol x)) c.args.bytes.now c.loop-end.«end» 32 (omega arith) (omega (arith, c.no_symbols-found.ensures)) in
+    (omega (arith, run, c.loop-end.invariant.0), omega arith)
+
+pub returns-clause-bound : goal.returns-clause-bound
+returns-clause-bound c = omega (arith, run_bound is_symbol c.args.bytes.now c.loop-end.«end» c.loop-end.invariant.1)

@@ -1,0 +1,10 @@
+pub mod Scan
+pub mod Escape
+pub mod Text
+pub mod Int
+pub mod Number
+pub mod Plain
+pub mod Laws
+pub mod Blob
+pub mod Lengths
+pub mod Grammar

@@ -1,0 +1,23 @@
+//! The words of JSON texts: whitespace, integers, numbers, strings and base64 strings, over slices and without memory.
+#![tactic(auto)]
+
+mod blob;
+mod blob_write;
+mod escape;
+mod int;
+mod number;
+mod run;
+mod scanned;
+#[cfg(test)]
+mod tests;
+mod text;
+mod write;
+
+pub use blob::read_blob;
+pub use blob_write::write_blob;
+pub use int::read_int;
+pub use number::read_number;
+pub use run::skip_white;
+pub use scanned::Scan;
+pub use text::read_text;
+pub use write::{write_int, write_text};
