@@ -1,0 +1,139 @@
+//! The reader and the writer as a protocol's.
+ghost use Rattle.std.specs.Prelude.{◌≡◌, None, length, refl};
+ghost use Rattle.thrift_value.specs.Items.{item_of};
+ghost use Rattle.protocol_traits.specs.Heads.{header_of};
+ghost use Rattle.protocol_traits.specs.Follow.{depth_after};
+ghost use Rattle.binary_protocol.specs.Reading.{begun, reads, reads_head, reads_end, ahead};
+ghost use Rattle.binary_protocol.specs.Plain.{bar, plain, plain_head};
+ghost use Rattle.binary_protocol.specs.Laws.{reads_pays, reads_nests, reads_head_pays, begins, light, light_head};
+
+use crate::reader::BinaryRead;
+use crate::writer::{BinaryWrite, put_event, put_head};
+use gate_io::Out;
+use protocol_traits::{Bar, Fault, Head, Hint, Mark, ReadRules, WireRead, WireWrite};
+use thrift_value::Event;
+
+impl<'f> ReadRules for BinaryRead<'f> {
+    ghost begun = { begun };
+
+    ghost reads_head = { reads_head };
+
+    ghost reads = { λ s hint. reads s };
+
+    ghost reads_end = { reads_end };
+
+    ghost value_place = { λ s. s.value };
+
+    ghost depth = { λ s. length s.nest };
+
+    ghost ahead = { ahead };
+
+    ghost head_pays = { reads_head_pays };
+
+    ghost pays = { λ s hint. reads_pays s };
+
+    ghost nests = { λ s hint. reads_nests s };
+
+    ghost begins = { begins };
+}
+
+impl<'f> WireRead<'f> for BinaryRead<'f> {
+    #[inline(always)]
+    fn over(frame: &'f [u8], _room: &'f mut [u8]) -> Self {
+        BinaryRead::open(frame)
+    }
+
+    #[inline(always)]
+    fn head(&mut self) -> Result<Head<'_>, Fault> {
+        let head = self.read_head()?;
+        Ok(self.lend_head(head))
+    }
+
+    #[inline(always)]
+    fn next(&mut self, _hint: Hint) -> Result<Event<'_>, Fault> {
+        let event = self.read()?;
+        Ok(self.lend(event))
+    }
+
+    #[inline(always)]
+    fn place(&self) -> usize {
+        self.value_place()
+    }
+
+    #[inline(always)]
+    fn finish(&mut self) -> Result<(), Fault> {
+        self.read_end()
+    }
+}
+
+impl<'f> BinaryRead<'f> {
+    /// The event for as long as the reader is lent.
+    #[inline(always)]
+    fn lend(&self, event: Event<'f>) -> Event<'_>
+        ensures same { item_of result ≡ item_of event.entry }
+    {
+        event
+    }
+
+    /// The header for as long as the reader is lent.
+    #[inline(always)]
+    fn lend_head(&self, head: Head<'f>) -> Head<'_>
+        ensures same { header_of result ≡ header_of head.entry }
+    {
+        head
+    }
+}
+
+impl WireWrite for BinaryWrite {
+    ghost begun = { record { depth = 1 } };
+
+    ghost name_bar = { λ name. None };
+
+    ghost bar = { bar };
+
+    ghost plain_head = { plain_head };
+
+    ghost plain = { λ s item mark. plain item mark };
+
+    ghost after = { λ s item mark. record { depth = depth_after item s.depth } };
+
+    ghost depth = { λ s. s.depth };
+
+    ghost starts = { refl };
+
+    ghost nests = { λ s item mark some. refl };
+
+    ghost light_head = { λ h fits. light_head h };
+
+    ghost light = { λ s item mark sized. light item mark sized };
+
+    #[inline(always)]
+    fn over() -> Self {
+        BinaryWrite::open()
+    }
+
+    #[inline(always)]
+    fn takes_name(_name: &[u8]) -> Result<(), Bar> {
+        Ok(())
+    }
+
+    #[inline(always)]
+    fn takes(e: &Event<'_>, _mark: Mark) -> Result<(), Bar> {
+        match *e {
+            Event::NumberText(_) => Err(Bar::Double),
+            Event::UnknownText(_) => Err(Bar::UnknownString),
+            _ => Ok(()),
+        }
+    }
+
+    #[inline(always)]
+    fn head(&mut self, h: &Head<'_>, out: &mut Out) {
+        put_head(h, out)
+    }
+
+    #[inline(always)]
+    fn put(&mut self, e: &Event<'_>, mark: Mark, out: &mut Out) {
+        put_event(e, mark, out);
+        self.count(e);
+    }
+}
