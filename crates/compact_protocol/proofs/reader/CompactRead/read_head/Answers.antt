@@ -1,0 +1,9 @@
+use Rattle.std.proofs.Common.{◌<◌, ◌^◌, ◌-◌, ℕ, List, length, take, drop, length-take, length-drop, arith}
+use Rattle.compact_protocol.specs.Laws.{name_sized}
+use Rattle.compact_protocol.proofs.reader.CompactRead.read_head.Goals as goal
+
+small_rest : (frame : List ℕ) (place : ℕ) → length frame < 2 ^ 31 → length (take (length frame - place) (drop place frame)) < 2 ^ 31
+small_rest frame place h = omega (arith, length-drop {A = ℕ}, length-take {A = ℕ})
+
+pub returns-in-Ok-string_behind-clause-sized : goal.returns-in-Ok-string_behind-clause-sized
+returns-in-Ok-string_behind-clause-sized c = name_sized _ _ _ _ (small_rest c.self.inside.frame.now c.self.inside.place (omega arith)) c.in-Ok-string_behind.ensures.exact
