@@ -1,0 +1,121 @@
+//! The header and the end of a message.
+ghost use Rattle.std.specs.Prelude.{◌≡◌, ℕ, ◌+◌, ◌≤◌, ◌≤ℤ◌, length, drop, pos, IfOk};
+ghost use Rattle.protocol_traits.specs.Steps.{seen};
+ghost use Rattle.json_protocol.specs.Scan.{IsWithin, Keeps, further, shifted, string_scan};
+ghost use Rattle.json_protocol.specs.Words.{int_in, text_in};
+ghost use Rattle.json_protocol.specs.Head.{type_of, front_at, back_at, head_at, head_scan, end_scan};
+
+use crate::room::Room;
+use crate::scan::{fault, gap_from, mark_from};
+use crate::word::int_in;
+use protocol_traits::{Fault, Head, Reason};
+use thrift_value::MessageType;
+
+fn int_from(
+    reason: Reason,
+    low: i64,
+    high: i64,
+    bytes: &[u8],
+    at: usize,
+) -> Result<(i64, usize), Fault>
+    requires place { at ≤ length bytes.now }
+    requires range { (low ≤ℤ pos 1) × (pos 0 ≤ℤ high) }
+    ensures within { IsWithin (length bytes.now) result }
+    ensures range { IfOk result (λ x. (low ≤ℤ x.0) × (x.0 ≤ℤ high)) }
+    ensures onward { IfOk result (λ x. at ≤ x.1) }
+    ensures exact { result ≡ further at (int_in reason low high) bytes.now }
+{
+    let at = gap_from(bytes, at);
+    match int_in(reason, low, high, &bytes[at..]) {
+        Ok((value, taken)) => Ok((value, at + taken)),
+        Err(f) => Err(fault(at + f.place, f.reason)),
+    }
+}
+
+fn type_of(code: i64) -> MessageType
+    ensures { result ≡ type_of code }
+{
+    match code {
+        1 => MessageType::Call,
+        2 => MessageType::Reply,
+        3 => MessageType::Exception,
+        _ => MessageType::Oneway,
+    }
+}
+
+/// Up to the name's quote.
+#[tactic(auto, unfolding(crate::specs::Head::front_at))]
+fn front_at(bytes: &[u8]) -> Result<((), usize), Fault>
+    ensures within { IsWithin (length bytes.now) result }
+    ensures exact { result ≡ front_at bytes.now }
+{
+    let (_, taken) = mark_from(b'[', bytes, 0)?;
+    let (_, taken) = int_from(Reason::BadVersion, 1, 1, bytes, taken)?;
+    let (_, taken) = mark_from(b',', bytes, taken)?;
+    Ok(((), gap_from(bytes, taken)))
+}
+
+/// Behind the name.
+#[tactic(auto, unfolding(crate::specs::Head::back_at))]
+fn back_at(bytes: &[u8], name: usize) -> Result<((MessageType, i32), usize), Fault>
+    requires { name ≤ length bytes.now }
+    ensures within { IsWithin (length bytes.now) result }
+    ensures onward { IfOk result (λ x. name ≤ x.1) }
+    ensures exact { result ≡ back_at name bytes.now }
+{
+    let (_, taken) = mark_from(b',', bytes, name)?;
+    let (code, taken) = int_from(Reason::BadType, 1, 4, bytes, taken)?;
+    let (_, taken) = mark_from(b',', bytes, taken)?;
+    let (seq, taken) = int_from(Reason::BadNumber, -2147483648, 2147483647, bytes, taken)?;
+    let (_, taken) = mark_from(b',', bytes, taken)?;
+    Ok(((type_of(code), seq as i32), taken))
+}
+
+fn name_from<'f>(
+    bytes: &'f [u8],
+    at: usize,
+    room: &mut Room<'f>,
+) -> Result<(&'f [u8], usize), Fault>
+    requires place { at ≤ length bytes.now }
+    requires room { length bytes.now ≤ room.old }
+    ensures within { IsWithin (length bytes.now) result }
+    ensures exact { seen string_scan result ≡ shifted at (text_in (drop at bytes.now)) }
+    ensures room { Keeps (length bytes.now) room.old room.new result }
+{
+    match room.text(&bytes[at..]) {
+        Ok((text, taken)) => Ok((text, at + taken)),
+        Err(f) => Err(fault(at + f.place, f.reason)),
+    }
+}
+
+/// The header, with the place of its name.
+#[tactic(auto, unfolding(crate::specs::Head::head_at))]
+pub fn head_at<'f>(
+    bytes: &'f [u8],
+    room: &mut Room<'f>,
+) -> Result<((Head<'f>, usize), usize), Fault>
+    requires { length bytes.now ≤ room.old }
+    ensures within { IsWithin (length bytes.now) result }
+    ensures exact { seen head_scan result ≡ head_at bytes.now }
+    ensures room { IfOk result (λ x. length bytes.now ≤ room.new + x.1) }
+    ensures start { IfOk result (λ x. x.0.1 ≤ length bytes.now) }
+{
+    let (_, start) = front_at(bytes)?;
+    let (name, taken) = name_from(bytes, start, room)?;
+    let ((mtype, seq), taken) = back_at(bytes, taken)?;
+    Ok(((Head { name, mtype, seq }, start), taken))
+}
+
+/// The closing bracket, and only whitespace behind it.
+#[tactic(auto, unfolding(crate::specs::Head::end_scan))]
+pub fn end_scan(bytes: &[u8]) -> Result<((), usize), Fault>
+    ensures within { IsWithin (length bytes.now) result }
+    ensures exact { result ≡ end_scan bytes.now }
+{
+    let (_, taken) = mark_from(b']', bytes, 0)?;
+    let at = gap_from(bytes, taken);
+    if at == bytes.len() {
+        return Ok(((), at));
+    }
+    Err(fault(at, Reason::Trailing))
+}
