@@ -1,0 +1,81 @@
+-- The verdict on a frame, from any reader to any writer.
+use Rattle.std.specs.Prelude.{◌≡◌, ℕ, List, [], ◌++◌, Option, Some, None, is_some, Result, Ok, Err, if◌then◌else◌}
+use Rattle.thrift_value.specs.declared.kind.MessageType.{MessageType}
+use Rattle.protocol_traits.specs.declared.fault.Fault.{Fault}
+use Rattle.protocol_traits.specs.Heads.{Header}
+use Rattle.protocol_traits.specs.Steps.{Step}
+use Rattle.translate_core.specs.declared.verdict.Cause.{Cause}
+use Rattle.translate_core.specs.declared.verdict.Cause.TheVariants.{Grammar}
+use Rattle.translate_core.specs.declared.verdict.HeadInfo.{HeadInfo}
+use Rattle.translate_core.specs.declared.verdict.Verdict.{Verdict}
+use Rattle.translate_core.specs.declared.verdict.Verdict.TheVariants.{Passed, Refused, Unread}
+use Rattle.translate_core.specs.Positions.{Positions}
+use Rattle.translate_core.specs.Body.{Source, Target, Ended, going, whole, first_cause}
+
+-- the verdict and the bytes that are written
+pub record Judged : Type 0 where
+  pub verdict : Verdict
+  pub bytes : List ℕ
+
+abbrev pub judged : Verdict → List ℕ → Judged
+judged verdict bytes = record { verdict = verdict; bytes = bytes }
+
+abbrev pub info_of : Header → HeadInfo
+info_of h = record { mtype = h.mtype; seq = h.seq }
+
+-- the message passes, unless something stands against it
+abbrev pub passed_or : HeadInfo → Option Cause → Verdict
+passed_or info (Some cause) = Refused info cause
+passed_or info None = Passed info
+
+-- what of the written bytes is kept
+abbrev pub kept : Verdict → List ℕ → List ℕ
+kept (Passed info) bytes = bytes
+kept (Refused info cause) bytes = []
+kept (Unread f) bytes = []
+
+-- a fault goes before a bar
+abbrev pub at_end : {S : Type 0} → HeadInfo → Option Cause → Step S (Unit {0}) → Verdict
+at_end info cause (Ok x) = passed_or info cause
+at_end info cause (Err f) = Refused info (Grammar f)
+
+abbrev pub after_body : {S P T : Type 0} → Source S → HeadInfo → Ended S P T → Verdict
+after_body source info (Ok g) = at_end info g.cause (source.reads_end g.reader)
+after_body source info (Err f) = Refused info (Grammar f)
+
+abbrev pub body_bytes : {S P T : Type 0} → Ended S P T → List ℕ
+body_bytes (Ok g) = g.bytes
+body_bytes (Err f) = []
+
+module _ {S P T : Type 0} (source : Source S) (positions : Positions P) (start : MessageType → P) (target : Target T) where
+  abbrev pub head_cause : Header → S → Option Cause
+  head_cause h s = first_cause None (target.name_bar h.name) (source.place s)
+
+  abbrev pub head_bytes : Header → List ℕ
+  head_bytes h = if is_some (target.name_bar h.name) then [] else target.plain_head h
+
+  abbrev pub body_of : Header × S → Ended S P T
+  body_of x = whole source positions target (going x.1 (start x.0.mtype) target.begun 1 (head_cause x.0 x.1) [])
+
+  abbrev pub after_head : Step S Header → Judged
+  after_head (Ok x) =
+      let verdict = after_body source (info_of x.0) (body_of x) in
+      judged verdict (kept verdict (head_bytes x.0 ++ body_bytes (body_of x)))
+  after_head (Err f) = judged (Unread f) []
+
+  -- the frame's header, its items to the end of the body, and its end
+  unfoldable pub judge : List ℕ → Judged
+  judge frame = after_head (source.reads_head (source.begun frame))
+
+-- the code's answer, and what the output has grown by
+abbrev pub IsJudged : Verdict → List ℕ → List ℕ → Judged → Type 0
+IsJudged verdict old new j = (j.verdict ≡ verdict) × (new ≡ old ++ j.bytes)
+
+-- the output has grown, where the message passed by these bytes
+abbrev pub Grows : Verdict → List ℕ → List ℕ → List ℕ → Type 0
+Grows verdict old new bytes = (added : List ℕ) × (new ≡ old ++ added) × (kept verdict added ≡ kept verdict bytes)
+
+-- the type in a header that was read
+abbrev pub type_of : {S : Type 0} → Step S Header → Result MessageType Fault
+type_of (Ok x) = Ok x.0.mtype
+type_of (Err f) = Err f

@@ -1,0 +1,137 @@
+//! A whole message.
+ghost use Rattle.std.specs.Prelude.{◌≡◌, ℕ, ◌+◌, ◌*◌, ◌≤◌, ◌^◌, ◌<◌, List, ◌++◌, [], length, take, drop, is_some, if◌then◌else◌, FitsSigned};
+ghost use Rattle.std.specs.Int.{w32};
+ghost use Rattle.protocol_traits.specs.Heads.{header_of};
+ghost use Rattle.protocol_traits.specs.Room.{head_weight};
+ghost use Rattle.protocol_traits.specs.Steps.{seen};
+ghost use Rattle.translate_core.specs.Positions.{untyped, start};
+ghost use Rattle.translate_core.specs.Body.{first_cause, source_of, target_of, going, whole};
+ghost use Rattle.translate_core.specs.Judged.{judge, IsJudged, info_of, after_body, body_bytes, kept, Grows, type_of};
+
+use crate::Walk;
+use crate::body::{body, first_cause};
+use crate::verdict::{Cause, HeadInfo, Verdict};
+use gate_io::Out;
+use protocol_traits::{Bar, Fault, Head, WireRead, WireWrite};
+use thrift_value::MessageType;
+
+/// Translates a frame to the end of `out`, or leaves `out` as it was.
+///
+/// `room` is the reader's, at least as long as the frame. The verdict is `Unread` where no front of the frame is a
+/// whole header, else `Refused` with the fault where the frame is no message, else `Refused` with the first value that
+/// is barred, the name before the others, and else `Passed`.
+pub fn translate<'f, R: WireRead<'f>, W: WireWrite>(
+    frame: &'f [u8],
+    room: &'f mut [u8],
+    out: &mut Out,
+) -> Verdict
+    requires room { length frame.now ≤ length room.old }
+    requires size { length frame.now < 2 ^ 31 }
+    requires fits { length out.old.bytes + (24 * length frame.now + 256) ≤ out.old.room }
+    ensures exact { IsJudged result out.old.bytes out.new.bytes
+        (judge (source_of R.begun R.reads_head R.reads R.reads_end R.value_place R.ahead) untyped start
+        (target_of W.begun W.name_bar W.plain_head W.bar W.plain W.after) frame.now) }
+    ensures room { out.new.room ≡ out.old.room }
+{
+    let start = out.bytes().len();
+    let mut reader = R::over(frame, room);
+    let mut writer = W::over();
+    let (info, bar) = match reader.head() {
+        Ok(head) => {
+            let info = info_of(&head);
+            (info, pass_head(&mut writer, head, out))
+        }
+        Err(fault) => return Verdict::Unread(fault),
+    };
+    let barred = first_cause(None, bar, reader.place());
+    let verdict = verdict_on(&mut reader, &mut writer, info, barred, out);
+    keep(&verdict, start, out);
+    verdict
+}
+
+/// The type that a frame's header tells, or the fault that stands in the header.
+pub fn head_type<'f, R: WireRead<'f>>(
+    frame: &'f [u8],
+    room: &'f mut [u8],
+) -> Result<MessageType, Fault>
+    requires room { length frame.now ≤ length room.old }
+    requires size { length frame.now < 2 ^ 31 }
+    ensures { result ≡ type_of (R.reads_head (R.begun frame.now)) }
+{
+    let mut reader = R::over(frame, room);
+    match reader.head() {
+        Ok(head) => Ok(head.mtype),
+        Err(fault) => Err(fault),
+    }
+}
+
+fn info_of(head: &Head<'_>) -> HeadInfo
+    ensures { result ≡ info_of (header_of head.now) }
+{
+    HeadInfo {
+        mtype: head.mtype,
+        seq: head.seq,
+    }
+}
+
+/// Writes the header, unless its name is barred.
+fn pass_head<W: WireWrite>(writer: &mut W, head: Head<'_>, out: &mut Out) -> Option<Bar>
+    requires sized { length head.name.now < 2 ^ 31 }
+    requires room { length out.old.bytes + head_weight (length head.name.now) ≤ out.old.room }
+    ensures found { result ≡ W.name_bar head.entry.name.now }
+    ensures state { writer.new ≡ writer.old }
+    ensures out { out.new ≡ record out.old { bytes = if is_some (W.name_bar head.entry.name.now) then out.old.bytes else out.old.bytes ++ W.plain_head (header_of head.entry) } }
+{
+    match W::takes_name(head.name) {
+        Ok(()) => {
+            writer.head(&head, out);
+            None
+        }
+        Err(bar) => Some(bar),
+    }
+}
+
+/// Takes the body and the end, and answers the verdict.
+fn verdict_on<'f, R: WireRead<'f>, W: WireWrite>(
+    reader: &mut R,
+    writer: &mut W,
+    info: HeadInfo,
+    barred: Option<Cause>,
+    out: &mut Out,
+) -> Verdict
+    requires begins { R.depth reader.old ≡ 1 }
+    requires opens { W.depth writer.old ≡ 1 }
+    requires room { length out.old.bytes + R.ahead reader.old ≤ out.old.room }
+    ensures verdict { result ≡ after_body (source_of R.begun R.reads_head R.reads R.reads_end R.value_place R.ahead) info
+        (whole (source_of R.begun R.reads_head R.reads R.reads_end R.value_place R.ahead) untyped
+        (target_of W.begun W.name_bar W.plain_head W.bar W.plain W.after)
+        (going reader.old (start info.mtype) writer.old 1 barred [])) }
+    ensures bytes { Grows result out.old.bytes out.new.bytes (body_bytes
+        (whole (source_of R.begun R.reads_head R.reads R.reads_end R.value_place R.ahead) untyped
+        (target_of W.begun W.name_bar W.plain_head W.bar W.plain W.after)
+        (going reader.old (start info.mtype) writer.old 1 barred []))) }
+    ensures room { out.new.room ≡ out.old.room }
+{
+    let mut walk = Walk::start(info.mtype);
+    match body(reader, &mut walk, writer, barred, out) {
+        Ok(cause) => match reader.finish() {
+            Ok(()) => match cause {
+                Some(cause) => Verdict::Refused(info, cause),
+                None => Verdict::Passed(info),
+            },
+            Err(fault) => Verdict::Refused(info, Cause::Grammar(fault)),
+        },
+        Err(fault) => Verdict::Refused(info, Cause::Grammar(fault)),
+    }
+}
+
+/// Keeps what was written behind `start` only where the message passed.
+fn keep(verdict: &Verdict, start: usize, out: &mut Out)
+    requires { start ≤ length out.old.bytes }
+    ensures { out.new ≡ record out.old { bytes = take start out.old.bytes ++ kept verdict.now (drop start out.old.bytes) } }
+{
+    match verdict {
+        Verdict::Passed(_) => {}
+        _ => out.cut(start),
+    }
+}
