@@ -1,0 +1,2 @@
+-- The verdict on a frame for two protocols.
+pub mod Pairs

@@ -1,0 +1,9 @@
+//! The pairs of protocols, chosen in one place.
+//!
+//! A frame of one protocol is judged for another; which reader and which writer that takes is decided here and nowhere
+//! else. `judged` is the verdict on a frame for two protocols, in the words of the readers' and writers' own rules.
+#![tactic(auto)]
+
+mod pairs;
+
+pub use pairs::translate;
