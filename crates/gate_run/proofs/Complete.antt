@@ -1,0 +1,82 @@
+-- A good stream is converted.
+use Rattle.std.proofs.Common.{◌≡◌, ℕ, ◌==◌, ◌-◌, ◌^◌, ◌<◌, ◌⊎◌, inl, inr, ℤ, List, [], ◌∷◌, ◌++◌, length, true, false, Option, None, Some, arith, refl, sym, ◌∙◌, ap, subst, append_assoc, length-append, IsTrue}
+use Rattle.std.specs.List.{flat_map, list_any}
+use Rattle.std.specs.Io.KnownBytes.{Consumes, IsAtEnd}
+use Rattle.std.proofs.lemmas.Bool.Decides.{nat_tests}
+use Rattle.std.proofs.lemmas.List.{append-nil}
+use Rattle.gate_io.specs.Causes.{Rose}
+use Rattle.framed_transport.specs.Frames.{framed, Splits}
+use Rattle.framed_transport.specs.Front.{front, is_whole, Part, Large}
+use Rattle.framed_transport.proofs.Cutting.{large_stays}
+use Rattle.framed_transport.proofs.Splitting.{one_splitting}
+use Rattle.gate_run.specs.declared.command.Conversion.{Conversion}
+use Rattle.gate_run.specs.Conversion.{any_refused}
+use Rattle.gate_run.specs.Progress.{IsStreamLine}
+use Rattle.gate_run.specs.Outcome.{Streams, ConvertsAll, EndsWithinAFrame, StopsWith, WriteFailed, Converted}
+
+-- the code is one of seven
+no_other : (code : ℕ) → IsTrue (list_any (λ c. c == code) (0 ∷ 1 ∷ 3 ∷ 4 ∷ 5 ∷ 8 ∷ 9 ∷ [])) → (code ≡ 1 → ⊥) → (code ≡ 3 → ⊥) → (code ≡ 4 → ⊥) → (code ≡ 5 → ⊥) → (code ≡ 8 → ⊥) → (code ≡ 0) ⊎ (code ≡ 9)
+no_other code known p q r s t = grind (arith, nat_tests, known, p, q, r, s, t)
+
+-- what was read is the whole input where its end was met
+all_read : (a b : Option (List ℕ)) (bytes read : List ℕ) → a ≡ Some bytes → Consumes a b read → IsAtEnd b → read ≡ bytes
+all_read None b bytes read e p q = absurd (cc)
+all_read (Some x) None bytes read e p q = absurd p
+all_read (Some x) (Some y) bytes read e p q =
+    let same : x ≡ bytes = cc in
+    sym (append-nil read) ∙ (ap (λ t. read ++ t) (sym q) ∙ (sym p ∙ same))
+
+-- what was read is a front of the input
+front_read : (a b : Option (List ℕ)) (bytes read : List ℕ) → a ≡ Some bytes → Consumes a b read → (left : List ℕ) × (bytes ≡ read ++ left)
+front_read None b bytes read e p = absurd (cc)
+front_read (Some x) None bytes read e p = absurd p
+front_read (Some x) (Some y) bytes read e p = (let same : x ≡ bytes = cc in (y, sym same ∙ p))
+
+none_refused : (k : Conversion) (a b : Streams) (bytes : List ℕ) (frames : List (List ℕ)) → k.limit < 2 ^ 31 → a.left ≡ Some bytes → Splits k.limit bytes frames [] → any_refused k frames ≡ false → ConvertsAll k a b true → ⊥
+none_refused k a b bytes frames small told splits passed c =
+    let same : c.0 ≡ bytes = all_read a.left b.left bytes c.0 told c.2.consumed c.4 in
+    let one = one_splitting k.limit bytes c.1 frames [] [] small (subst (λ (xs : List ℕ). Splits k.limit xs c.1 []) same c.2.splits) splits in
+    let wrong : true ≡ false = sym c.3 ∙ (ap (any_refused k) one.0 ∙ passed) in
+    cc
+
+not_large : (limit : ℕ) (rest : List ℕ) (n : ℤ) → rest ≡ [] → front limit rest ≡ Large n → ⊥
+unfolding front
+not_large limit rest n none e = (let wrong : Part ≡ Large n = sym (ap (front limit) none) ∙ e in cc)
+
+no_line : (limit frames : ℕ) (rest line : List ℕ) → rest ≡ [] → IsStreamLine limit frames rest line → ⊥
+unfolding IsStreamLine
+no_line limit frames rest line none (inl large) = not_large limit rest large.0 none large.1
+no_line limit frames rest line none (inr part) = part.1 none
+
+nothing_left : (rest left : List ℕ) → rest ++ left ≡ [] → rest ≡ []
+nothing_left [] left e = refl
+nothing_left (x ∷ rest) left e = absurd (cc)
+
+ends_at_a_frame : (k : Conversion) (a b : Streams) (bytes : List ℕ) (frames : List (List ℕ)) → k.limit < 2 ^ 31 → a.left ≡ Some bytes → Splits k.limit bytes frames [] → EndsWithinAFrame k a b → ⊥
+ends_at_a_frame k a b bytes frames small told splits (read, others, rest, line, c, is, inr at_end) =
+    let same : read ≡ bytes = all_read a.left b.left bytes read told c.consumed at_end in
+    let one = one_splitting k.limit bytes others frames rest [] small (subst (λ (xs : List ℕ). Splits k.limit xs others rest) same c.splits) splits in
+    no_line k.limit (length others) rest line one.1 is
+ends_at_a_frame k a b bytes frames small told splits (read, others, rest, line, c, is, inl large) =
+    let more = front_read a.left b.left bytes read told c.consumed in
+    let longer : Splits k.limit bytes others (rest ++ more.0) = record {
+      whole = more.1 ∙ (ap (λ t. t ++ more.0) c.splits.whole ∙ append_assoc (flat_map framed others) rest more.0);
+      each = c.splits.each;
+      no_more = ap is_whole (large_stays k.limit rest more.0 large.0 large.1);
+    } in
+    let one = one_splitting k.limit bytes others frames (rest ++ more.0) [] small longer splits in
+    not_large k.limit rest large.0 (nothing_left rest more.0 one.1) large.1
+
+too_few : (k : Conversion) (a b : Streams) (text bytes : List ℕ) → a.left ≡ Some bytes → length bytes < 2 ^ 63 - 1 → StopsWith k a b text (λ n. n ≡ 2 ^ 63 - 1) → ⊥
+too_few k a b text bytes told few s =
+    let more = front_read a.left b.left bytes s.0 told s.4.consumed in
+    omega (arith, s.6, few, ap length more.1, length-append s.0 more.0)
+
+pub good_stream : (k : Conversion) (a b : Streams) (code : ℕ) (bytes : List ℕ) (frames : List (List ℕ)) → k.limit < 2 ^ 31 → Converted k a b code → a.left ≡ Some bytes → length bytes < 2 ^ 63 - 1 → Splits k.limit bytes frames [] → any_refused k frames ≡ false → (Rose a.input_faults b.input_faults → ⊥) → (WriteFailed a b → ⊥) → (code ≡ 0) ⊎ (code ≡ 9)
+good_stream k a b code bytes frames small c told few splits passed no_read_fault no_write_fault =
+    no_other code c.known
+    (λ e. none_refused k a b bytes frames small told splits passed (c.refused e))
+    (λ e. ends_at_a_frame k a b bytes frames small told splits (c.stream_fault e))
+    (λ e. no_read_fault (c.read_fault e).0)
+    (λ e. no_write_fault (c.write_fault e).0)
+    (λ e. too_few k a b _ bytes told few (c.budget e))

@@ -1,0 +1,241 @@
+-- From moment to moment.
+use Rattle.std.proofs.Common.{◌≡◌, ℕ, suc, ◌+◌, ◌<◌, ◌≤◌, ◌⊎◌, ℤ, inl, inr, List, [], ◌∷◌, ◌++◌, length, arith, refl, sym, ◌∙◌, ap, subst, Option, Bool, true, false, ◌||◌, not, append_assoc, length-append, add-zero}
+use Rattle.std.specs.List.{flat_map}
+use Rattle.std.specs.Io.KnownBytes.{Appends, Consumes, Keeps, IsAtEnd, append_known}
+use Rattle.std.proofs.lemmas.List.{append-nil}
+use Rattle.std.proofs.lemmas.List.Elements.{All-append, All-nil, All-cons}
+use Rattle.std.proofs.lemmas.Grind.{flat_map-append}
+use Rattle.framed_transport.specs.Frames.{framed, IsCut}
+use Rattle.framed_transport.specs.Front.{front, Part, Large}
+use Rattle.gate_run.specs.declared.command.Conversion.{Conversion}
+use Rattle.gate_run.specs.Lines.{too_large_text, left_text}
+use Rattle.gate_run.specs.Working.{EndsInRest, Ends, Waits}
+use Rattle.gate_run.specs.declared.work.End.{End}
+use Rattle.gate_run.specs.declared.work.End.TheVariants as ends
+use Rattle.gate_run.specs.Fronts.{AppendsFront, Flushed}
+use Rattle.gate_run.specs.Conversion.{passes, output_of, line_of, lines, any_refused}
+use Rattle.gate_run.specs.Progress.{Moment, Goes, Breaks, IsStreamLine}
+use Rattle.gate_run.proofs.Streams.{appends_on, appends_none, consumes_on, consumes_none, then_front, front_of_more, keeps_consumes, some_wait, flush_kept, front_of_gathered, all_written, one_waits}
+
+pub lines_on : (k : Conversion) (before : ℕ) (xs ys : List (List ℕ)) → lines k before (xs ++ ys) ≡ lines k before xs ++ lines k (before + length xs) ys
+lines_on k before [] ys = ap (λ n. lines k n ys) (sym (add-zero before))
+lines_on k before (x ∷ xs) ys =
+    let e : (before + 1) + length xs ≡ before + suc (length xs) = omega arith in
+    ap (λ t. line_of k (before + 1) x ++ t) (lines_on k (before + 1) xs ys ∙ ap (λ n. lines k (before + 1) xs ++ lines k n ys) e) ∙ sym (append_assoc (line_of k (before + 1) x) (lines k (before + 1) xs) (lines k (before + suc (length xs)) ys))
+
+or_assoc : (a b c : Bool) → (a || b || c) ≡ (a || (b || c))
+or_assoc true b c = refl
+or_assoc false b c = refl
+
+pub any_refused_on : (k : Conversion) (xs ys : List (List ℕ)) → any_refused k (xs ++ ys) ≡ (any_refused k xs || any_refused k ys)
+any_refused_on k [] ys = refl
+any_refused_on k (x ∷ xs) ys = ap (λ b. not (passes k x) || b) (any_refused_on k xs ys) ∙ sym (or_assoc (not (passes k x)) (any_refused k xs) (any_refused k ys))
+
+or_false : (a : Bool) → a ≡ (a || false)
+or_false true = refl
+or_false false = refl
+
+-- two splittings, one after the other
+split_on : (held read f mid read' g rest : List ℕ) → held ++ read ≡ f ++ mid → mid ++ read' ≡ g ++ rest → held ++ (read ++ read') ≡ (f ++ g) ++ rest
+split_on held read f mid read' g rest p q =
+    sym (append_assoc held read read') ∙ (ap (λ t. t ++ read') p ∙ (append_assoc f mid read' ∙ (ap (λ t. f ++ t) q ∙ sym (append_assoc f g rest))))
+
+pub goes_nowhere : (k : Conversion) (a : Moment) → Goes k a a
+goes_nowhere k a = record {
+  read = [];
+  frames = [];
+  consumed = consumes_none a.left;
+  split = append-nil a.held;
+  each = All-nil (λ frame. length frame ≤ k.limit);
+  written = appends_none a.written;
+  reported = appends_none a.reported;
+  counted = omega arith;
+  taken = omega arith;
+  refused = or_false a.refused;
+}
+
+pub goes_on : (k : Conversion) (a b c : Moment) → Goes k a b → Goes k b c → Goes k a c
+goes_on k a b c p q = record {
+  read = p.read ++ q.read;
+  frames = p.frames ++ q.frames;
+  consumed = consumes_on a.left b.left c.left p.read q.read p.consumed q.consumed;
+  split = rw (flat_map-append framed p.frames q.frames) (split_on a.held p.read (flat_map framed p.frames) b.held q.read (flat_map framed q.frames) c.held p.split q.split);
+  each = All-append (λ frame. length frame ≤ k.limit) p.frames q.frames p.each q.each;
+  written = rw (flat_map-append (output_of k) p.frames q.frames) (appends_on a.written b.written c.written (flat_map (output_of k) p.frames) (flat_map (output_of k) q.frames) p.written q.written);
+  reported = rw (lines_on k a.frames p.frames q.frames, ← p.counted) (appends_on a.reported b.reported c.reported (lines k a.frames p.frames) (lines k b.frames q.frames) p.reported q.reported);
+  counted = omega (arith, p.counted, q.counted, length-append p.frames q.frames);
+  taken = omega (arith, p.taken, q.taken, length-append p.read q.read);
+  refused = q.refused ∙ (ap (λ t. t || any_refused k q.frames) p.refused ∙ (or_assoc a.refused (any_refused k p.frames) (any_refused k q.frames) ∙ ap (λ t. a.refused || t) (sym (any_refused_on k p.frames q.frames))));
+}
+
+pub goes_and_breaks : (k : Conversion) (a b c : Moment) → Goes k a b → Breaks k b c → Breaks k a c
+goes_and_breaks k a b c p q = record {
+  read = p.read ++ q.read;
+  frames = p.frames ++ q.frames;
+  more = q.more;
+  last = q.last;
+  consumed = consumes_on a.left b.left c.left p.read q.read p.consumed q.consumed;
+  split = rw (flat_map-append framed p.frames q.frames) (split_on a.held p.read (flat_map framed p.frames) b.held q.read (flat_map framed q.frames) q.more p.split q.split);
+  each = All-append (λ frame. length frame ≤ k.limit) p.frames q.frames p.each q.each;
+  written = rw (flat_map-append (output_of k) p.frames q.frames) (then_front a.written b.written c.written (flat_map (output_of k) p.frames) (flat_map (output_of k) q.frames) p.written q.written);
+  reported = rw (lines_on k a.frames p.frames q.frames, ← p.counted, append_assoc) (then_front a.reported b.reported c.reported (lines k a.frames p.frames) (lines k b.frames q.frames ++ q.last) p.reported q.reported);
+  last_is = subst (λ (n : ℕ). (q.last ≡ []) ⊎ IsStreamLine k.limit n q.more q.last) (omega (arith, p.counted, length-append p.frames q.frames)) q.last_is;
+}
+
+-- ---- one step
+
+same_appends : (a b : Option (List ℕ)) → b ≡ a → Appends a b []
+same_appends a b e = subst (λ (x : Option (List ℕ)). Appends a x []) (sym e) (appends_none a)
+
+same_consumes : (a b : Option (List ℕ)) → b ≡ a → Consumes a b []
+same_consumes a b e = subst (λ (x : Option (List ℕ)). Consumes a x []) (sym e) (consumes_none a)
+
+-- bytes were read and are held
+pub fed : (k : Conversion) (a b : Moment) (piece : List ℕ) → Consumes a.left b.left piece → b.held ≡ a.held ++ piece → b.taken ≡ a.taken + length piece → b.written ≡ a.written → b.reported ≡ a.reported → b.frames ≡ a.frames → b.refused ≡ a.refused → Goes k a b
+fed k a b piece consumed held taken written reported frames refused = record {
+  read = piece;
+  frames = [];
+  consumed = consumed;
+  split = sym held;
+  each = All-nil (λ frame. length frame ≤ k.limit);
+  written = same_appends a.written b.written written;
+  reported = same_appends a.reported b.reported reported;
+  counted = omega (arith, frames);
+  taken = taken;
+  refused = refused ∙ or_false a.refused;
+}
+
+-- nothing but the source's state changed
+pub waited : (k : Conversion) (a b : Moment) → Keeps a.left b.left → b.held ≡ a.held → b.taken ≡ a.taken → b.written ≡ a.written → b.reported ≡ a.reported → b.frames ≡ a.frames → b.refused ≡ a.refused → Goes k a b
+waited k a b kept held taken written reported frames refused =
+    fed k a b [] (keeps_consumes a.left b.left kept) (held ∙ sym (append-nil a.held)) (omega (arith, taken)) written reported frames refused
+
+-- the frame at the front was handled and let go
+handled_one : (k : Conversion) (a b : Moment) (frame : List ℕ) → length frame ≤ k.limit → a.held ≡ framed frame ++ b.held → b.left ≡ a.left → Appends a.written b.written (output_of k frame) → Appends a.reported b.reported (line_of k (a.frames + 1) frame) → b.frames ≡ a.frames + 1 → b.taken ≡ a.taken → b.refused ≡ (a.refused || not (passes k frame)) → Goes k a b
+handled_one k a b frame within split left written reported frames taken refused = record {
+  read = [];
+  frames = frame ∷ [];
+  consumed = same_consumes a.left b.left left;
+  split = append-nil a.held ∙ (split ∙ ap (λ t. t ++ b.held) (sym (append-nil (framed frame))));
+  each = All-cons (λ frame. length frame ≤ k.limit) frame [] within (All-nil (λ frame. length frame ≤ k.limit));
+  written = subst (λ (xs : List ℕ). Appends a.written b.written xs) (sym (append-nil (output_of k frame))) written;
+  reported = subst (λ (xs : List ℕ). Appends a.reported b.reported xs) (sym (append-nil (line_of k (a.frames + 1) frame))) reported;
+  counted = frames;
+  taken = omega (arith, taken);
+  refused = refused ∙ ap (λ t. a.refused || t) (or_false (not (passes k frame)));
+}
+
+-- of the line of the rest a front was written
+pub broken_line : (k : Conversion) (a b : Moment) (line : List ℕ) → IsStreamLine k.limit a.frames a.held line → b.left ≡ a.left → b.written ≡ a.written → AppendsFront a.reported b.reported line → Breaks k a b
+broken_line k a b line is left written reported = record {
+  read = [];
+  frames = [];
+  more = a.held;
+  last = line;
+  consumed = same_consumes a.left b.left left;
+  split = append-nil a.held;
+  each = All-nil (λ frame. length frame ≤ k.limit);
+  written = (0, omega arith, same_appends a.written b.written written);
+  reported = reported;
+  last_is = inr (subst (λ (n : ℕ). IsStreamLine k.limit n a.held line) (sym (add-zero a.frames)) is);
+}
+
+-- a frame on the stream is longer than what it carries
+pub framed_longer : (limit : ℕ) (frame rest held : List ℕ) → IsCut limit held frame rest → length rest + 4 ≤ length held
+unfolding framed
+framed_longer limit frame rest held cut = omega (arith, ap length cut.whole, length-append (framed frame) rest, length-append (framed frame) frame)
+
+-- ---- the line of the rest
+
+pub left_line : (limit frames : ℕ) (held line : List ℕ) (count : ℕ) → front limit held ≡ Part → 0 < length held → count ≡ length held → line ≡ left_text frames count → IsStreamLine limit frames held line
+unfolding IsStreamLine
+left_line limit frames held line count part some is text =
+    inr (part, (λ none. omega (arith, some, ap length none)), text ∙ ap (left_text frames) is)
+
+pub large_line : (limit frames : ℕ) (held line : List ℕ) (n : ℤ) → front limit held ≡ Large n → line ≡ too_large_text (frames + 1) n → IsStreamLine limit frames held line
+unfolding IsStreamLine
+large_line limit frames held line n large text = inl (n, large, text)
+
+pub rest_left : (k : Conversion) (a b mid : Moment) (line : List ℕ) → Goes k a mid → IsStreamLine k.limit mid.frames mid.held line → b.written ≡ mid.written → Appends mid.reported b.reported line → b.left ≡ mid.left → IsAtEnd mid.left → EndsInRest k a b
+rest_left k a b mid line goes is written reported left at_end =
+    record { mid = mid; line = line; goes = goes; line_is = is; written = written; reported = reported; left = left; at_end = inr at_end }
+
+pub rest_large : (k : Conversion) (a b mid : Moment) (line : List ℕ) → Goes k a mid → IsStreamLine k.limit mid.frames mid.held line → b.written ≡ mid.written → Appends mid.reported b.reported line → b.left ≡ mid.left → (n : ℤ) → front k.limit mid.held ≡ Large n → EndsInRest k a b
+rest_large k a b mid line goes is written reported left n large =
+    record { mid = mid; line = line; goes = goes; line_is = is; written = written; reported = reported; left = left; at_end = inl (n, large) }
+
+-- ---- how the work ends
+
+pub ends_on : (k : Conversion) (a b c : Moment) (end : End) → Goes k a b → Ends k b c end → Ends k a c end
+ends_on k a b c ends.Done p q = (goes_on k a b c p q.0, q.1, q.2, q.3)
+ends_on k a b c ends.Refused p q = (goes_on k a b c p q.0, q.1, q.2, q.3)
+ends_on k a b c ends.StreamFault p q =
+    record { mid = q.mid; line = q.line; goes = goes_on k a b q.mid p q.goes; line_is = q.line_is; written = q.written; reported = q.reported; left = q.left; at_end = q.at_end }
+ends_on k a b c ends.ReadFault p q = (goes_on k a b c p q.0, q.1)
+ends_on k a b c ends.WriteFault p q = goes_and_breaks k a b c p q
+ends_on k a b c ends.BudgetSpent p q = (goes_on k a b c p q.0, q.1, q.2)
+
+-- ---- what is gathered before it is written
+
+rewritten : (k : Conversion) (a b c : Moment) → Goes k a b → c.left ≡ b.left → c.held ≡ b.held → c.frames ≡ b.frames → c.taken ≡ b.taken → c.refused ≡ b.refused → ((xs : List ℕ) → Appends a.written b.written xs → Appends a.written c.written xs) → ((xs : List ℕ) → Appends a.reported b.reported xs → Appends a.reported c.reported xs) → Goes k a c
+rewritten k a b c g left held frames taken refused f r = record {
+  read = g.read;
+  frames = g.frames;
+  consumed = subst (λ (l : Option (List ℕ)). Consumes a.left l g.read) (sym left) g.consumed;
+  split = g.split ∙ ap (λ t. flat_map framed g.frames ++ t) (sym held);
+  each = g.each;
+  written = f (flat_map (output_of k) g.frames) g.written;
+  reported = r (lines k a.frames g.frames) g.reported;
+  counted = frames ∙ g.counted;
+  taken = taken ∙ g.taken;
+  refused = refused ∙ g.refused;
+}
+
+-- at first nothing waits
+pub waits_nowhere : (k : Conversion) (a : Moment) (out more : List ℕ) → out ≡ [] → more ≡ [] → Waits k a a out more
+waits_nowhere k a out more none none_too = record {
+  goes = rewritten k a a (record a { written = append_known a.written out; reported = append_known a.reported more }) (goes_nowhere k a) refl refl refl refl refl
+      (λ xs h. some_wait a.written a.written out xs none h) (λ xs h. some_wait a.reported a.reported more xs none_too h);
+  sent = ([], appends_none a.written);
+  told = ([], appends_none a.reported);
+}
+
+-- the first of what waited was written
+pub waits_flushed : (k : Conversion) (a b c : Moment) (out more out' more' : List ℕ) → Waits k a b out more → c.left ≡ b.left → c.held ≡ b.held → c.frames ≡ b.frames → c.taken ≡ b.taken → c.refused ≡ b.refused → Flushed b.written out c.written out' → Flushed b.reported more c.reported more' → Waits k a c out' more'
+waits_flushed k a b c out more out' more' w left held frames taken refused f r = record {
+  goes = rewritten k a (record b { written = append_known b.written out; reported = append_known b.reported more }) (record c { written = append_known c.written out'; reported = append_known c.reported more' }) w.goes left held frames taken refused
+      (λ xs h. flush_kept a.written b.written c.written out out' xs h f) (λ xs h. flush_kept a.reported b.reported c.reported more more' xs h r);
+  sent = (w.sent.0 ++ f.0, appends_on a.written b.written c.written w.sent.0 f.0 w.sent.1 f.1);
+  told = (w.told.0 ++ r.0, appends_on a.reported b.reported c.reported w.told.0 r.0 w.told.1 r.1);
+}
+
+-- all that waited was written
+pub waits_done : (k : Conversion) (a b c : Moment) (out more : List ℕ) → Waits k a b out more → c.left ≡ b.left → c.held ≡ b.held → c.frames ≡ b.frames → c.taken ≡ b.taken → c.refused ≡ b.refused → Appends b.written c.written out → Appends b.reported c.reported more → Goes k a c
+waits_done k a b c out more w left held frames taken refused f r =
+    rewritten k a (record b { written = append_known b.written out; reported = append_known b.reported more }) c w.goes left held frames taken refused
+    (λ xs h. all_written a.written b.written c.written out xs h f) (λ xs h. all_written a.reported b.reported c.reported more xs h r)
+
+-- a front of what waited was written
+pub waits_broken : (k : Conversion) (a b c : Moment) (out more : List ℕ) → Waits k a b out more → c.left ≡ b.left → AppendsFront b.written c.written out → AppendsFront b.reported c.reported more → Breaks k a c
+waits_broken k a b c out more w left f r = record {
+  read = w.goes.read;
+  frames = w.goes.frames;
+  more = b.held;
+  last = [];
+  consumed = subst (λ (l : Option (List ℕ)). Consumes a.left l w.goes.read) (sym left) w.goes.consumed;
+  split = w.goes.split;
+  each = w.goes.each;
+  written = front_of_gathered a.written b.written c.written out w.sent.0 (flat_map (output_of k) w.goes.frames) w.sent.1 w.goes.written f;
+  reported = front_of_more a.reported c.reported (lines k a.frames w.goes.frames) [] (front_of_gathered a.reported b.reported c.reported more w.told.0 (lines k a.frames w.goes.frames) w.told.1 w.goes.reported r);
+  last_is = inl refl;
+}
+
+-- one frame more was handled, and what is to be written of it waits
+pub waits_one : (k : Conversion) (a b c : Moment) (out more out' more' frame rest : List ℕ) → Waits k a b out more → IsCut k.limit b.held frame rest → c.held ≡ rest → c.left ≡ b.left → c.written ≡ b.written → c.reported ≡ b.reported → c.frames ≡ b.frames + 1 → c.taken ≡ b.taken → c.refused ≡ (b.refused || not (passes k frame)) → out' ≡ out ++ output_of k frame → more' ≡ more ++ line_of k (b.frames + 1) frame → Waits k a c out' more'
+waits_one k a b c out more out' more' frame rest w cut held left written reported frames taken refused o m = record {
+  goes = goes_on k a (record b { written = append_known b.written out; reported = append_known b.reported more }) (record c { written = append_known c.written out'; reported = append_known c.reported more' }) w.goes
+      (handled_one k (record b { written = append_known b.written out; reported = append_known b.reported more }) (record c { written = append_known c.written out'; reported = append_known c.reported more' }) frame cut.within (cut.whole ∙ ap (λ t. framed frame ++ t) (sym held)) left
+      (one_waits b.written c.written out out' (output_of k frame) written o) (one_waits b.reported c.reported more more' (line_of k (b.frames + 1) frame) reported m) frames taken refused);
+  sent = (w.sent.0, subst (λ (x : Option (List ℕ)). Appends a.written x w.sent.0) (sym written) w.sent.1);
+  told = (w.told.0, subst (λ (x : Option (List ℕ)). Appends a.reported x w.told.0) (sym reported) w.told.1);
+}

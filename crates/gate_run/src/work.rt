@@ -1,0 +1,321 @@
+//! The work on a stream: the bytes that are held, the frames so far, and what waits to be written.
+ghost use Rattle.std.specs.Prelude.{◌≡◌, ◌+◌, ◌*◌, ◌⊎◌, ◌^◌, ◌<◌, ◌≤◌, [], ℕ, List, Option, length, IfOk, true, false};
+ghost use Rattle.std.specs.Io.KnownBytes.{Appends, IsAtEnd};
+ghost use Rattle.gate_io.specs.Causes.{Rose};
+ghost use Rattle.framed_transport.specs.Front.{front, Large};
+ghost use Rattle.gate_run.specs.Fronts.{AppendsFront, Flushed};
+ghost use Rattle.gate_run.specs.Progress.{Goes};
+ghost use Rattle.gate_run.specs.Working.{IsReady, IsFlushed, IsStart, IsWaiting, moment, Handles, Drains, Takes, Ends};
+
+use crate::command::Conversion;
+use crate::handling::handle;
+use crate::lines::{self, LINE_ROOM};
+use crate::writing::{Wrote, flush, write_all};
+use framed_transport::{FrameBuf, Next};
+use gate_io::{Got, Out, OutOfMemory, Sink, Source};
+use std::alloc::Global;
+
+/// At most so many bytes are read.
+pub const MOST_BYTES: u64 = (1 << 63) - 1;
+
+/// The room for lines of the report that wait to be written.
+const LINES_ROOM: usize = 4096;
+
+/// The work on a stream.
+#[derive(Drop)]
+pub struct Work {
+    /// The bytes that were read and not handled.
+    frames: FrameBuf,
+    /// What waits for the output.
+    out: Out,
+    /// The lines that wait for the report.
+    lines: Out,
+    /// How many bytes were read.
+    taken: u64,
+    /// How many frames were handled.
+    number: u64,
+    /// Whether one of them did not pass.
+    refused: bool,
+}
+
+/// How far the frames that are held were handled: to less than a frame, to a length that is too large, or to a fault of
+/// the output or the report.
+#[derive(Clone, Copy)]
+pub enum Drained {
+    NeedMore,
+    TooLarge(i32),
+    WriteFault,
+}
+
+/// What came of a read.
+#[derive(Clone, Copy)]
+pub enum Taken {
+    More,
+    End,
+    Failed,
+}
+
+/// How the work ended.
+#[derive(Clone, Copy)]
+pub enum End {
+    Done,
+    Refused,
+    StreamFault,
+    ReadFault,
+    WriteFault,
+    BudgetSpent,
+}
+
+impl Work {
+    /// Takes all the memory of the work but the readers' room, below 25 times the limit and 5,000 bytes.
+    ///
+    /// `OutOfMemory`: it was not found.
+    pub fn open(alloc: Global, conversion: Conversion) -> Result<Work, OutOfMemory>
+        requires { conversion.limit ≤ 16384000 }
+        ensures ready { IfOk result (λ work. IsReady conversion work) }
+        ensures start { IfOk result (λ work. IsStart work) }
+    {
+        Ok(Work {
+            frames: FrameBuf::open(alloc, conversion.limit)?,
+            out: Out::open(alloc, 24 * conversion.limit + 260)?,
+            lines: Out::open(alloc, LINES_ROOM)?,
+            taken: 0,
+            number: 0,
+            refused: false,
+        })
+    }
+
+    /// Reads to the end or to a fault, and handles each frame. `room` is the readers'.
+    pub fn convert<I: Source, O: Sink, E: Sink>(
+        &mut self,
+        conversion: Conversion,
+        room: &mut [u8],
+        input: &mut I,
+        output: &mut O,
+        report: &mut E,
+    ) -> End
+        requires limit { conversion.limit ≤ 16384000 }
+        requires room { conversion.limit ≤ length room.old }
+        requires ready { IsReady conversion self.old }
+        requires flushed { IsFlushed self.old }
+        requires waiting { IsWaiting conversion self.old.frames.held }
+        ensures ended { Ends conversion
+            (moment self.old (I.left input.old) (O.written output.old) (E.written report.old))
+            (moment self.new (I.left input.new) (O.written output.new) (E.written report.new)) result }
+        ensures input_later { I.faults input.old ≤ I.faults input.new }
+        ensures later { O.faults output.old ≤ O.faults output.new }
+        ensures report_later { E.faults report.old ≤ E.faults report.new }
+        ensures read_fault { result ≡ End.ReadFault → Rose (I.faults input.old) (I.faults input.new) }
+        ensures write_fault { result ≡ End.WriteFault → Rose (O.faults output.old) (O.faults output.new) ⊎ Rose (E.faults report.old) (E.faults report.new) }
+    {
+        'pieces: while self.taken < MOST_BYTES {
+            match self.take(conversion, input) {
+                Taken::Failed => return End::ReadFault,
+                Taken::End => return self.finish(conversion, report),
+                Taken::More => match self.drain(conversion, room, output, report) {
+                    Drained::NeedMore => (),
+                    Drained::TooLarge(length) => return self.too_large(conversion, length, report),
+                    Drained::WriteFault => return End::WriteFault,
+                },
+            }
+        }
+        End::BudgetSpent
+    }
+
+    // Reads once, and holds what came.
+    fn take<I: Source>(&mut self, conversion: Conversion, input: &mut I) -> Taken
+        requires ready { IsReady conversion self.old }
+        requires waiting { IsWaiting conversion self.old.frames.held }
+        requires budget { self.old.taken < MOST_BYTES }
+        ensures ready { IsReady conversion self.new }
+        ensures out { self.new.out ≡ self.old.out }
+        ensures lines { self.new.lines ≡ self.old.lines }
+        ensures taken { (written reported : Option (List ℕ)) → Takes conversion
+            (moment self.old (I.left input.old) written reported)
+            (moment self.new (I.left input.new) written reported) result }
+        ensures later { I.faults input.old ≤ I.faults input.new }
+        ensures cause { result ≡ Taken.Failed → Rose (I.faults input.old) (I.faults input.new) }
+    {
+        let most = (MOST_BYTES - self.taken) as usize;
+        match self.frames.read_from(input, most) {
+            Got::Bytes(count) => {
+                self.taken += count as u64;
+                Taken::More
+            }
+            Got::End => Taken::End,
+            Got::Failed => Taken::Failed,
+        }
+    }
+
+    // Handles each whole frame that is held, and writes what was gathered of them.
+    fn drain<O: Sink, E: Sink>(
+        &mut self,
+        conversion: Conversion,
+        room: &mut [u8],
+        output: &mut O,
+        report: &mut E,
+    ) -> Drained
+        requires limit { conversion.limit ≤ 16384000 }
+        requires room { conversion.limit ≤ length room.old }
+        requires ready { IsReady conversion self.old }
+        requires flushed { IsFlushed self.old }
+        ensures ready { IsReady conversion self.new }
+        ensures flushed { (result ≡ Drained.WriteFault → ⊥) → IsFlushed self.new }
+        ensures drained { (left : Option (List ℕ)) → Drains conversion
+            (moment self.old left (O.written output.old) (E.written report.old))
+            (moment self.new left (O.written output.new) (E.written report.new)) result }
+        ensures later { O.faults output.old ≤ O.faults output.new }
+        ensures report_later { E.faults report.old ≤ E.faults report.new }
+        ensures cause { result ≡ Drained.WriteFault → Rose (O.faults output.old) (O.faults output.new) ⊎ Rose (E.faults report.old) (E.faults report.new) }
+    {
+        let drained = self.handle_frames(conversion, room, output, report);
+        if let Drained::WriteFault = drained {
+            return Drained::WriteFault;
+        }
+        match flush_both(&mut self.out, &mut self.lines, output, report) {
+            Wrote::All => drained,
+            Wrote::Failed => Drained::WriteFault,
+        }
+    }
+
+    // Handles each whole frame that is held. What there is room for is gathered.
+    fn handle_frames<O: Sink, E: Sink>(
+        &mut self,
+        conversion: Conversion,
+        room: &mut [u8],
+        output: &mut O,
+        report: &mut E,
+    ) -> Drained
+        requires limit { conversion.limit ≤ 16384000 }
+        requires room { conversion.limit ≤ length room.old }
+        requires ready { IsReady conversion self.old }
+        requires flushed { IsFlushed self.old }
+        ensures ready { IsReady conversion self.new }
+        ensures handled { (left : Option (List ℕ)) → Handles conversion
+            (moment self.old left (O.written output.old) (E.written report.old))
+            (moment self.new left (O.written output.new) (E.written report.new)) self.new.out.bytes self.new.lines.bytes result }
+        ensures later { O.faults output.old ≤ O.faults output.new }
+        ensures report_later { E.faults report.old ≤ E.faults report.new }
+        ensures cause { result ≡ Drained.WriteFault → Rose (O.faults output.old) (O.faults output.new) ⊎ Rose (E.faults report.old) (E.faults report.new) }
+    {
+        'frames: loop {
+            let frame = match self.frames.frame() {
+                Next::NeedMore => return Drained::NeedMore,
+                Next::TooLarge(length) => return Drained::TooLarge(length),
+                Next::Frame(frame) => frame,
+            };
+            let wanted = 24 * frame.len() + 260;
+            match make_room(&mut self.out, &mut self.lines, wanted, output, report) {
+                Wrote::All => (),
+                Wrote::Failed => return Drained::WriteFault,
+            }
+            let number = self.number + 1;
+            let passed = handle(
+                conversion,
+                frame,
+                number,
+                room,
+                &mut self.out,
+                &mut self.lines,
+            );
+            self.number = number;
+            self.refused |= !passed;
+            self.frames.drop_frame();
+        }
+    }
+
+    // Ends the work at the end of the input.
+    fn finish<E: Sink>(&mut self, conversion: Conversion, report: &mut E) -> End
+        requires ready { IsReady conversion self.old }
+        requires waiting { IsWaiting conversion self.old.frames.held }
+        ensures ended { (left written : Option (List ℕ)) → IsAtEnd left → Ends conversion
+            (moment self.old left written (E.written report.old))
+            (moment self.new left written (E.written report.new)) result }
+        ensures later { E.faults report.old ≤ E.faults report.new }
+        ensures no_read_fault { result ≡ End.ReadFault → ⊥ }
+        ensures write_fault { result ≡ End.WriteFault → Rose (E.faults report.old) (E.faults report.new) }
+    {
+        let count = self.frames.held();
+        if count > 0 {
+            lines::left(&mut self.lines, self.number, count);
+            return match write_all(report, self.lines.bytes()) {
+                Wrote::All => End::StreamFault,
+                Wrote::Failed => End::WriteFault,
+            };
+        }
+        if self.refused {
+            End::Refused
+        } else {
+            End::Done
+        }
+    }
+
+    // Ends the work at a length that is too large.
+    fn too_large<E: Sink>(&mut self, conversion: Conversion, length: i32, report: &mut E) -> End
+        requires ready { IsReady conversion self.old }
+        requires large { front conversion.limit self.old.frames.held ≡ Large length }
+        ensures ended { (left written : Option (List ℕ)) → Ends conversion
+            (moment self.old left written (E.written report.old))
+            (moment self.new left written (E.written report.new)) result }
+        ensures later { E.faults report.old ≤ E.faults report.new }
+        ensures no_read_fault { result ≡ End.ReadFault → ⊥ }
+        ensures write_fault { result ≡ End.WriteFault → Rose (E.faults report.old) (E.faults report.new) }
+    {
+        lines::too_large(&mut self.lines, self.number + 1, length);
+        match write_all(report, self.lines.bytes()) {
+            Wrote::All => End::StreamFault,
+            Wrote::Failed => End::WriteFault,
+        }
+    }
+}
+
+// Writes what was gathered, where there isn't so much room for the output or room for a line.
+fn make_room<O: Sink, E: Sink>(
+    out: &mut Out,
+    lines: &mut Out,
+    wanted: usize,
+    output: &mut O,
+    report: &mut E,
+) -> Wrote
+    requires out { wanted ≤ out.old.room }
+    requires lines { LINE_ROOM ≤ lines.old.room }
+    ensures all { result ≡ Wrote.All → (length out.new.bytes + wanted ≤ out.new.room) × (length lines.new.bytes + LINE_ROOM ≤ lines.new.room) }
+    ensures out { result ≡ Wrote.All → Flushed (O.written output.old) out.old.bytes (O.written output.new) out.new.bytes }
+    ensures lines { result ≡ Wrote.All → Flushed (E.written report.old) lines.old.bytes (E.written report.new) lines.new.bytes }
+    ensures room { out.new.room ≡ out.old.room }
+    ensures lines_room { lines.new.room ≡ lines.old.room }
+    ensures front { AppendsFront (O.written output.old) (O.written output.new) out.old.bytes }
+    ensures lines_front { AppendsFront (E.written report.old) (E.written report.new) lines.old.bytes }
+    ensures later { O.faults output.old ≤ O.faults output.new }
+    ensures report_later { E.faults report.old ≤ E.faults report.new }
+    ensures cause { result ≡ Wrote.Failed → Rose (O.faults output.old) (O.faults output.new) ⊎ Rose (E.faults report.old) (E.faults report.new) }
+{
+    if wanted <= out.spare() && LINE_ROOM <= lines.spare() {
+        return Wrote::All;
+    }
+    flush_both(out, lines, output, report)
+}
+
+// Writes what was gathered for the output, and then what was gathered for the report.
+fn flush_both<O: Sink, E: Sink>(
+    out: &mut Out,
+    lines: &mut Out,
+    output: &mut O,
+    report: &mut E,
+) -> Wrote
+    ensures all { result ≡ Wrote.All → (out.new.bytes ≡ []) × (lines.new.bytes ≡ []) }
+    ensures out { result ≡ Wrote.All → Appends (O.written output.old) (O.written output.new) out.old.bytes }
+    ensures lines { result ≡ Wrote.All → Appends (E.written report.old) (E.written report.new) lines.old.bytes }
+    ensures room { out.new.room ≡ out.old.room }
+    ensures lines_room { lines.new.room ≡ lines.old.room }
+    ensures front { AppendsFront (O.written output.old) (O.written output.new) out.old.bytes }
+    ensures lines_front { AppendsFront (E.written report.old) (E.written report.new) lines.old.bytes }
+    ensures later { O.faults output.old ≤ O.faults output.new }
+    ensures report_later { E.faults report.old ≤ E.faults report.new }
+    ensures cause { result ≡ Wrote.Failed → Rose (O.faults output.old) (O.faults output.new) ⊎ Rose (E.faults report.old) (E.faults report.new) }
+{
+    match flush(out, output) {
+        Wrote::All => flush(lines, report),
+        Wrote::Failed => Wrote::Failed,
+    }
+}

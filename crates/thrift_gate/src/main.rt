@@ -1,0 +1,59 @@
+//! The gateway as a program: the words of its command line, the standard streams, and the exit code
+//! that `run` answers.
+#![tactic(auto)]
+
+use gate_io::{Fails, HubSteps, MemFiles, MemHub, OutOfMemory, Sink, StdSink, StdSource, Word};
+use gate_run::run;
+use std::alloc::Global;
+use std::env::Env;
+use std::process::ExitCode;
+
+/// The longest word that the system hands to a program, in bytes.
+const LONGEST_WORD: usize = 131_072;
+
+/// The exit code where memory is wanted.
+const NO_MEMORY: u8 = 9;
+
+fn main(rt: HostRuntime) -> ExitCode {
+    match run_words(&rt) {
+        Ok(code) => ExitCode::from(code),
+        Err(OutOfMemory) => {
+            let _ = StdSink::new(rt.stderr()).write(b"no memory\n");
+            ExitCode::from(NO_MEMORY)
+        }
+    }
+}
+
+// Runs the command. So far none reads a file or serves, so the files and the hub are empty.
+fn run_words(rt: &HostRuntime) -> Result<u8, OutOfMemory> {
+    let alloc = rt.alloc();
+    let words = read_words(rt, alloc)?;
+    let mut files = MemFiles::new(alloc, Fails::new(alloc))?;
+    let mut hub = MemHub::new(alloc, HubSteps::new(alloc), 1)?;
+    let mut input = StdSource::new(rt.stdin());
+    let mut output = StdSink::new(rt.stdout());
+    let mut report = StdSink::new(rt.stderr());
+    let status = run(
+        alloc,
+        &words,
+        &mut files,
+        &mut input,
+        &mut output,
+        &mut report,
+        &mut hub,
+    );
+    Ok(status.code)
+}
+
+// The words behind the program's name.
+fn read_words<R: Env>(rt: &R, alloc: Global) -> Result<Vec<Word>, OutOfMemory> {
+    let mut room = vec![in alloc; 0; LONGEST_WORD]?;
+    let mut words = Vec::new(alloc);
+    for place in 1..usize::MAX {
+        match rt.arg(place, &mut room) {
+            Ok(count) => words.push(Word::new(alloc, &room[..count])?)?,
+            Err(_) => break,
+        }
+    }
+    Ok(words)
+}
