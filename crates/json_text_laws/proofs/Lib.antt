@@ -1,0 +1,16 @@
+pub mod Choices
+pub mod Integers
+pub mod Fronts
+pub mod IntLaw
+pub mod Digits
+pub mod Numbers
+pub mod NumberLaw
+pub mod Parts
+pub mod Base64
+pub mod BlobLaw
+pub mod Characters
+pub mod Strings
+pub mod Read
+pub mod Ends
+pub mod Stays
+pub mod Refused

@@ -1,0 +1,2 @@
+-- What the words of JSON are, and what their scans have to tell.
+pub mod Judged

@@ -1,0 +1,44 @@
+//! Laws of the words of JSON: what `json_text` reads is what RFC 8259 and RFC 4648 say, each exactly where they say it.
+//!
+//! Each law is the contract of a function that does nothing. The code rests on none of them.
+#![tactic(auto)]
+
+ghost use Rattle.std.specs.Prelude.{◌≡◌, ◌↔◌, ◌≤ℤ◌, pos, negsuc, ℕ, ℤ, List, ◌++◌};
+ghost use Rattle.json_text.specs.Int.{int_at};
+ghost use Rattle.json_text.specs.Blob.{blob_at};
+ghost use Rattle.json_text.specs.Text.{text_at};
+ghost use Rattle.json_text.specs.declared.scanned.Scan.TheVariants.{Whole, Bad};
+ghost use Rattle.json_text.specs.Number.{number_at};
+ghost use Rattle.json_text_laws.specs.Judged.{Judges, NoneGood, GoodInt, GoodNumber, GoodBlob, GoodText};
+
+/// An integer is read exactly where the longest run of digits and `-` spells one of the range. Else the scan is `Short`
+/// exactly where some continuation of the bytes makes it one.
+pub fn integers_are_judged()
+    ensures { (low high : ℤ) (bytes : List ℕ) → negsuc 9223372036854775807 ≤ℤ low → high ≤ℤ pos 9223372036854775807
+        → low ≤ℤ pos 1 → pos 0 ≤ℤ high → low ≤ℤ high → Judges (GoodInt low high) bytes (int_at low high bytes) }
+{}
+
+/// A number is passed over exactly where the longest run of digits and `+ - . e E` is a number of RFC 8259. Else the scan is
+/// `Short` exactly where some continuation of the bytes makes it one.
+pub fn numbers_are_judged()
+    ensures { (bytes : List ℕ) → Judges GoodNumber bytes (number_at bytes) }
+{}
+
+/// A base64 string is read exactly where a front of the bytes is one of RFC 4648, without padding or with exactly the padding
+/// to a multiple of four. Else the scan is `Short` exactly where some continuation of the bytes makes it one.
+pub fn base64_is_judged()
+    ensures { (bytes : List ℕ) → Judges GoodBlob bytes (blob_at bytes) }
+{}
+
+/// A string is read whole exactly where a front of the bytes is a JSON string, and its value is the text that its pieces
+/// mean.
+pub fn strings_are_read()
+    ensures { (bytes meant : List ℕ) (after : ℕ) → (text_at bytes ≡ Whole meant after) ↔ GoodText bytes meant after }
+{}
+
+/// Where the scan of a string is `Bad`, no continuation of the bytes has a front that is a JSON string, and the place stays
+/// the same whatever comes behind.
+pub fn refused_strings_stay_refused()
+    ensures { (bytes more : List ℕ) (place : ℕ) → text_at bytes ≡ Bad place
+        → (text_at (bytes ++ more) ≡ Bad place) × NoneGood GoodText (bytes ++ more) }
+{}
