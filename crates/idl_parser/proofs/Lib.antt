@@ -1,0 +1,6 @@
+pub mod Inside
+pub mod Levels
+pub mod Listed
+pub mod Pushed
+pub mod Running
+pub mod Views

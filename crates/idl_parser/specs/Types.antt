@@ -1,0 +1,72 @@
+-- Types in a list of tokens.
+use Rattle.std.specs.Prelude.{ℕ, zero, suc, ◌-◌, ◌==◌, if◌then◌else◌, List, drop, Ok, Err}
+use Rattle.idl_parser.specs.declared.fault.Fault.TheVariants as faults
+use Rattle.idl_parser.specs.declared.tokens.Lexeme.{Lexeme}
+use Rattle.idl_parser.specs.declared.tokens.Lexeme.TheVariants as lexemes
+use Rattle.idl_parser.specs.declared.words.Keyword.TheVariants as keywords
+use Rattle.idl_parser.specs.Lexemes.{Scan, lexeme_of, offset_of, word_of, syntax_at, onward, mark_at}
+use Rattle.idl_parser.specs.Notes.{notes_at}
+use Rattle.idl_parser.specs.Cpp.{cpp_at}
+use Rattle.idl_parser.specs.Seen.{Seen}
+use Rattle.idl_parser.specs.Trees.{TypeTree, base_at, named_at, map_at, set_at, list_at}
+
+abbrev pub Inner : Type 0
+Inner = List Seen → Scan TypeTree
+
+-- behind the word `map`, for an inner type that is read so
+unfoldable pub map_of : Inner → ℕ → List Seen → Scan TypeTree
+map_of inner edge tokens =
+    onward 1 (cpp_at edge (drop 1 tokens)) λ u n.
+    onward n (mark_at 60 edge (drop n tokens)) λ u n.
+    onward n (inner (drop n tokens)) λ key n.
+    onward n (mark_at 44 edge (drop n tokens)) λ u n.
+    onward n (inner (drop n tokens)) λ value n.
+    onward n (mark_at 62 edge (drop n tokens)) λ u n.
+    Ok (map_at (offset_of edge tokens) key value, n)
+
+-- behind the word `set`, and behind `list` up to its closing mark
+unfoldable pub one_of : (ℕ → TypeTree → TypeTree) → Inner → ℕ → List Seen → Scan TypeTree
+one_of form inner edge tokens =
+    onward 1 (cpp_at edge (drop 1 tokens)) λ u n.
+    onward n (mark_at 60 edge (drop n tokens)) λ u n.
+    onward n (inner (drop n tokens)) λ element n.
+    onward n (mark_at 62 edge (drop n tokens)) λ u n.
+    Ok (form (offset_of edge tokens) element, n)
+
+-- behind the word `list`
+unfoldable pub list_of : Inner → ℕ → List Seen → Scan TypeTree
+list_of inner edge tokens =
+    onward 0 (one_of list_at inner edge tokens) λ tree n.
+    onward n (cpp_at edge (drop n tokens)) λ u n.
+    Ok (tree, n)
+
+-- what opens a level, where one is left
+abbrev pub opened : ℕ → Scan TypeTree → ℕ → List Seen → Scan TypeTree
+opened levels scan edge tokens = if levels == 0 then Err (faults.Nested (offset_of edge tokens)) else scan
+
+abbrev pub form_by : ℕ → Inner → Lexeme → ℕ → List Seen → Scan TypeTree
+form_by levels inner (lexemes.Keyword (keywords.Base word)) edge tokens = Ok (base_at (offset_of edge tokens) word, 1)
+form_by levels inner lexemes.Name edge tokens = Ok (named_at (offset_of edge tokens) (word_of tokens), 1)
+form_by levels inner (lexemes.Keyword keywords.Map) edge tokens = opened levels (map_of inner edge tokens) edge tokens
+form_by levels inner (lexemes.Keyword keywords.Set) edge tokens = opened levels (one_of set_at inner edge tokens) edge tokens
+form_by levels inner (lexemes.Keyword keywords.List) edge tokens = opened levels (list_of inner edge tokens) edge tokens
+form_by levels inner lexeme edge tokens = syntax_at edge tokens
+
+unfoldable pub form_at : ℕ → Inner → ℕ → List Seen → Scan TypeTree
+form_at levels inner edge tokens = form_by levels inner (lexeme_of tokens) edge tokens
+
+-- a type of this form, and its notes
+unfoldable pub type_by : ℕ → Inner → ℕ → List Seen → Scan TypeTree
+type_by levels inner edge tokens =
+    onward 0 (form_at levels inner edge tokens) λ tree n.
+    onward n (notes_at edge (drop n tokens)) λ u n.
+    Ok (tree, n)
+
+-- a type with so many levels left below it
+unfoldable pub type_at : ℕ → ℕ → List Seen → Scan TypeTree
+type_at zero edge tokens = type_by 0 (syntax_at edge) edge tokens
+type_at (suc levels) edge tokens = type_by (suc levels) (type_at levels edge) edge tokens
+
+-- the same without a case on the levels
+unfoldable pub type_step : ℕ → ℕ → List Seen → Scan TypeTree
+type_step levels edge tokens = type_by levels (type_at (levels - 1) edge) edge tokens

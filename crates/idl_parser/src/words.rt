@@ -1,0 +1,135 @@
+//! The keywords of the IDL.
+ghost use Rattle.std.specs.Prelude.{◌≡◌};
+ghost use Rattle.idl_parser.specs.Words.{keyword_of, base_of, part_of, opening_of};
+
+use crate::document::BaseWord;
+
+/// A word that is never a name.
+#[derive(Clone, Copy, Debug, PartialEq, Eq)]
+pub(crate) enum Keyword {
+    Base(BaseWord),
+    Map,
+    Set,
+    List,
+    CppType,
+    Void,
+    Oneway,
+    Throws,
+    Extends,
+    Required,
+    Optional,
+    Include,
+    CppInclude,
+    Namespace,
+    Const,
+    Typedef,
+    Enum,
+    Struct,
+    Union,
+    Exception,
+    Service,
+}
+
+/// The keyword that a word is.
+#[tactic(auto, unfolding(crate::specs::Words::keyword_of))]
+pub(crate) fn keyword_of(word: &[u8]) -> Option<Keyword>
+    ensures { result ≡ keyword_of word.now }
+{
+    if let Some(base) = base_of(word) {
+        return Some(Keyword::Base(base));
+    }
+    if let Some(part) = part_of(word) {
+        return Some(part);
+    }
+    opening_of(word)
+}
+
+// The words of types that have no parts.
+#[tactic(auto, unfolding(crate::specs::Words::base_of))]
+fn base_of(word: &[u8]) -> Option<BaseWord>
+    ensures { result ≡ base_of word.now }
+{
+    if word == b"bool".as_slice() {
+        Some(BaseWord::Bool)
+    } else if word == b"byte".as_slice() {
+        Some(BaseWord::I8)
+    } else if word == b"i8".as_slice() {
+        Some(BaseWord::I8)
+    } else if word == b"i16".as_slice() {
+        Some(BaseWord::I16)
+    } else if word == b"i32".as_slice() {
+        Some(BaseWord::I32)
+    } else if word == b"i64".as_slice() {
+        Some(BaseWord::I64)
+    } else if word == b"double".as_slice() {
+        Some(BaseWord::Double)
+    } else if word == b"string".as_slice() {
+        Some(BaseWord::Text)
+    } else if word == b"binary".as_slice() {
+        Some(BaseWord::Blob)
+    } else if word == b"uuid".as_slice() {
+        Some(BaseWord::Uuid)
+    } else {
+        None
+    }
+}
+
+// The words inside a declaration.
+#[tactic(auto, unfolding(crate::specs::Words::part_of))]
+fn part_of(word: &[u8]) -> Option<Keyword>
+    ensures { result ≡ part_of word.now }
+{
+    if word == b"map".as_slice() {
+        Some(Keyword::Map)
+    } else if word == b"set".as_slice() {
+        Some(Keyword::Set)
+    } else if word == b"list".as_slice() {
+        Some(Keyword::List)
+    } else if word == b"cpp_type".as_slice() {
+        Some(Keyword::CppType)
+    } else if word == b"void".as_slice() {
+        Some(Keyword::Void)
+    } else if word == b"oneway".as_slice() {
+        Some(Keyword::Oneway)
+    } else if word == b"throws".as_slice() {
+        Some(Keyword::Throws)
+    } else if word == b"extends".as_slice() {
+        Some(Keyword::Extends)
+    } else if word == b"required".as_slice() {
+        Some(Keyword::Required)
+    } else if word == b"optional".as_slice() {
+        Some(Keyword::Optional)
+    } else {
+        None
+    }
+}
+
+// The words that open a header or a declaration.
+#[tactic(auto, unfolding(crate::specs::Words::opening_of))]
+fn opening_of(word: &[u8]) -> Option<Keyword>
+    ensures { result ≡ opening_of word.now }
+{
+    if word == b"include".as_slice() {
+        Some(Keyword::Include)
+    } else if word == b"cpp_include".as_slice() {
+        Some(Keyword::CppInclude)
+    } else if word == b"namespace".as_slice() {
+        Some(Keyword::Namespace)
+    } else if word == b"const".as_slice() {
+        Some(Keyword::Const)
+    } else if word == b"typedef".as_slice() {
+        Some(Keyword::Typedef)
+    } else if word == b"enum".as_slice() {
+        Some(Keyword::Enum)
+    } else if word == b"struct".as_slice() {
+        Some(Keyword::Struct)
+    } else if word == b"union".as_slice() {
+        Some(Keyword::Union)
+    } else if word == b"exception".as_slice() {
+        Some(Keyword::Exception)
+    } else if word == b"service".as_slice() {
+        Some(Keyword::Service)
+    } else {
+        None
+    }
+}
