@@ -1,0 +1,9 @@
+pub mod Adding
+pub mod Kept
+pub mod Looked
+pub mod Methods
+pub mod Named
+pub mod Places
+pub mod Ranks
+pub mod Rooted
+pub mod Searching
