@@ -1,0 +1,211 @@
+-- What a look at a side comes to.
+use Rattle.std.proofs.Common.{◌≡◌, ℕ, ◌+◌, ◌-◌, ◌==◌, ◌<◌, ◌≤◌, List, [], ◌∷◌, ◌++◌, length, length-append, drop, arith, refl, sym, ◌∙◌, ap, subst, Bool, true, false, ◌&&◌, nat_lt, if◌then◌else◌, Option, Some, None, IfSome, slice_get, append_assoc, ◌^◌}
+use Rattle.std.proofs.lemmas.Bool.Decides.{nat_tests}
+use Rattle.framed_transport.specs.Front.{Front, Part, Whole, front, is_part, behind}
+use Rattle.session_core.specs.Rules.{Rules}
+use Rattle.session_core.specs.Standing.{Standing}
+use Rattle.session_core.specs.Steps.{Move, Waits, Halts, Takes, is_none, of_client, client_front, by_judged, of_upstream, upstream_by, upstream_front, upstream_move, by_reply}
+use Rattle.session_core.specs.Fits.{told}
+use Rattle.framed_transport.specs.Frames.{framed, IsCut}
+use Rattle.framed_transport.specs.Held.{Held}
+use Rattle.session_core.specs.Working.{Turns, ends_turn, Cuts, Took, ByUpstream, ByClient, Knows, IsFound, judged_as}
+use Rattle.session_core.specs.declared.state.State.{State}
+use Rattle.session_core.specs.declared.state.Waiting.{Waiting}
+use Rattle.session_core.specs.declared.state.Waiting.TheVariants as waiting
+use Rattle.session_core.specs.declared.outcome.Halt.{Halt}
+use Rattle.session_core.specs.declared.state.Turn.{Turn}
+use Rattle.translate_core.specs.declared.verdict.Cause.{Cause}
+use Rattle.session_core.specs.declared.judge.ClientJudged.TheVariants as client
+use Rattle.session_core.specs.declared.judge.Call.{Call}
+use Rattle.session_core.specs.declared.judge.ClientJudged.{ClientJudged}
+use Rattle.session_core.specs.declared.judge.UpstreamJudged.{UpstreamJudged}
+
+pub none_of : {X : Type 0} (xs : List X) → length xs ≡ 0 → xs ≡ []
+none_of [] e = refl
+none_of (x ∷ xs) e = absurd (omega (arith, e))
+
+pub some_of : {X : Type 0} (xs : List X) → 0 < length xs → is_none xs ≡ false
+some_of [] h = absurd (omega (arith, h))
+some_of (x ∷ xs) h = refl
+
+pub first_of : {X : Type 0} (xs : List X) (x : X) → slice_get xs 0 ≡ Some x → xs ≡ x ∷ drop 1 xs
+first_of [] x e = absurd (cc)
+first_of (y ∷ xs) x e = cc
+
+pub first_at : {X : Type 0} (xs : List X) (x y : X) → Some x ≡ slice_get xs 0 → y ≡ x → xs ≡ y ∷ drop 1 xs
+first_at xs x y e same = first_of xs y (sym e ∙ ap Some (sym same))
+
+pub no_first : {X : Type 0} (xs : List X) → slice_get xs 0 ≡ None → xs ≡ []
+no_first [] e = refl
+no_first (y ∷ xs) e = absurd (cc)
+
+-- ---- the client
+
+-- it is looked at
+pub looks : (rules : Rules) (limit most : ℕ) (s : Standing) (f : Front) → s.to_upstream ≡ [] → length s.calls < most → front limit s.client ≡ f → of_client rules limit most s ≡ client_front rules s f
+unfolding of_client
+looks rules limit most s f none few e =
+    let lt : nat_lt (length s.calls) most ≡ true = grind (arith, nat_tests) in
+    rw (none, lt, e) refl
+
+-- and judged
+pub judges : (rules : Rules) (limit most : ℕ) (s : Standing) (frame rest : List ℕ) (v : ClientJudged) → s.to_upstream ≡ [] → length s.calls < most → front limit s.client ≡ Whole frame rest → rules.judged frame ≡ v → of_client rules limit most s ≡ by_judged v s (rules.output frame) (rules.answer frame) rest
+judges rules limit most s frame rest v none few e j =
+    looks rules limit most s (Whole frame rest) none few e ∙ ap (λ (w : ClientJudged). by_judged w s (rules.output frame) (rules.answer frame) rest) j
+
+pub waits_for_upstream : (rules : Rules) (limit most : ℕ) (s : Standing) → 0 < length s.to_upstream → of_client rules limit most s ≡ Waits
+unfolding of_client
+waits_for_upstream rules limit most s some = rw (some_of s.to_upstream some) refl
+
+by_test : {X : Type 0} (a b : Bool) (x y : X) → b ≡ false → (if a && b then x else y) ≡ y
+by_test true b x y e = rw e refl
+by_test false b x y e = refl
+
+pub waits_for_call : (rules : Rules) (limit most : ℕ) (s : Standing) → most ≤ length s.calls → of_client rules limit most s ≡ Waits
+unfolding of_client
+waits_for_call rules limit most s many =
+    let no : nat_lt (length s.calls) most ≡ false = grind (arith, nat_tests) in
+    by_test (is_none s.to_upstream) (nat_lt (length s.calls) most) (client_front rules s (front limit s.client)) Waits no
+
+-- ---- the upstream
+
+pub no_call : (rules : Rules) (limit : ℕ) (s : Standing) → s.calls ≡ [] → of_upstream rules limit s ≡ Waits
+unfolding of_upstream
+no_call rules limit s e = rw e refl
+
+pub asks : (rules : Rules) (limit : ℕ) (s : Standing) (call : Call) (calls : List Call) (f : Front) → s.calls ≡ call ∷ calls → s.to_client ≡ [] → front limit s.upstream ≡ f → of_upstream rules limit s ≡ upstream_front rules s call calls f
+unfolding of_upstream
+asks rules limit s call calls f e none g = rw (e, none, g) refl
+
+pub answers : (rules : Rules) (limit : ℕ) (s : Standing) (call : Call) (calls : List Call) (frame rest : List ℕ) (v : UpstreamJudged) → s.calls ≡ call ∷ calls → s.to_client ≡ [] → front limit s.upstream ≡ Whole frame rest → rules.replied call frame ≡ v → of_upstream rules limit s ≡ by_reply v s calls (rules.reply call frame) rest
+answers rules limit s call calls frame rest v e none g j =
+    asks rules limit s call calls (Whole frame rest) e none g ∙ ap (λ (w : UpstreamJudged). by_reply w s calls (rules.reply call frame) rest) j
+
+-- the upstream's end alone halts where something is due to the client
+ends_by : (part ended : Bool) (m : Move) (s : Standing) → Turns (ends_turn part ended) (upstream_move false part ended m) s s
+ends_by true true m s = (refl, refl)
+ends_by true false m s = (refl, refl)
+ends_by false ended m s = (refl, refl)
+
+pub due_first : (rules : Rules) (limit : ℕ) (s : Standing) (call : Call) (calls : List Call) → s.calls ≡ call ∷ calls → 0 < length s.to_client → Turns (ends_turn (is_part (front limit s.upstream)) s.upstream_ended) (of_upstream rules limit s) s s
+unfolding of_upstream
+due_first rules limit s call calls e some =
+    let part = is_part (front limit s.upstream) in
+    let move = upstream_front rules s call calls (front limit s.upstream) in
+    subst (λ (cs : List Call). Turns (ends_turn part s.upstream_ended) (upstream_by rules limit s cs) s s) (sym e)
+    (subst (λ (b : Bool). Turns (ends_turn part s.upstream_ended) (upstream_move b part s.upstream_ended move) s s) (sym (some_of s.to_client some))
+    (ends_by part s.upstream_ended move s))
+
+part_by : (ended : Bool) (s : Standing) → Turns (ends_turn true ended) (if ended then Halts Rattle.session_core.specs.declared.outcome.Halt.TheVariants.Inside else Waits) s s
+part_by true s = (refl, refl)
+part_by false s = (refl, refl)
+
+pub no_reply : (rules : Rules) (limit : ℕ) (s : Standing) (call : Call) (calls : List Call) → s.calls ≡ call ∷ calls → s.to_client ≡ [] → front limit s.upstream ≡ Part → Turns (ends_turn (is_part (front limit s.upstream)) s.upstream_ended) (of_upstream rules limit s) s s
+no_reply rules limit s call calls e none g =
+    rw (asks rules limit s call calls Part e none g, g) (part_by s.upstream_ended s)
+
+-- ---- what the program knows
+
+pub empty_is : (r : Bool) (xs ys : List ℕ) → r ≡ true → r ≡ (length xs == 0) → xs ≡ ys → ys ≡ []
+empty_is r xs ys t e same = none_of ys (grind (arith, nat_tests, ap length same))
+
+pub some_is : (r : Bool) (xs ys : List ℕ) → r ≡ false → r ≡ (length xs == 0) → xs ≡ ys → 0 < length ys
+some_is r xs ys t e same = grind (arith, nat_tests, ap length same)
+
+pub behind_whole : (limit : ℕ) (held frame rest : List ℕ) → front limit held ≡ Whole frame rest → behind held (front limit held) ≡ rest
+behind_whole limit held frame rest e = ap (behind held) e
+
+pub pushed : (xs : List Call) (x : Call) (most : ℕ) → length xs < most → drop (length (xs ++ x ∷ []) - most) (xs ++ x ∷ []) ≡ xs ++ x ∷ []
+pushed xs x most few =
+    let e : length (xs ++ x ∷ []) - most ≡ 0 = omega (arith, length-append xs (x ∷ [])) in
+    ap (λ n. drop n (xs ++ x ∷ [])) e
+
+pub other_limit : (limit other : ℕ) (held : List ℕ) (f : Front) → other ≡ limit → front other held ≡ f → front limit held ≡ f
+other_limit limit other held f e g = ap (λ n. front n held) (sym e) ∙ g
+
+-- what stands once a frame of the client is let go
+pub after_client : (s t : Standing) (held rest out bytes : List ℕ) (calls more : List Call) → t ≡ record s { client = held; to_upstream = out; calls = calls; taken = told (s.taken + 1) } → held ≡ rest → out ≡ bytes → calls ≡ more → record s { client = rest; to_upstream = bytes; calls = more; taken = told (s.taken + 1) } ≡ t
+after_client s t held rest out bytes calls more e a b d = rw (← a, ← b, ← d) (sym e)
+
+-- and one of the upstream
+pub after_upstream : (s t : Standing) (held rest out bytes : List ℕ) (calls more : List Call) → t ≡ record s { upstream = held; to_client = out; calls = calls; answered = told (s.answered + 1) } → held ≡ rest → out ≡ bytes → calls ≡ more → record s { upstream = rest; to_client = bytes; calls = more; answered = told (s.answered + 1) } ≡ t
+after_upstream s t held rest out bytes calls more e a b d = rw (← a, ← b, ← d) (sym e)
+
+-- the answer's turn, once nothing is written to the upstream
+pub refused_turn : (turn : Turn) (rules : Rules) (limit most : ℕ) (s mid t : Standing) (frame rest answer : List ℕ) (cause : Cause) → s.to_upstream ≡ [] → length s.calls < most → front limit s.client ≡ Whole frame rest → rules.judged frame ≡ client.Refused cause → mid ≡ s → answer ≡ rules.answer frame → Turns turn (by_judged (client.Refused cause) mid [] answer rest) mid t → Turns turn (of_client rules limit most s) s t
+refused_turn turn rules limit most s mid t frame rest answer cause none few e j same is h =
+    subst (λ (m : Move). Turns turn m s t) (sym (judges rules limit most s frame rest (client.Refused cause) none few e j))
+    (subst (λ (m : Standing). Turns turn (by_judged (client.Refused cause) m (rules.output frame) (rules.answer frame) rest) m t) same
+    (subst (λ (a : List ℕ). Turns turn (by_judged (client.Refused cause) mid (rules.output frame) a rest) mid t) is h))
+
+-- ---- a step was taken
+
+pub took_upstream : (rules : Rules) (limit other most : ℕ) (s t : Standing) → other ≡ limit → of_upstream rules limit s ≡ Takes t → Cuts other s.upstream → Took rules limit most s t
+took_upstream rules limit other most s t same e cut = ByUpstream e (subst (λ (k : ℕ). Cuts k s.upstream) same cut)
+
+pub took_client : (rules others : Rules) (limit k most m : ℕ) (s mid t : Standing) → of_upstream rules limit s ≡ Waits → mid ≡ s → others ≡ rules → k ≡ limit → m ≡ most → of_client others k m mid ≡ Takes t → Cuts k mid.client → Took rules limit most s t
+took_client rules others limit k most m s mid t waits same judge limits many e cut =
+    ByClient waits (cc)
+    (subst (λ (n : ℕ). Cuts n s.client) limits (subst (λ (x : Standing). Cuts k x.client) same cut))
+
+-- ---- what is known of a frame that waits
+
+pub knows_at : (rules others : Rules) (s : State) → others ≡ rules → Knows others s → Knows rules s
+knows_at rules others s same known = subst (λ (r : Rules). Knows r s) same known
+
+pub knows_nothing : (rules : Rules) (s : State) → s.known ≡ None → Knows rules s
+knows_nothing rules s none = subst (λ (o : Option Waiting). IfSome o (λ found. IsFound rules s.client.limit s.client.held found)) (sym none) tt
+
+pub found_refused : (rules : Rules) (limit : ℕ) (held : List ℕ) (w : Waiting) (cause : Cause) → IsFound rules limit held w → w ≡ waiting.Refused cause → (frame rest : List ℕ) → front limit held ≡ Whole frame rest → rules.judged frame ≡ client.Refused cause
+found_refused rules limit held w cause f is frame rest e =
+    let both : Whole f.frame f.rest ≡ Whole frame rest = sym f.stands ∙ e in
+    let same : f.frame ≡ frame = cc in
+    ap rules.judged (sym same) ∙ f.judged ∙ ap judged_as is
+
+pub found_cuts : (rules : Rules) (limit : ℕ) (held : List ℕ) (w : Waiting) → IsFound rules limit held w → Cuts limit held
+found_cuts rules limit held w f = λ frame rest e.
+    let both : Whole f.frame f.rest ≡ Whole frame rest = sym f.stands ∙ e in
+    let same : f.frame ≡ frame = cc in
+    let behind : f.rest ≡ rest = cc in
+    subst (λ (x : List ℕ). IsCut limit held x rest) same (subst (λ (x : List ℕ). IsCut limit held f.frame x) behind f.cut)
+
+pub waits_halted : (rules : Rules) (limit most : ℕ) (s : Standing) (w : Waiting) (h : Halt) → s.to_upstream ≡ [] → length s.calls < most → IsFound rules limit s.client w → w ≡ waiting.Halts h → of_client rules limit most s ≡ Halts h
+waits_halted rules limit most s w h none few f is = judges rules limit most s f.frame f.rest (client.Halts h) none few f.stands (f.judged ∙ ap judged_as is)
+
+pub waits_refused : (turn : Turn) (rules : Rules) (limit most : ℕ) (s t : Standing) (w : Waiting) (cause : Cause) → s.to_upstream ≡ [] → length s.calls < most → (f : IsFound rules limit s.client w) → w ≡ waiting.Refused cause → Turns turn (by_judged (client.Refused cause) s [] (rules.answer f.frame) f.rest) s t → Turns turn (of_client rules limit most s) s t
+waits_refused turn rules limit most s t w cause none few f is h =
+    refused_turn turn rules limit most s s t f.frame f.rest (rules.answer f.frame) cause none few f.stands (f.judged ∙ ap judged_as is) refl refl h
+
+-- more bytes behind it change nothing
+pub found_fed : (rules : Rules) (limit : ℕ) (held more : List ℕ) (w : Waiting) → ((limit : ℕ) (frame rest : List ℕ) → limit < 2 ^ 31 → length frame ≤ limit → front limit (framed frame ++ rest) ≡ Whole frame rest) → limit < 2 ^ 31 → IsFound rules limit held w → IsFound rules limit (held ++ more) w
+found_fed rules limit held more w law small f =
+    let whole : held ++ more ≡ framed f.frame ++ (f.rest ++ more) = ap (λ (xs : List ℕ). xs ++ more) f.cut.whole ∙ append_assoc (framed f.frame) f.rest more in
+    record {
+      frame = f.frame;
+      rest = f.rest ++ more;
+      stands = ap (front limit) whole ∙ law limit f.frame (f.rest ++ more) small f.cut.within;
+      cut = record { within = f.cut.within; whole = whole };
+      judged = f.judged;
+    }
+
+fed_by : (o : Option Waiting) (rules : Rules) (limit : ℕ) (held more : List ℕ) → ((limit : ℕ) (frame rest : List ℕ) → limit < 2 ^ 31 → length frame ≤ limit → front limit (framed frame ++ rest) ≡ Whole frame rest) → limit < 2 ^ 31 → IfSome o (λ w. IsFound rules limit held w) → IfSome o (λ w. IsFound rules limit (held ++ more) w)
+fed_by None rules limit held more law small known = tt
+fed_by (Some w) rules limit held more law small known = found_fed rules limit held more w law small known
+
+pub knows_fed : (rules : Rules) (s t : State) (limit : ℕ) (more : List ℕ) → ((limit : ℕ) (frame rest : List ℕ) → limit < 2 ^ 31 → length frame ≤ limit → front limit (framed frame ++ rest) ≡ Whole frame rest) → s.client.limit ≡ limit → limit < 2 ^ 24 → t.known ≡ s.known → t.client ≡ record s.client { held = s.client.held ++ more } → Knows rules s → Knows rules t
+knows_fed rules s t limit more law is small known fed k =
+    subst (λ (o : Option Waiting). IfSome o (λ w. IsFound rules t.client.limit t.client.held w)) (sym known)
+    (subst (λ (b : Held). IfSome s.known (λ w. IsFound rules b.limit b.held w)) (sym fed)
+    (fed_by s.known rules s.client.limit s.client.held more law (omega (arith, is, small)) k))
+
+pub knows_kept : (rules others : Rules) (s t : State) → others ≡ rules → t.known ≡ s.known → t.client ≡ s.client → Knows rules s → Knows others t
+knows_kept rules others s t same known kept k =
+    subst (λ (r : Rules). Knows r t) (sym same)
+    (subst (λ (o : Option Waiting). IfSome o (λ w. IsFound rules t.client.limit t.client.held w)) (sym known)
+    (subst (λ (b : Held). IfSome s.known (λ w. IsFound rules b.limit b.held w)) (sym kept) k))
+
+pub knows_found : (rules : Rules) (s : State) (w : Waiting) → s.known ≡ Some w → IsFound rules s.client.limit s.client.held w → Knows rules s
+knows_found rules s w known f = subst (λ (o : Option Waiting). IfSome o (λ found. IsFound rules s.client.limit s.client.held found)) (sym known) f
+
+pub found_of : (rules : Rules) (s : State) (w : Waiting) → s.known ≡ Some w → Knows rules s → IsFound rules s.client.limit s.client.held w
+found_of rules s w known k = subst (λ (o : Option Waiting). IfSome o (λ found. IsFound rules s.client.limit s.client.held found)) known k

@@ -1,0 +1,34 @@
+use Rattle.std.proofs.Common.{◌≡◌, sym, ◌≤◌, ◌-◌, ◌++◌, List, ℕ, length, take, drop, arith, ◌∙◌, ap}
+use Rattle.framed_transport.specs.Held.{Held}
+use Rattle.session_core.specs.Standing.{Standing}
+use Rattle.session_core.specs.Working.{standing}
+use Rattle.session_core.proofs.Moves.{knows_at}
+use Rattle.session_core.specs.declared.state.State.{State}
+use Rattle.session_core.proofs.Feeding.{count_within, upstream_piece, ready_at, settled_at}
+use Rattle.session_core.proofs.state.State.take_upstream.Goals as goal
+
+pub pieces-preserved : goal.pieces-preserved
+pieces-preserved g c =
+    let i = c.pieces.invariant in
+    let rules = g.J.Judge.rules c.args.judge.now in
+    let limit = c.args.self.now.client.limit in
+    let most = c.args.self.now.calls.capacity in
+    let judge = ap g.J.Judge.rules i.same in
+    let limits : c.pieces.self.client.limit ≡ limit = i.ready.client in
+    let fits : c.feed-taken.result ≤ length c.args.bytes.now - c.pieces.taken = count_within c.args.bytes.now c.pieces.taken c.feed-taken.result _ i.within c.feed-taken.ensures.count in
+    let held : c.feed-taken.new.self.held ≡ c.pieces.self.upstream.held ++ take c.feed-taken.result (take (length c.args.bytes.now - c.pieces.taken) (drop c.pieces.taken c.args.bytes.now)) = ap (λ (x : Held). x.held) c.feed-taken.ensures.held in
+    record {
+      ready = ready_at limit c.pieces.self.client.limit most c.pieces.self.calls.capacity c.settle.new.self limits i.ready.calls c.settle.ensures.ready;
+      same = c.settle.ensures.same ∙ i.same;
+      known = knows_at rules (g.J.Judge.rules c.pieces.judge) c.settle.new.self judge c.settle.ensures.known;
+      settled = settled_at rules (g.J.Judge.rules c.pieces.judge) limit c.pieces.self.client.limit most c.pieces.self.calls.capacity c.settle.new.self judge limits i.ready.calls c.settle.ensures.settled;
+      within = omega (arith, fits, i.within);
+      fits = λ h f. upstream_piece rules (g.J.Judge.rules c.pieces.judge) limit c.pieces.self.client.limit most c.pieces.self.calls.capacity c.pieces.taken c.feed-taken.result h (standing c.pieces.self) (record (standing c.pieces.self) { upstream = c.feed-taken.new.self.held }) (standing c.settle.new.self) c.args.bytes.now judge limits i.ready.calls i.within fits
+          (ap (λ (xs : List ℕ). let r : Standing = record (standing c.pieces.self) { upstream = xs } in r) held) c.settle.ensures.fits (i.fits h f);
+    }
+
+pub settle-requires-clause-known : goal.settle-requires-clause-known
+settle-requires-clause-known g c =
+    let i = c.pieces.invariant in
+    let fed : State = record c.pieces.self { upstream = c.feed-taken.new.self } in
+    knows_at (g.J.Judge.rules c.pieces.judge) (g.J.Judge.rules c.args.judge.now) fed (sym (ap g.J.Judge.rules i.same)) i.known

@@ -1,0 +1,32 @@
+-- A session as its callers see it.
+use Rattle.std.specs.Prelude.{ℕ, ◌+◌, ◌-◌, List, ◌++◌, length, Bool, true, ◌||◌, if◌then◌else◌, Option}
+use Rattle.session_core.specs.Standing.{Standing, History}
+use Rattle.session_core.specs.declared.outcome.Outcome.{Outcome}
+use Rattle.gate_io.specs.declared.hub.Side.{Side}
+use Rattle.gate_io.specs.declared.hub.Side.TheVariants as side
+
+pub record Seen (J : Type 0) : Type 0 where
+  pub judge : J
+  pub limit : ℕ
+  pub most : ℕ
+  pub standing : Standing
+  pub outcome : Option Outcome
+
+abbrev pub due_to : Side → Standing → List ℕ
+due_to side.Client s = s.to_client
+due_to side.Upstream s = s.to_upstream
+
+-- so many bytes more were sent to a side
+abbrev pub and_sent : Side → History → List ℕ → History
+and_sent side.Client h bytes = record h { to_client = h.to_client ++ bytes }
+and_sent side.Upstream h bytes = record h { to_upstream = h.to_upstream ++ bytes }
+
+-- and a side has ended
+abbrev pub and_ended : Side → History → History
+and_ended side.Client h = record h { client_ended = true }
+and_ended side.Upstream h = record h { upstream_ended = true }
+
+-- how much more can be taken of a side
+abbrev pub room_of : ℕ → Standing → Bool → Side → ℕ
+room_of limit s over side.Client = if s.client_ended || over then 0 else limit + 4 - length s.client
+room_of limit s over side.Upstream = if s.upstream_ended || over then 0 else limit + 4 - length s.upstream

@@ -1,0 +1,74 @@
+//! What a session asks of those who read its frames.
+ghost use Rattle.std.specs.Prelude.{◌≡◌, ℕ, ◌+◌, ◌*◌, ◌≤◌, ◌++◌, length};
+ghost use Rattle.session_core.specs.Rules.{Rules};
+
+use crate::outcome::Halt;
+use gate_io::Out;
+use translate_core::Cause;
+
+/// What an open call keeps of its method.
+#[derive(Clone, Copy, Debug, PartialEq, Eq)]
+pub struct Call {
+    /// The number of the struct that its reply holds, where the method is known.
+    pub result: Option<u32>,
+}
+
+/// The verdict on a frame of the client.
+#[derive(Clone, Copy, Debug, PartialEq, Eq)]
+pub enum ClientJudged {
+    /// Its header can't be read, or it is no call.
+    Halts(Halt),
+    /// It is passed, and waits for a reply.
+    Opens(Call),
+    /// It is passed, and nothing comes back.
+    Goes,
+    /// It is refused, and waits for an answer.
+    Refused(Cause),
+    /// It is refused, and nothing comes back.
+    Dropped,
+}
+
+/// The verdict on a frame of the upstream.
+#[derive(Clone, Copy, Debug, PartialEq, Eq)]
+pub enum UpstreamJudged {
+    /// Its header can't be read, or it is a call.
+    Halts(Halt),
+    /// It closes its call: what goes to the client is the reply, or what tells that the reply is refused.
+    Answers,
+}
+
+/// Whoever reads the frames of a session and writes what goes on. It takes no memory.
+pub trait Judge: Sized + Drop {
+    /// How it judges.
+    ghost rules: { Self → Rules };
+
+    /// The longest frame that it has room for.
+    ghost longest: { Self → ℕ };
+
+    /// Judges a frame of the client, and appends what goes to the upstream where it is passed.
+    fn client(&mut self, frame: &[u8], out: &mut Out) -> ClientJudged
+        requires fits { length frame.now ≤ longest self.old }
+        requires room { length out.old.bytes + (24 * length frame.now + 256) ≤ out.old.room }
+        ensures same { self.new ≡ self.old }
+        ensures verdict { result ≡ (rules self.old).judged frame.now }
+        ensures out { out.new ≡ record { bytes = out.old.bytes ++ (rules self.old).output frame.now; room = out.old.room } }
+        ensures within { length out.new.bytes ≤ out.new.room };
+
+    /// Appends the answer to a refused call.
+    fn answer(&mut self, frame: &[u8], cause: Cause, out: &mut Out)
+        requires fits { length frame.now ≤ longest self.old }
+        requires refused { (rules self.old).judged frame.now ≡ ClientJudged.Refused cause }
+        requires room { length out.old.bytes + (24 * length frame.now + 256) ≤ out.old.room }
+        ensures same { self.new ≡ self.old }
+        ensures out { out.new ≡ record { bytes = out.old.bytes ++ (rules self.old).answer frame.now; room = out.old.room } }
+        ensures within { length out.new.bytes ≤ out.new.room };
+
+    /// Judges a frame of the upstream for a call, and appends what goes to the client.
+    fn upstream(&mut self, call: Call, frame: &[u8], out: &mut Out) -> UpstreamJudged
+        requires fits { length frame.now ≤ longest self.old }
+        requires room { length out.old.bytes + (24 * length frame.now + 256) ≤ out.old.room }
+        ensures same { self.new ≡ self.old }
+        ensures verdict { result ≡ (rules self.old).replied call frame.now }
+        ensures out { out.new ≡ record { bytes = out.old.bytes ++ (rules self.old).reply call frame.now; room = out.old.room } }
+        ensures within { length out.new.bytes ≤ out.new.room };
+}
