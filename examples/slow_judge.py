@@ -92,6 +92,14 @@ class Reader:
             raise Fault(self.at, TOO_DEEP)
         return depth
 
+    def behind_header(self, name: bytes, kind: int, seq: int, place: int) -> Message:
+        """The body of a message whose header was read, and the frame's end."""
+        self.header_whole = True
+        declared = self.schema.body(kind, name)
+        body = self.struct(declared, 1)
+        self.ended()
+        return Message(name, kind, seq, body, place, declared)
+
     def ended(self) -> None:
         if self.at < len(self.frame):
             raise Fault(self.at, TRAILING)
@@ -111,11 +119,7 @@ class BinaryReader(Reader):
             place, name = self.at, self.string()
             kind = self.byte(TYPES, BAD_TYPE)
         seq = self.integer(4)
-        self.header_whole = True
-        declared = self.schema.body(kind, name)
-        body = self.struct(declared, 1)
-        self.ended()
-        return Message(name, kind, seq, body, place, declared)
+        return self.behind_header(name, kind, seq, place)
 
     def integer(self, length: int) -> int:
         return int.from_bytes(self.fixed(length), "big", signed=True)
@@ -189,11 +193,7 @@ class CompactReader(Reader):
         seq = self.varint(32)
         seq = seq - 2**32 if seq > MOST else seq
         place, name = self.at, self.string()
-        self.header_whole = True
-        declared = self.schema.body(kind, name)
-        body = self.struct(declared, 1)
-        self.ended()
-        return Message(name, kind, seq, body, place, declared)
+        return self.behind_header(name, kind, seq, place)
 
     def varint(self, bits: int) -> int:
         """A ULEB128 number of so many bits, in at most ten bytes for 64 bits and else in five."""
