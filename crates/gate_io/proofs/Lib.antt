@@ -1,3 +1,7 @@
 -- Lemmas.
+pub mod Events
+pub mod Links
 pub mod Moved
+pub mod Named
+pub mod Sessions
 pub mod Windows

@@ -2,22 +2,26 @@
 //! buffer whose room is taken once.
 //!
 //! Each object of the outside counts its faults, and a call answers that it failed only where its
-//! count rose. A source tells the bytes that are left and a sink those that were written, where they
-//! can: the objects in memory do, and the real ones tell nothing.
+//! count rose. A source tells the bytes that are left, a sink those that were written, files those of
+//! each name, and a hub what each session received and sent, where they can: the objects in memory do,
+//! and the real ones tell nothing.
 #![tactic(auto)]
 
 mod buffer;
+mod disk;
 mod files;
 mod hub;
 mod lists;
 mod memory;
 mod memory_hub;
+mod memory_link;
 mod outside;
 mod standard;
 #[cfg(test)]
 mod tests;
 
 pub use buffer::Out;
+pub use disk::DiskFiles;
 pub use files::{Fetched, Files, MemFiles};
 pub use hub::{Began, Hub, HubNext, LinkGot, LinkPut, Served, Side};
 pub use lists::{Fails, Text, Word};

@@ -31,6 +31,13 @@ impl Text {
         })
     }
 
+    // The text of these bytes, without a copy.
+    pub(crate) fn of_bytes(bytes: Vec<u8>) -> Text
+        ensures { result ≡ bytes.items }
+    {
+        Text { bytes }
+    }
+
     /// Its bytes.
     pub fn as_slice(&self) -> &[u8]
         ensures { result.now ≡ self.now }
