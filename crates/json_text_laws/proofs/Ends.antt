@@ -142,7 +142,7 @@ most : (a b : ℕ) → b ≤ 0xBF → (a ≡ 0xED → b ≤ 0x9F) → (a ≡ 0xF
 most a b high p q = cond_both (a == 0xED) 0x9F (cond (a == 0xF4) 0x8F 0xBF) (λ n. b ≤ n) (λ e. p (grind (arith, nat_tests))) (λ _. cond_both (a == 0xF4) 0x8F 0xBF (λ n. b ≤ n) (λ e. q (grind (arith, nat_tests))) (λ _. high))
 
 -- no surrogate, and no more than 10FFFF hex
-scalar_bounds : (c : ℕ) → IsScalar c → (c < 0x110000) × ((c < 0xd800) ⊎ (0xe000 ≤ c))
+pub scalar_bounds : (c : ℕ) → IsScalar c → (c < 0x110000) × ((c < 0xd800) ⊎ (0xe000 ≤ c))
 scalar_bounds c s = by_case (scalar_cases c s)
   where
     by_case : (c < 55296) ⊎ ((57344 ≤ c) × (c < 1114112)) → (c < 0x110000) × ((c < 0xd800) ⊎ (0xe000 ≤ c))

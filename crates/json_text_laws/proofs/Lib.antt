@@ -14,3 +14,7 @@ pub mod Read
 pub mod Ends
 pub mod Stays
 pub mod Refused
+pub mod Open
+pub mod Sizes
+pub mod Places
+pub mod TextLaw

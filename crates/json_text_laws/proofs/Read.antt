@@ -33,12 +33,12 @@ both_true true true e = (refl, refl)
 both_true true false e = absurd (cc)
 both_true false b e = absurd (cc)
 
-front_all : (p : ℕ → Bool) (xs ys : List ℕ) → All p (xs ++ ys) → All p xs × All p ys
+pub front_all : (p : ℕ → Bool) (xs ys : List ℕ) → All p (xs ++ ys) → All p xs × All p ys
 front_all p [] ys h = (tt, h)
 front_all p (x ∷ xs) ys h = let more = front_all p xs ys h.1 in ((h.0, more.0), more.1)
 
 -- the first byte of a character below 128 is that character
-small_first : (c : ℕ) → c < 128 → encode_utf8 c ≡ c ∷ []
+pub small_first : (c : ℕ) → c < 128 → encode_utf8 c ≡ c ∷ []
 unfolding encode_utf8
 small_first c h = cond_true (nat_lt c 128) (c ∷ []) _ (grind (arith, nat_tests))
 
@@ -60,7 +60,7 @@ characters (c ∷ cs) s all =
     let more = characters cs t.1 parts.1 in
     record { ps = plain c ∷ more.ps; are = (stands c t.0 parts.0, more.are); spells = ap (λ r. encode_utf8 c ++ r) more.spells; means = ap (λ r. encode_utf8 c ++ r) more.means }
 
-plain_pieces : (xs : List ℕ) → IsUtf8 xs → All is_plain xs → Pieces xs xs
+pub plain_pieces : (xs : List ℕ) → IsUtf8 xs → All is_plain xs → Pieces xs xs
 plain_pieces xs (cs, (s, is)) all = subst (λ l. Pieces l l) is (characters cs s (subst (All is_plain) (sym is) all))
 
 one_on : (p : ℕ → Bool) (x : ℕ) (xs : List ℕ) (b : Bool) → p x ≡ b → All p (take (prefix_len p xs) xs) → All p (take (cond b (1 + prefix_len p xs) 0) (x ∷ xs))
@@ -87,7 +87,7 @@ cond_or : {A : Type 0} → (b : Bool) (x y z : A) → cond b x y ≡ z → ((b �
 cond_or true x y z e = inl (refl, e)
 cond_or false x y z e = inr (refl, e)
 
-is_eq : (x n : ℕ) → (x == n) ≡ true → x ≡ n
+pub is_eq : (x n : ℕ) → (x == n) ≡ true → x ≡ n
 is_eq x n e = grind (arith, nat_tests)
 
 some_is : (a c : ℕ) → Some a ≡ Some c → c ≡ a
@@ -194,11 +194,11 @@ hex_of x h = by_48 (either_way (nat_lt x 48))
 two_there : (x y : ℕ) (rest : List ℕ) → nat_lt (length (x ∷ y ∷ rest)) 2 ≡ false
 two_there x y rest = grind (arith, nat_tests)
 
-escape_two : (x y : ℕ) (rest : List ℕ) → escape_at (x ∷ y ∷ rest) ≡ cond (y == 117) (unicode_at (x ∷ y ∷ rest)) (short_then (short_escape y))
+pub escape_two : (x y : ℕ) (rest : List ℕ) → escape_at (x ∷ y ∷ rest) ≡ cond (y == 117) (unicode_at (x ∷ y ∷ rest)) (short_then (short_escape y))
 unfolding escape_at
 escape_two x y rest = cond_false (nat_lt (length (x ∷ y ∷ rest)) 2) Short (cond (y == 117) (unicode_at (x ∷ y ∷ rest)) (short_then (short_escape y))) (two_there x y rest)
 
-escape_one : (x : ℕ) → escape_at (x ∷ []) ≡ Short
+pub escape_one : (x : ℕ) → escape_at (x ∷ []) ≡ Short
 unfolding escape_at
 escape_one x = refl
 
@@ -222,20 +222,20 @@ by_letter y rest c t e two = record { piece = short y c; rest = rest; is = lette
 
 -- ---- code units
 
-fits_in : (size at d low high : ℕ) → (nat_le size at || (nat_le low d && nat_le d high)) ≡ true → at < size → (low ≤ d) × (d ≤ high)
+pub fits_in : (size at d low high : ℕ) → (nat_le size at || (nat_le low d && nat_le d high)) ≡ true → at < size → (low ≤ d) × (d ≤ high)
 fits_in size at d low high fits there = (grind (arith, nat_tests), grind (arith, nat_tests))
 
-byte_in : (size at x byte : ℕ) → (nat_le size at || (x == byte)) ≡ true → at < size → x ≡ byte
+pub byte_in : (size at x byte : ℕ) → (nat_le size at || (x == byte)) ≡ true → at < size → x ≡ byte
 byte_in size at x byte fits there = grind (arith, nat_tests)
 
-four_split : (a b c d : Bool) → (a && b && c && d) ≡ true → (a ≡ true) × (b ≡ true) × (c ≡ true) × (d ≡ true)
+pub four_split : (a b c d : Bool) → (a && b && c && d) ≡ true → (a ≡ true) × (b ≡ true) × (c ≡ true) × (d ≡ true)
 four_split true true true true e = (refl, refl, refl, refl)
 four_split false b c d e = absurd (cc)
 four_split true false c d e = absurd (cc)
 four_split true true false d e = absurd (cc)
 four_split true true true false e = absurd (cc)
 
-six_split : (a b c d e f : Bool) → (a && b && c && d && e && f) ≡ true → (a ≡ true) × (b ≡ true) × (c ≡ true) × (d ≡ true) × (e ≡ true) × (f ≡ true)
+pub six_split : (a b c d e f : Bool) → (a && b && c && d && e && f) ≡ true → (a ≡ true) × (b ≡ true) × (c ≡ true) × (d ≡ true) × (e ≡ true) × (f ≡ true)
 six_split true true true true true true h = (refl, refl, refl, refl, refl, refl)
 six_split false b c d e f h = absurd (cc)
 six_split true false c d e f h = absurd (cc)
@@ -366,7 +366,7 @@ early_never : (b : Bool) (c t : ℕ) → cond b (Bad 0) Short ≡ Whole c t → 
 early_never true c t e = absurd (cc)
 early_never false c t e = absurd (cc)
 
-true_of_not : (x : Bool) → not x ≡ false → x ≡ true
+pub true_of_not : (x : Bool) → not x ≡ false → x ≡ true
 true_of_not true h = refl
 true_of_not false h = absurd (cc)
 
@@ -395,7 +395,7 @@ by_unicode rest c t same = begun (cond_or (not (begins_unit bytes 2)) (Bad 0) (c
     begun (inl h) = let wrong = h.1 in absurd (cc)
     begun (inr h) = longer (true_of_not (begins_unit bytes 2) h.0) (cond_or (nat_lt (length bytes) 6) early (unit_then (unit_at bytes 2) bytes) (Whole c t) h.1)
 
-escaped : (rest : List ℕ) (c t : ℕ) → escape_at (92 ∷ rest) ≡ Whole c t → Escaped (92 ∷ rest) c t
+pub escaped : (rest : List ℕ) (c t : ℕ) → escape_at (92 ∷ rest) ≡ Whole c t → Escaped (92 ∷ rest) c t
 escaped [] c t e = let wrong : Short ≡ Whole c t = sym (escape_one 92) ∙ e in absurd (cc)
 escaped (y ∷ rest) c t e = by_kind (cond_or (y == 117) (unicode_at (92 ∷ y ∷ rest)) (short_then (short_escape y)) (Whole c t) (sym (escape_two 92 y rest) ∙ e))
   where
@@ -413,7 +413,7 @@ pub record Ends (bytes m : List ℕ) (n : ℕ) : Type 0 where
   pub means : m ≡ all_meant ps
   pub long : n ≡ length (all_spelled ps) + 1
 
-spelled_append : (ps qs : List Piece) → all_spelled (ps ++ qs) ≡ all_spelled ps ++ all_spelled qs
+pub spelled_append : (ps qs : List Piece) → all_spelled (ps ++ qs) ≡ all_spelled ps ++ all_spelled qs
 spelled_append [] qs = refl
 spelled_append (p ∷ ps) qs = ap (λ r. piece_spelled p ++ r) (spelled_append ps qs) ∙ sym (append_more (piece_spelled p) (all_spelled ps) (all_spelled qs))
 
@@ -421,7 +421,7 @@ meant_append : (ps qs : List Piece) → all_meant (ps ++ qs) ≡ all_meant ps ++
 meant_append [] qs = refl
 meant_append (p ∷ ps) qs = ap (λ r. piece_meant p ++ r) (meant_append ps qs) ∙ sym (append_more (piece_meant p) (all_meant ps) (all_meant qs))
 
-are_append : (ps qs : List Piece) → ArePieces ps → ArePieces qs → ArePieces (ps ++ qs)
+pub are_append : (ps qs : List Piece) → ArePieces ps → ArePieces qs → ArePieces (ps ++ qs)
 are_append [] qs a b = b
 are_append (p ∷ ps) qs a b = (a.0, are_append ps qs a.1 b)
 
@@ -436,14 +436,14 @@ prepend spelled meant bytes m n p e = record {
 }
 
 -- behind a front, what is whole was whole
-record Was (front : List ℕ) (r : ℕ) (scan : Scan (List ℕ)) (m : List ℕ) (n : ℕ) : Type 0 where
-  text : List ℕ
-  after : ℕ
-  scanned : scan ≡ Whole text after
-  joins : m ≡ front ++ text
-  long : n ≡ r + after
+pub record Was (front : List ℕ) (r : ℕ) (scan : Scan (List ℕ)) (m : List ℕ) (n : ℕ) : Type 0 where
+  pub text : List ℕ
+  pub after : ℕ
+  pub scanned : scan ≡ Whole text after
+  pub joins : m ≡ front ++ text
+  pub long : n ≡ r + after
 
-was : (front : List ℕ) (r : ℕ) (scan : Scan (List ℕ)) (m : List ℕ) (n : ℕ) → behind front r scan ≡ Whole m n → Was front r scan m n
+pub was : (front : List ℕ) (r : ℕ) (scan : Scan (List ℕ)) (m : List ℕ) (n : ℕ) → behind front r scan ≡ Whole m n → Was front r scan m n
 was front r (Whole t a) m n e = record { text = t; after = a; scanned = refl; joins = (let same : front ++ t ≡ m = cc in sym same); long = (let same : r + a ≡ n = cc in sym same) }
 was front r Short m n e = absurd (cc)
 was front r (Bad q) m n e = absurd (cc)
@@ -536,26 +536,26 @@ turns_invert : (k : ℕ) → Inverts (turns k)
 turns_invert zero bytes m n e = absurd (cc)
 turns_invert (suc k) bytes m n e = run_whole (turns k) (turns_invert k) bytes m n (prefix_len is_plain bytes) (utf8_valid_len (take (prefix_len is_plain bytes) bytes)) (all_front is_plain bytes) (run_most is_plain bytes) refl e
 
-pieces_invert : Inverts pieces_at
+pub pieces_invert : Inverts pieces_at
 unfolding pieces_at
 pieces_invert bytes m n e = turns_invert (suc (length bytes)) bytes m n e
 
 -- ---- with its opening quote
 
-no_text : text_at [] ≡ Short
+pub no_text : text_at [] ≡ Short
 unfolding text_at
 no_text = refl
 
-some_text : (x : ℕ) (rest : List ℕ) → text_at (x ∷ rest) ≡ cond (x == 34) (moved 1 (pieces_at rest)) (Bad 0)
+pub some_text : (x : ℕ) (rest : List ℕ) → text_at (x ∷ rest) ≡ cond (x == 34) (moved 1 (pieces_at rest)) (Bad 0)
 unfolding text_at
 some_text x rest = cond_false (nat_lt (length (x ∷ rest)) 1) Short (cond (x == 34) (moved 1 (pieces_at rest)) (Bad 0)) (grind (arith, nat_tests))
 
-unmoved : (scan : Scan (List ℕ)) (m : List ℕ) (n : ℕ) → moved 1 scan ≡ Whole m n → (k : ℕ) × (scan ≡ Whole m k) × (n ≡ 1 + k)
+pub unmoved : (scan : Scan (List ℕ)) (m : List ℕ) (n : ℕ) → moved 1 scan ≡ Whole m n → (k : ℕ) × (scan ≡ Whole m k) × (n ≡ 1 + k)
 unmoved (Whole t a) m n e = (a, (let same : t ≡ m = cc in ap (λ l. Whole l a) same), (let same : 1 + a ≡ n = cc in sym same))
 unmoved Short m n e = absurd (cc)
 unmoved (Bad q) m n e = absurd (cc)
 
-of_ends : (rest m : List ℕ) (n k : ℕ) → Ends rest m k → n ≡ 1 + k → GoodText (34 ∷ rest) m n
+pub of_ends : (rest m : List ℕ) (n k : ℕ) → Ends rest m k → n ≡ 1 + k → GoodText (34 ∷ rest) m n
 of_ends rest m n k e size =
     let front = 34 ∷ (all_spelled e.ps ++ 34 ∷ []) in
     (front, e.rest, ap (λ r. 34 ∷ r) (e.spells ∙ sym (append_more (all_spelled e.ps) (34 ∷ []) e.rest)), omega (arith, size, e.long, length-append (all_spelled e.ps) (34 ∷ [])), (e.ps, e.are, e.means, refl))

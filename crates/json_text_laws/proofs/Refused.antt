@@ -24,12 +24,12 @@ use Rattle.json_text_laws.proofs.Ends.{fault_stays, still_none, valid_behind_all
 use Rattle.json_text_laws.proofs.Stays.{Stays, and_false, escape_stays}
 use Rattle.json_text_laws.specs.Judged.{GoodText, NoneGood}
 
-was_bad : (front : List ℕ) (n : ℕ) (scan : Scan (List ℕ)) (place : ℕ) → behind front n scan ≡ Bad place → (q : ℕ) × (scan ≡ Bad q) × (n + q ≡ place)
+pub was_bad : (front : List ℕ) (n : ℕ) (scan : Scan (List ℕ)) (place : ℕ) → behind front n scan ≡ Bad place → (q : ℕ) × (scan ≡ Bad q) × (n + q ≡ place)
 was_bad front n (Whole t a) place e = absurd (cc)
 was_bad front n Short place e = absurd (cc)
 was_bad front n (Bad q) place e = (q, refl, cc)
 
-drop_more : (n : ℕ) (bytes more : List ℕ) → n ≤ length bytes → drop n (bytes ++ more) ≡ drop n bytes ++ more
+pub drop_more : (n : ℕ) (bytes more : List ℕ) → n ≤ length bytes → drop n (bytes ++ more) ≡ drop n bytes ++ more
 drop_more zero bytes more h = refl
 drop_more (suc n) [] more h = absurd (omega arith)
 drop_more (suc n) (x ∷ bytes) more h = drop_more n bytes more (omega arith)
@@ -60,7 +60,7 @@ valid_stays front more fault = by_text (valid_front front)
           ap (λ l. ends_early (utf8_error_len l)) (drop_more v front more (utf8_valid_len_le front)) ∙ fault_stays x more fault,
         )
 
-abbrev Refuses : (List ℕ → Scan (List ℕ)) → Type 0
+abbrev pub Refuses : (List ℕ → Scan (List ℕ)) → Type 0
 Refuses go = (bytes more : List ℕ) (place : ℕ) → go bytes ≡ Bad place → pieces_at (bytes ++ more) ≡ Bad place
 
 module _ (go : List ℕ → Scan (List ℕ)) (refuses : Refuses go) where
@@ -97,13 +97,13 @@ module _ (go : List ℕ → Scan (List ℕ)) (refuses : Refuses go) where
   at_end = refl
 
 -- one turn: the run, by what stands behind it
-abbrev turn_by : (List ℕ → Scan (List ℕ)) → List ℕ → ℕ → Scan (List ℕ)
+abbrev pub turn_by : (List ℕ → Scan (List ℕ)) → List ℕ → ℕ → Scan (List ℕ)
 turn_by go bytes r = run_then go bytes r (utf8_valid_len (take r bytes))
 
 abbrev turns_once : (List ℕ → Scan (List ℕ)) → List ℕ → Scan (List ℕ)
 turns_once go bytes = turn_by go bytes (prefix_len is_plain bytes)
 
-run_is : (go : List ℕ → Scan (List ℕ)) (front rest : List ℕ) → turn_by go (front ++ rest) (length front)
+pub run_is : (go : List ℕ → Scan (List ℕ)) (front rest : List ℕ) → turn_by go (front ++ rest) (length front)
     ≡ cond (utf8_valid_len front == length front) (behind front (length front) (piece_then go rest))
     (cond ((length front == length (front ++ rest)) && ends_early (utf8_error_len (drop (utf8_valid_len front) front))) Short (Bad (utf8_valid_len front)))
 unfolding run_then
@@ -187,7 +187,7 @@ turns_refuse : (k : ℕ) → Refuses (turns k)
 turns_refuse zero bytes more place e = absurd (cc)
 turns_refuse (suc k) bytes more place e = turn_refuses (turns k) (turns_refuse k) bytes more place e
 
-pieces_refuse : Refuses pieces_at
+pub pieces_refuse : Refuses pieces_at
 unfolding pieces_at
 pieces_refuse bytes more place e = turns_refuse (suc (length bytes)) bytes more place e
 
@@ -201,7 +201,7 @@ some_text : (x : ℕ) (rest : List ℕ) → text_at (x ∷ rest) ≡ cond (x == 
 unfolding text_at
 some_text x rest = cond_false (nat_lt (length (x ∷ rest)) 1) Short (cond (x == 34) (moved 1 (pieces_at rest)) (Bad 0)) (grind (arith, nat_tests))
 
-moved_bad : (scan : Scan (List ℕ)) (place : ℕ) → moved 1 scan ≡ Bad place → (q : ℕ) × (scan ≡ Bad q) × (1 + q ≡ place)
+pub moved_bad : (scan : Scan (List ℕ)) (place : ℕ) → moved 1 scan ≡ Bad place → (q : ℕ) × (scan ≡ Bad q) × (1 + q ≡ place)
 moved_bad (Whole t a) place e = absurd (cc)
 moved_bad Short place e = absurd (cc)
 moved_bad (Bad q) place e = (q, refl, cc)

@@ -100,7 +100,7 @@ none_valid : utf8_valid_len [] ≡ 0
 unfolding utf8_valid_len
 none_valid = refl
 
-behind_none : (scan : Scan (List ℕ)) → behind [] 0 scan ≡ scan
+pub behind_none : (scan : Scan (List ℕ)) → behind [] 0 scan ≡ scan
 behind_none (Whole t n) = ap (Whole t) (omega arith)
 behind_none Short = refl
 behind_none (Bad n) = ap Bad (omega arith)
@@ -123,7 +123,7 @@ escape_on rest = stop_here 92 rest refl ∙ at_escape (92 ∷ rest) (omega arith
 
 -- ---- escapes of one letter
 
-short_is : (letter c : ℕ) → IsShort letter c → (short_escape letter ≡ Some c) × ((letter == 117) ≡ false)
+pub short_is : (letter c : ℕ) → IsShort letter c → (short_escape letter ≡ Some c) × ((letter == 117) ≡ false)
 unfolding short_escape
 short_is letter c (inl (e, inl q)) = (ap (λ x. short_escape x) q ∙ ap Some (sym q ∙ e), ap (λ x. x == 117) q)
 short_is letter c (inl (e, inr (inl q))) = (ap (λ x. short_escape x) q ∙ ap Some (sym q ∙ e), ap (λ x. x == 117) q)
@@ -184,7 +184,7 @@ pub record Four (digits : List ℕ) (code : ℕ) : Type 0 where
   pub fourth : digit_value d ≤ 15
   pub value : digit_value a * 4096 + digit_value b * 256 + digit_value c * 16 + digit_value d ≡ code
 
-four_of : (digits : List ℕ) (code : ℕ) → IsUnit digits code → Four digits code
+pub four_of : (digits : List ℕ) (code : ℕ) → IsUnit digits code → Four digits code
 four_of digits code (a, b, c, d, m, n, o, p, is, hm, hn, ho, hp, value) =
     let e = hex_value a m hm in
     let f = hex_value b n hn in

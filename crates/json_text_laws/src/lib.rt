@@ -3,13 +3,14 @@
 //! Each law is the contract of a function that does nothing. The code rests on none of them.
 #![tactic(auto)]
 
-ghost use Rattle.std.specs.Prelude.{◌≡◌, ◌↔◌, ◌≤ℤ◌, pos, negsuc, ℕ, ℤ, List, ◌++◌};
+ghost use Rattle.std.specs.Prelude.{◌≡◌, ◌≤ℤ◌, pos, negsuc, ℕ, ℤ, List, ◌++◌};
 ghost use Rattle.json_text.specs.Int.{int_at};
 ghost use Rattle.json_text.specs.Blob.{blob_at};
 ghost use Rattle.json_text.specs.Text.{text_at};
-ghost use Rattle.json_text.specs.declared.scanned.Scan.TheVariants.{Whole, Bad};
+ghost use Rattle.json_text.specs.declared.scanned.Scan.TheVariants.{Bad};
 ghost use Rattle.json_text.specs.Number.{number_at};
 ghost use Rattle.json_text_laws.specs.Judged.{Judges, NoneGood, GoodInt, GoodNumber, GoodBlob, GoodText};
+ghost use Rattle.json_text_laws.specs.Strings.{JudgesText};
 
 /// An integer is read exactly where the longest run of digits and `-` spells one of the range. Else the scan is `Short`
 /// exactly where some continuation of the bytes makes it one.
@@ -31,9 +32,11 @@ pub fn base64_is_judged()
 {}
 
 /// A string is read whole exactly where a front of the bytes is a JSON string, and its value is the text that its pieces
-/// mean.
-pub fn strings_are_read()
-    ensures { (bytes meant : List ℕ) (after : ℕ) → (text_at bytes ≡ Whole meant after) ↔ GoodText bytes meant after }
+/// mean. Else the scan is `Short` exactly where some continuation of the bytes makes one good. It is `Bad(place)` exactly
+/// where a fault stands at that place: the opening quote is called for there or, behind whole pieces, a piece or the closing
+/// quote, and the bytes up to that item's end, as far as there are any, have no continuation that is good.
+pub fn strings_are_judged()
+    ensures { (bytes : List ℕ) → JudgesText bytes (text_at bytes) }
 {}
 
 /// Where the scan of a string is `Bad`, no continuation of the bytes has a front that is a JSON string, and the place stays
