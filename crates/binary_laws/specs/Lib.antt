@@ -1,0 +1,4 @@
+-- What it is to read a whole frame.
+pub mod Bytes
+pub mod Reads
+pub mod Refused
