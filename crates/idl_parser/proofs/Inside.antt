@@ -1,5 +1,5 @@
 -- Tokens that stand in order in a text lie inside it.
-use Rattle.std.proofs.Common.{ℕ, zero, suc, ◌+◌, ◌<◌, ◌≤◌, List, [], ◌∷◌, length, get_or, arith, subst, sym, ◌≡◌}
+use Rattle.std.proofs.Common.{ℕ, zero, suc, ◌+◌, ◌≤◌, List, [], ◌∷◌, arith}
 use Rattle.idl_lexer.specs.declared.token.Token.{Token}
 use Rattle.idl_lexer.specs.Tokens.{Spans}
 use Rattle.idl_parser.specs.Seeing.{IsInside}

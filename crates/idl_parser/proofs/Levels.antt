@@ -1,5 +1,5 @@
 -- Types and values are read without a case on the levels.
-use Rattle.std.proofs.Common.{◌≡◌, ℕ, zero, suc, ◌+◌, ◌-◌, ◌==◌, List, drop, refl, ap, arith, Bool, true, false, cond, Ok}
+use Rattle.std.proofs.Common.{◌≡◌, ℕ, zero, suc, ◌-◌, List, drop, refl, ap, arith, Ok}
 use Rattle.idl_parser.specs.declared.tokens.Lexeme.{Lexeme}
 use Rattle.idl_parser.specs.declared.tokens.Lexeme.TheVariants as lexemes
 use Rattle.idl_parser.specs.declared.words.Keyword.TheVariants as keywords

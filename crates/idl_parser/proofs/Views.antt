@@ -1,5 +1,5 @@
 -- How the tokens behind some are seen, and which forms are marks.
-use Rattle.std.proofs.Common.{◌≡◌, ℕ, ◌-◌, ◌+◌, ◌≤◌, List, length, length-drop, take, drop, map, refl, ap, sym, ◌∙◌, arith, Option, Some, None}
+use Rattle.std.proofs.Common.{◌≡◌, ℕ, ◌-◌, ◌+◌, ◌≤◌, List, length, length-drop, take, drop, refl, ap, sym, ◌∙◌, arith, Option, Some, None}
 use Rattle.std.proofs.lemmas.Grind.{common_steps}
 use Rattle.std.proofs.lemmas.List.{drop-map, length-map}
 use Rattle.idl_lexer.specs.declared.token.Token.{Token}
@@ -7,7 +7,7 @@ use Rattle.idl_parser.specs.declared.words.Keyword.{Keyword}
 use Rattle.idl_parser.specs.Lexemes.{rest_of, stands_by}
 use Rattle.idl_parser.specs.Seeing.{seen_all, seen_of, word_lexeme}
 use Rattle.idl_parser.specs.Seen.{Seen, Input}
-use Rattle.std.specs.Prelude.{Bool, false}
+use Rattle.std.specs.Prelude.{false}
 
 rest_is : (tokens : List Token) (n : ℕ) → take (length tokens - n) (drop n tokens) ≡ drop n tokens
 rest_is tokens n = grind (arith, common_steps)

@@ -1,9 +1,9 @@
 -- Single tokens, and parts that have no meaning.
-use Rattle.std.specs.Prelude.{ℕ, List, drop, Ok, Option, Some, None, ◌+◌, Bool, count_by, ◌==◌, if◌then◌else◌}
+use Rattle.std.specs.Prelude.{ℕ, List, drop, Ok, if◌then◌else◌}
 use Rattle.idl_parser.specs.declared.tokens.Lexeme.{Lexeme}
 use Rattle.idl_parser.specs.declared.tokens.Lexeme.TheVariants as lexemes
 use Rattle.idl_parser.specs.declared.words.Keyword.TheVariants as keywords
-use Rattle.idl_parser.specs.Lexemes.{Scan, lexeme_of, offset_of, word_of, syntax_at, onward, mark_at, stands}
+use Rattle.idl_parser.specs.Lexemes.{Scan, lexeme_of, syntax_at, onward, stands}
 use Rattle.idl_parser.specs.Seen.{Seen}
 
 abbrev pub literal_by : Lexeme → ℕ → List Seen → Scan (Unit {0})

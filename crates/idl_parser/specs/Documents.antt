@@ -1,6 +1,5 @@
 -- The document of a text, or its first fault.
 use Rattle.std.specs.Prelude.{◌≡◌, ℕ, ◌+◌, List, [], ◌∷◌, length, drop, if◌then◌else◌, Bool, true, false, Option, Some, None, Result, Ok, Err}
-use Rattle.idl_lexer.specs.declared.token.Token.{Token}
 use Rattle.idl_lexer.specs.Tokens.{Read, tokens_of}
 use Rattle.idl_parser.specs.declared.document.Document.{Document}
 use Rattle.idl_parser.specs.declared.document.Name.{Name}

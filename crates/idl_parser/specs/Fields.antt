@@ -1,7 +1,6 @@
 -- Names that are declared, and fields, in a list of tokens.
-use Rattle.std.specs.Prelude.{ℕ, ℤ, ◌+◌, ◌==◌, not, if◌then◌else◌, List, drop, map, Option, Some, None, option_map, Ok, Bool}
+use Rattle.std.specs.Prelude.{ℕ, ℤ, ◌+◌, ◌==◌, if◌then◌else◌, List, drop, map, Option, Some, None, option_map, Ok, Bool}
 use Rattle.std.specs.List.{list_any}
-use Rattle.gate_io.specs.declared.lists.Text.{Text}
 use Rattle.idl_parser.specs.declared.document.Asked.{Asked}
 use Rattle.idl_parser.specs.declared.document.Asked.TheVariants as asks
 use Rattle.idl_parser.specs.declared.document.FieldDecl.{FieldDecl}

@@ -1,5 +1,5 @@
 //! The document of a whole text.
-ghost use Rattle.std.specs.Prelude.{◌≡◌, length};
+ghost use Rattle.std.specs.Prelude.{◌≡◌, ◌≤◌, length, IfOk};
 ghost use Rattle.idl_parser.specs.Documents.{document_at, document_tree, parsed, Parses};
 ghost use Rattle.idl_parser.specs.Lexemes.{Gives, IsUpTo};
 
@@ -14,7 +14,8 @@ use std::alloc::Global;
 /// The document of a text, after the Apache Thrift IDL grammar, or its first fault.
 #[tactic(auto, unfolding(crate::specs::Documents::parsed))]
 pub fn parse(alloc: Global, text: &[u8]) -> Result<Document, ParseError>
-    ensures { Parses result (parsed text.now) }
+    ensures exact { Parses result (parsed text.now) }
+    ensures few { IfOk result (λ document. length document.definitions ≤ length text.now) }
 {
     let tokens = match lex(alloc, text) {
         Ok(tokens) => tokens,

@@ -1,8 +1,8 @@
-use Rattle.std.proofs.Common.{◌∙◌, ap, sym, refl, List, [], ◌∷◌, ◌++◌, ◌-◌, ℕ}
+use Rattle.std.proofs.Common.{◌∙◌, ap, sym, [], ◌∷◌}
 use Rattle.idl_parser.specs.declared.document.Definition.{Definition}
 use Rattle.idl_parser.specs.Declarations.{one_definition, definition_tree, definition_trees}
 use Rattle.idl_parser.specs.Lexemes.{is_left}
-use Rattle.idl_parser.proofs.Listed.{map_push, stop_listed, turned, kept}
+use Rattle.idl_parser.proofs.Listed.{map_push, stop_listed}
 use Rattle.idl_parser.specs.Run.{listed}
 use Rattle.idl_parser.proofs.Running.{goes, gives_up, ends, ends_within}
 use Rattle.idl_parser.proofs.definitions.definitions.Goals as goal

@@ -1,4 +1,4 @@
-use Rattle.std.proofs.Common.{◌∙◌, ap, sym, refl, List, [], ◌∷◌, ◌++◌, ◌-◌, ℕ}
+use Rattle.std.proofs.Common.{◌∙◌, ap, [], ◌∷◌}
 use Rattle.idl_parser.specs.Notes.{not_closed}
 use Rattle.idl_parser.specs.declared.document.Function.{Function}
 use Rattle.idl_parser.specs.Declarations.{one_function, function_tree, function_trees}

@@ -1,7 +1,6 @@
-use Rattle.std.proofs.Common.{◌∙◌, ap, sym, refl, List, [], ◌∷◌, ◌++◌, ◌-◌, ℕ}
+use Rattle.std.proofs.Common.{◌∙◌, sym}
 use Rattle.idl_parser.specs.Documents.{is_header, header_at, listed_path}
 use Rattle.idl_parser.specs.Lexemes.{itself}
-use Rattle.idl_parser.proofs.Listed.{turned, kept}
 use Rattle.idl_parser.proofs.Running.{goes, gives_up, ends, ends_within}
 use Rattle.idl_parser.proofs.headers.headers.Goals as goal
 

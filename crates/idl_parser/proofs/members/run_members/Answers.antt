@@ -1,9 +1,9 @@
-use Rattle.std.proofs.Common.{◌∙◌, ap, sym, refl, List, [], ◌∷◌, ◌++◌, ◌-◌, ℕ}
+use Rattle.std.proofs.Common.{ap, [], ◌∷◌}
 use Rattle.idl_parser.specs.Notes.{not_closed}
 use Rattle.idl_parser.specs.declared.document.Member.{Member}
 use Rattle.idl_parser.specs.Declarations.{one_member}
 use Rattle.idl_parser.specs.Lexemes.{itself}
-use Rattle.idl_parser.proofs.Listed.{map_push, stop_listed, turned, kept}
+use Rattle.idl_parser.proofs.Listed.{stop_listed, turned, kept}
 use Rattle.idl_parser.specs.Run.{listed}
 use Rattle.idl_parser.proofs.Running.{goes, gives_up, ends, ends_within}
 use Rattle.idl_parser.proofs.members.run_members.Goals as goal

@@ -1,4 +1,4 @@
-use Rattle.std.proofs.Common.{◌∙◌, ap, sym, refl, List, [], ◌∷◌, ◌++◌, ◌-◌, ℕ}
+use Rattle.std.proofs.Common.{refl, []}
 use Rattle.idl_parser.specs.Notes.{not_closed, note_at, nothing}
 use Rattle.idl_parser.proofs.Listed.{turned, kept}
 use Rattle.idl_parser.proofs.Running.{goes, gives_up, ends, ends_within}

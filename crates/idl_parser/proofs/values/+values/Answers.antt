@@ -1,4 +1,4 @@
-use Rattle.std.proofs.Common.{◌∙◌, ap, sym, refl, List, [], ◌∷◌, ◌++◌, ◌-◌, ℕ}
+use Rattle.std.proofs.Common.{List, ◌-◌}
 use Rattle.idl_parser.specs.Notes.{not_closed}
 use Rattle.std.proofs.Common.{subst}
 use Rattle.idl_parser.specs.Item.{ValueItem}
