@@ -1,0 +1,11 @@
+pub mod Chasing
+pub mod Counting
+pub mod First
+pub mod Indexed
+pub mod Last
+pub mod Looking
+pub mod Named
+pub mod Noting
+pub mod Reaching
+pub mod Rounds
+pub mod Spots

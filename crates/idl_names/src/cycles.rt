@@ -1,0 +1,183 @@
+//! Typedefs and services that lead round.
+ghost use Rattle.std.specs.Prelude.{◌≡◌, ◌<◌, ◌^◌, IfOk, length, slice_get, unwrap_or};
+ghost use Rattle.idl_names.specs.Cycles.{AreSettled, IsTold, RowTells, TellsAny, TellsCycles, cycle_at, is_absent, is_on};
+ghost use Rattle.idl_names.specs.Files.{file_trees};
+
+use crate::documents::Spot;
+use crate::leading::reached;
+use crate::names::Names;
+use crate::settled::settled;
+use crate::spot_set::SpotSet;
+use gate_io::OutOfMemory;
+use std::alloc::Global;
+use std::marker::Model;
+
+/// How a definition stands to cycles: a typedef leads to what its type names, also within containers, and a service to the
+/// one that it extends.
+#[derive(Clone, Copy, Debug, PartialEq, Eq)]
+pub enum Cycle {
+    /// It leads into none.
+    Absent,
+    /// It leads into one, and not to itself.
+    Ahead,
+    /// It leads to itself.
+    On,
+}
+
+/// How each definition of each file stands to cycles.
+#[derive(Drop)]
+pub struct Cycles {
+    rows: Vec<CycleRow>,
+}
+
+/// The definitions of one file.
+#[derive(Drop)]
+struct CycleRow {
+    list: Vec<Cycle>,
+}
+
+impl Model for CycleRow {
+    ghost use Rattle.std.specs.Prelude.{List};
+    ghost use Rattle.idl_names.specs.declared.cycles.Cycle.{Cycle};
+
+    ghost Value = { List Cycle };
+
+    ghost view = { λ r. r.list.items };
+}
+
+impl Model for Cycles {
+    ghost use Rattle.std.specs.Prelude.{List};
+    ghost use Rattle.idl_names.specs.declared.cycles.Cycle.{Cycle};
+
+    ghost Value = { List (List Cycle) };
+
+    ghost view = { λ c. c.rows.items };
+}
+
+impl Cycles {
+    /// Finds how each definition of these files stands to cycles.
+    ///
+    /// `OutOfMemory`: the memory for it was not found.
+    pub fn find(alloc: Global, names: &Names<'_>) -> Result<Cycles, OutOfMemory>
+        ensures { IfOk result (λ cycles. TellsCycles (file_trees names.now.files.now) cycles) }
+    {
+        let settled = settled(alloc, names)?;
+        let mut rows = Vec::new(alloc);
+        for (place, file) in names.files.iter().enumerate() {
+            let count = file.document.definitions.as_slice().len();
+            let row = row_of(alloc, names, &settled, place as u32, count)?;
+            rows.push(row)?;
+        }
+        Ok(Cycles { rows })
+    }
+
+    /// How the definition at a spot stands to cycles.
+    pub fn at(&self, spot: Spot) -> Cycle
+        ensures { result ≡ cycle_at self.now spot }
+    {
+        match self.rows.get(spot.file as usize) {
+            None => Cycle::Absent,
+            Some(row) => row.at(spot.definition),
+        }
+    }
+}
+
+impl CycleRow {
+    fn at(&self, place: u32) -> Cycle
+        ensures { result ≡ unwrap_or (slice_get self.now place) Cycle.Absent }
+    {
+        match self.list.get(place as usize) {
+            None => Cycle::Absent,
+            Some(cycle) => *cycle,
+        }
+    }
+}
+
+impl Cycle {
+    pub(crate) fn is_on(self) -> bool
+        ensures { result ≡ is_on self }
+    {
+        match self {
+            Cycle::Absent => false,
+            Cycle::Ahead => false,
+            Cycle::On => true,
+        }
+    }
+
+    pub(crate) fn is_absent(self) -> bool
+        ensures { result ≡ is_absent self }
+    {
+        match self {
+            Cycle::Absent => true,
+            Cycle::Ahead => false,
+            Cycle::On => false,
+        }
+    }
+}
+
+fn row_of(
+    alloc: Global,
+    names: &Names<'_>,
+    settled: &SpotSet,
+    file: u32,
+    count: usize,
+) -> Result<CycleRow, OutOfMemory>
+    requires few { count < 2 ^ 32 }
+    requires settled { AreSettled (file_trees names.now.files.now) settled.now }
+    ensures { IfOk result (λ row. RowTells (file_trees names.now.files.now) file count row) }
+{
+    let mut list = Vec::new(alloc);
+    for place in 0..count {
+        let spot = Spot {
+            file,
+            definition: place as u32,
+        };
+        let cycle = cycle_of(alloc, names, settled, spot)?;
+        list.push(cycle)?;
+    }
+    Ok(CycleRow { list })
+}
+
+fn cycle_of(
+    alloc: Global,
+    names: &Names<'_>,
+    settled: &SpotSet,
+    spot: Spot,
+) -> Result<Cycle, OutOfMemory>
+    requires { AreSettled (file_trees names.now.files.now) settled.now }
+    ensures { IfOk result (λ cycle. IsTold (file_trees names.now.files.now) spot cycle) }
+{
+    if settled.contains(spot) {
+        return Ok(Cycle::Absent);
+    }
+    walked(alloc, names, spot)
+}
+
+// The answer of a walk along all that a definition leads to.
+fn walked(alloc: Global, names: &Names<'_>, spot: Spot) -> Result<Cycle, OutOfMemory>
+    ensures { IfOk result (λ cycle. IsTold (file_trees names.now.files.now) spot cycle) }
+{
+    let set = reached(alloc, names, spot)?;
+    if set.contains(spot) {
+        return Ok(Cycle::On);
+    }
+    if any_round(alloc, names, &set)? {
+        return Ok(Cycle::Ahead);
+    }
+    Ok(Cycle::Absent)
+}
+
+// Whether one of these leads to itself.
+fn any_round(alloc: Global, names: &Names<'_>, set: &SpotSet) -> Result<bool, OutOfMemory>
+    ensures { IfOk result (λ found. TellsAny (file_trees names.now.files.now) set.now found) }
+{
+    let mut i = 0;
+    'spots: while let Some(spot) = set.get(i) {
+        let further = reached(alloc, names, spot)?;
+        if further.contains(spot) {
+            return Ok(true);
+        }
+        i += 1;
+    }
+    Ok(false)
+}

@@ -1,0 +1,102 @@
+//! What definitions lead to.
+ghost use Rattle.std.specs.Prelude.{◌≡◌, IfOk, OnOk};
+ghost use Rattle.idl_parser.specs.Declarations.{definition_tree};
+ghost use Rattle.idl_parser.specs.Trees.{type_tree};
+ghost use Rattle.idl_names.specs.Cycles.{IsReached, base_spots, definition_spots, next_spots, type_spots};
+ghost use Rattle.idl_names.specs.Files.{file_trees};
+ghost use Rattle.idl_names.specs.Sets.{listed_spot, with_all};
+
+use crate::documents::{Scope, Spot};
+use crate::names::Names;
+use crate::spot_set::SpotSet;
+use crate::targets::definition_at;
+use gate_io::OutOfMemory;
+use idl_parser::{Definition, Name, TypeExpr, TypeForm};
+use std::alloc::Global;
+
+/// The spots that a definition leads to, in one step or more.
+pub(crate) fn reached(alloc: Global, names: &Names<'_>, from: Spot) -> Result<SpotSet, OutOfMemory>
+    ensures { IfOk result (λ set. IsReached (file_trees names.now.files.now) from set) }
+{
+    let mut set = SpotSet::new(alloc);
+    add_next(names, from, &mut set)?;
+    let mut i = 0;
+    'spots: while let Some(spot) = set.get(i) {
+        add_next(names, spot, &mut set)?;
+        i += 1;
+    }
+    Ok(set)
+}
+
+/// Adds the spots that a definition leads to at once.
+pub(crate) fn add_next(names: &Names<'_>, spot: Spot, set: &mut SpotSet) -> Result<(), OutOfMemory>
+    ensures { OnOk result (set.new ≡ with_all set.old (next_spots (file_trees names.now.files.now) spot)) }
+{
+    match definition_at(names.files, spot) {
+        None => Ok(()),
+        Some(definition) => add_definition(names, spot.file, definition, set),
+    }
+}
+
+fn add_definition(
+    names: &Names<'_>,
+    file: u32,
+    definition: &Definition,
+    set: &mut SpotSet,
+) -> Result<(), OutOfMemory>
+    ensures { OnOk result (set.new ≡ with_all set.old (definition_spots (file_trees names.now.files.now) file (definition_tree definition.now))) }
+{
+    match definition {
+        Definition::Typedef(_, ty) => add_type(names, file, ty, set),
+        Definition::Service(_, base, _) => add_base(names, file, base, set),
+        Definition::Const(_, _, _) => Ok(()),
+        Definition::Enum(_, _) => Ok(()),
+        Definition::Struct(_, _, _) => Ok(()),
+    }
+}
+
+fn add_base(
+    names: &Names<'_>,
+    file: u32,
+    base: &Option<Name>,
+    set: &mut SpotSet,
+) -> Result<(), OutOfMemory>
+    ensures { OnOk result (set.new ≡ with_all set.old (base_spots (file_trees names.now.files.now) file base.now)) }
+{
+    match base {
+        None => Ok(()),
+        Some(name) => add_spot(
+            names.look_up(file, Scope::Services, name.text.as_slice()),
+            set,
+        ),
+    }
+}
+
+fn add_type(
+    names: &Names<'_>,
+    file: u32,
+    ty: &TypeExpr,
+    set: &mut SpotSet,
+) -> Result<(), OutOfMemory>
+    ensures { OnOk result (set.new ≡ with_all set.old (type_spots (file_trees names.now.files.now) file (type_tree ty.now))) }
+{
+    match &ty.form {
+        TypeForm::Base(_) => Ok(()),
+        TypeForm::Named(word) => add_spot(names.look_up(file, Scope::Types, word.as_slice()), set),
+        TypeForm::Map(key, value) => {
+            add_type(names, file, key, set)?;
+            add_type(names, file, value, set)
+        }
+        TypeForm::Set(element) => add_type(names, file, element, set),
+        TypeForm::List(element) => add_type(names, file, element, set),
+    }
+}
+
+fn add_spot(spot: Option<Spot>, set: &mut SpotSet) -> Result<(), OutOfMemory>
+    ensures { OnOk result (set.new ≡ with_all set.old (listed_spot spot)) }
+{
+    match spot {
+        None => Ok(()),
+        Some(spot) => set.insert(spot),
+    }
+}

@@ -1,0 +1,63 @@
+//! Spots, each once.
+ghost use Rattle.std.specs.Prelude.{◌≡◌, ◌<◌, ◌^◌, [], OnOk, IfSome, length, slice_get};
+ghost use Rattle.idl_names.specs.Sets.{is_among, with_spot};
+
+use crate::documents::Spot;
+use gate_io::OutOfMemory;
+use indexmap::IndexSet;
+use std::alloc::Global;
+use std::marker::Model;
+
+/// Spots in the order in which they were put in, each once.
+#[derive(Drop)]
+pub(crate) struct SpotSet {
+    spots: IndexSet<Spot>,
+}
+
+impl Model for SpotSet {
+    ghost use Rattle.std.specs.Prelude.{List};
+    ghost use Rattle.idl_names.specs.declared.documents.Spot.{Spot};
+
+    ghost Value = { List Spot };
+
+    ghost view = { λ s. s.spots.keys };
+}
+
+impl SpotSet {
+    /// The empty set. Takes no memory.
+    pub(crate) fn new(alloc: Global) -> SpotSet
+        ensures { result ≡ [] }
+    {
+        SpotSet {
+            spots: IndexSet::new(alloc),
+        }
+    }
+
+    /// Puts a spot last, unless it is there.
+    #[tactic(auto, unfolding(crate::specs::Sets::with_spot))]
+    pub(crate) fn insert(&mut self, spot: Spot) -> Result<(), OutOfMemory>
+        ensures { OnOk result (self.new ≡ with_spot self.old spot) }
+    {
+        self.spots.insert(spot)?;
+        Ok(())
+    }
+
+    /// Whether a spot is there.
+    pub(crate) fn contains(&self, spot: Spot) -> bool
+        ensures { result ≡ is_among spot self.now }
+    {
+        self.spots.contains(&spot)
+    }
+
+    /// The spot at a place.
+    pub(crate) fn get(&self, place: usize) -> Option<Spot>
+        ensures value { result ≡ slice_get self.now place }
+        ensures small { IfSome result (λ spot. place < 2 ^ 63) }
+    {
+        if place < self.spots.len() {
+            self.spots.get_index(place).copied()
+        } else {
+            None
+        }
+    }
+}
