@@ -1,4 +1,5 @@
 pub mod Adding
+pub mod Ending
 pub mod Kept
 pub mod Looked
 pub mod Methods

@@ -1,5 +1,6 @@
 -- Look-ups in a map whose keys are bytes.
-use Rattle.std.proofs.Common.{◌≡◌, ℕ, suc, ◌+◌, List, [], ◌∷◌, ◌++◌, length, refl, ap, ◌∙◌, arith, Bool, true, false, cond, Option, Some, None, position, nat_eq, nat_lt, Vec, Global, not}
+use Rattle.std.proofs.Common.{◌≡◌, ℕ, zero, suc, ◌+◌, List, [], ◌∷◌, ◌++◌, length, refl, ap, ◌∙◌, arith, Bool, true, false, cond, Option, Some, None, position, nat_eq, nat_lt, Vec, Global, not}
+use Rattle.std.specs.Prelude.{option_map, slice_get}
 use Rattle.indexmap.specs.IndexMap.{insert_entry}
 use Rattle.std.specs.Cmp.Lexicographic.{pointwise}
 use Rattle.std.specs.List.{position_or_len}
@@ -59,3 +60,12 @@ module _ {X : Type 0} where
   pushed es new old name key value v k n e =
       let fresh : name_place key.items (named es) ≡ None = ap (λ (m : List ℕ). name_place m (named es)) k ∙ ap (name_place name) v ∙ n in
       ap named (e ∙ appended es key value fresh) ∙ named_push es key value ∙ ap (λ (xs : List (List ℕ × X)). xs ++ (key.items, value) ∷ []) v ∙ ap (λ (m : List ℕ). old ++ (m, value) ∷ []) k
+
+  pub named_length : (es : List (Vec ℕ Global × X)) → length (named es) ≡ length es
+  named_length [] = refl
+  named_length (e ∷ es) = ap (λ (n : ℕ). suc n) (named_length es)
+
+  pub named_get : (es : List (Vec ℕ Global × X)) (k : ℕ) → option_map (λ (e : List ℕ × X). e.1) (slice_get (named es) k) ≡ option_map (λ (e : Vec ℕ Global × X). e.1) (slice_get es k)
+  named_get [] k = refl
+  named_get (e ∷ es) zero = refl
+  named_get (e ∷ es) (suc k) = named_get es k

@@ -33,6 +33,10 @@ with_enum d members = record d { enums = d.enums ++ members ∷ [] }
 abbrev pub with_struct : Declarations → Form → Declarations
 with_struct d form = record d { structs = d.structs ++ record { form = form; fields = [] } ∷ [] }
 
+-- a struct with its fields last
+abbrev pub with_fields : Declarations → Form → List FieldInfo → Declarations
+with_fields d form fields = record d { structs = d.structs ++ record { form = form; fields = fields } ∷ [] }
+
 -- one field more of a struct
 abbrev pub with_field : Declarations → ℕ → FieldInfo → Declarations
 with_field d s field = record d { structs = structs_with d.structs s (fields_of d.structs s ++ field ∷ []) }

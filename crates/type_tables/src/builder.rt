@@ -1,7 +1,7 @@
 //! What builds a schema: each thing is added with the number that it then has.
-ghost use Rattle.std.specs.Prelude.{◌≡◌, ◌<◌, ◌+◌, ◌^◌, IfOk, OnOk, OnErr, length};
+ghost use Rattle.std.specs.Prelude.{◌≡◌, IsTrue, ◌<◌, ◌+◌, ◌^◌, IfOk, OnOk, OnErr, length};
 ghost use Rattle.type_tables.specs.Adding.{Adds};
-ghost use Rattle.type_tables.specs.Declarations.{with_type, with_enum, with_struct, with_field, with_service, with_method, with_files};
+ghost use Rattle.type_tables.specs.Declarations.{with_type, with_enum, with_struct, with_fields, with_field, with_service, with_method, with_files};
 ghost use Rattle.type_tables.specs.Fields.{place_of};
 ghost use Rattle.type_tables.specs.Known.{built_in, IsClosed, IsAcyclic};
 ghost use Rattle.type_tables.specs.Names.{name_place};
@@ -9,9 +9,11 @@ ghost use Rattle.type_tables.specs.Roots.{named_place};
 ghost use Rattle.type_tables.specs.Services.{methods_of};
 ghost use Rattle.type_tables.specs.Structs.{fields_of};
 
+use crate::closing;
 use crate::declared::{
     AddFault, EnumId, FieldInfo, Form, MethodInfo, Need, ServiceId, StructId, Ty, TyId,
 };
+use crate::fields::FieldList;
 use crate::schema::Schema;
 use crate::tables::Tables;
 use gate_io::{OutOfMemory, Text};
@@ -74,6 +76,16 @@ impl SchemaBuilder {
         self.tables.add_struct(self.alloc, form)
     }
 
+    /// Adds a struct with all its fields.
+    pub fn add_struct(&mut self, form: Form, fields: FieldList) -> Result<StructId, OutOfMemory>
+        requires { length self.old.structs + 1 < 2 ^ 32 }
+        ensures number { IfOk result (λ id. id.0 ≡ length self.old.structs) }
+        ensures ok { OnOk result (self.new ≡ with_fields self.old form fields) }
+        ensures err { OnErr result (self.new ≡ self.old) }
+    {
+        self.tables.add_fields(form, fields)
+    }
+
     /// Adds an enum with the numbers of its members.
     pub fn add_enum(&mut self, members: &[i32]) -> Result<EnumId, OutOfMemory>
         requires { length self.old.enums + 1 < 2 ^ 32 }
@@ -117,6 +129,48 @@ impl SchemaBuilder {
         ensures { Adds (name_place name (methods_of self.old.services s.0)) self.old self.new (λ u. with_method self.old s.0 name m) result }
     {
         self.tables.add_method(s, name, m)
+    }
+
+    /// Whether there is room for one more of each kind of things.
+    pub fn has_room(&self) -> bool
+        ensures types { IsTrue result → length self.now.types + 1 < 2 ^ 32 }
+        ensures enums { IsTrue result → length self.now.enums + 1 < 2 ^ 32 }
+        ensures structs { IsTrue result → length self.now.structs + 1 < 2 ^ 32 }
+        ensures services { IsTrue result → length self.now.services + 1 < 2 ^ 32 }
+    {
+        self.tables.has_room()
+    }
+
+    /// How many types are parts of others.
+    pub fn type_count(&self) -> usize
+        ensures { result ≡ length self.now.types }
+    {
+        self.tables.types.len()
+    }
+
+    /// How many structs there are, the built-in one with them.
+    pub fn struct_count(&self) -> usize
+        ensures { result ≡ length self.now.structs }
+    {
+        self.tables.structs.len()
+    }
+
+    /// Whether each number that was handed in is one of this schema's. Takes no memory.
+    pub fn is_closed(&self) -> bool
+        ensures { IsTrue result → IsClosed self.now }
+    {
+        closing::is_closed(&self.tables)
+    }
+
+    /// Whether no service leads back to itself.
+    ///
+    /// `OutOfMemory`: the memory for a number of each service was not found.
+    pub fn is_ending(&self) -> Result<bool, OutOfMemory>
+        ensures { IfOk result (λ ending. IsTrue ending → IsAcyclic self.now.services) }
+    {
+        let services = self.tables.services.as_slice();
+        let ranks = closing::ranks(self.alloc, services)?;
+        Ok(closing::is_ranked(services, ranks.as_slice()))
     }
 
     /// The schema of so many files. Takes no memory.

@@ -1,5 +1,5 @@
 //! The fields of one struct, in the order of their declaration, found by their ids.
-ghost use Rattle.std.specs.Prelude.{◌≡◌, ◌++◌, ◌∷◌, ◌≤◌, ◌<◌, ◌+◌, ◌^◌, [], length, option_copied, slice_get, int_lt};
+ghost use Rattle.std.specs.Prelude.{◌≡◌, ◌↔◌, IsTrue, ◌++◌, ◌∷◌, ◌≤◌, ◌<◌, ◌+◌, ◌^◌, [], length, option_copied, slice_get, int_lt};
 ghost use Rattle.type_tables.specs.Adding.{Adds};
 ghost use Rattle.type_tables.specs.Fields.{rank, same_id, place_in, at_rank, place_of, at_place, Rising};
 
@@ -34,7 +34,8 @@ impl Model for FieldList {
 }
 
 impl FieldList {
-    pub(crate) fn new(alloc: Global) -> FieldList
+    /// The empty list. Takes no memory.
+    pub fn new(alloc: Global) -> FieldList
         ensures { result ≡ [] }
     {
         FieldList {
@@ -47,6 +48,19 @@ impl FieldList {
         ensures { result ≡ length self.now }
     {
         self.list.len()
+    }
+
+    pub(crate) fn as_slice(&self) -> &[FieldInfo]
+        ensures { result.now ≡ self.now }
+    {
+        self.list.as_slice()
+    }
+
+    /// Whether there is room for one more.
+    pub fn has_room(&self) -> bool
+        ensures { IsTrue result ↔ (length self.now + 1 < 2 ^ 32) }
+    {
+        self.list.len() < 4294967295
     }
 
     /// The place of the field with this id.
@@ -73,14 +87,15 @@ impl FieldList {
         }
     }
 
-    /// Adds a field behind the others. The growths come first.
-    pub(crate) fn push(&mut self, field: FieldInfo) -> Result<(), AddFault>
+    /// Adds a field behind the others. `Duplicate` tells the place of the field that has this id.
+    pub fn push(&mut self, field: FieldInfo) -> Result<(), AddFault>
         requires { length self.old + 1 < 2 ^ 32 }
         ensures { Adds (place_of field.id self.old) self.old self.new (λ u. self.old ++ field ∷ []) result }
     {
         if let Some(first) = self.place(field.id) {
             return Err(AddFault::Duplicate(first));
         }
+        // The growths come first.
         let at = self.list.len() as u32;
         let id = field.id;
         if self.list.reserve(1).is_err() {

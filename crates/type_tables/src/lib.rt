@@ -4,6 +4,7 @@
 #![tactic(auto)]
 
 mod builder;
+mod closing;
 mod declared;
 mod fields;
 mod members;
@@ -17,4 +18,5 @@ pub use builder::SchemaBuilder;
 pub use declared::{
     AddFault, Counts, EnumId, FieldInfo, Form, MethodInfo, Need, ServiceId, StructId, Ty, TyId,
 };
+pub use fields::FieldList;
 pub use schema::Schema;

@@ -1,5 +1,5 @@
 //! Things found by their names, in the order of their declaration.
-ghost use Rattle.std.specs.Prelude.{◌≡◌, ◌++◌, ◌∷◌, [], OnErr, OnOk, None};
+ghost use Rattle.std.specs.Prelude.{◌≡◌, ◌++◌, ◌∷◌, [], OnErr, OnOk, None, length, option_copied, option_map, slice_get};
 ghost use Rattle.type_tables.specs.Names.{value_of, name_place};
 
 use gate_io::{OutOfMemory, Text};
@@ -43,6 +43,22 @@ impl<T: Copy + Drop> NameTable<T> {
         ensures { result ≡ name_place name.now self.now }
     {
         self.entries.get_index_of(name)
+    }
+
+    pub(crate) fn len(&self) -> usize
+        ensures { result ≡ length self.now }
+    {
+        self.entries.len()
+    }
+
+    /// The thing at a place.
+    pub(crate) fn at(&self, place: usize) -> Option<&T>
+        ensures { option_copied result ≡ option_map (λ e. e.1) (slice_get self.now place) }
+    {
+        match self.entries.get_index(place) {
+            Some((_, thing)) => Some(thing),
+            None => None,
+        }
     }
 
     /// Puts a thing with a new name last.

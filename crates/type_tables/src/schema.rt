@@ -1,5 +1,5 @@
 //! A finished schema, and what it knows.
-ghost use Rattle.std.specs.Prelude.{◌≡◌, ◌↔◌, ◌<◌, IsTrue, IfSome, Contains, count_by, length, option_copied, slice_get, Some};
+ghost use Rattle.std.specs.Prelude.{◌≡◌, ◌↔◌, ◌<◌, IsTrue, IfSome, Contains, count_by, length, option_copied, slice_get, nat_lt, Some};
 ghost use Rattle.type_tables.specs.Declarations.{with_files};
 ghost use Rattle.type_tables.specs.Fields.{field_in};
 ghost use Rattle.type_tables.specs.Known.{IsBuilt, IsClosed, IsAcyclic, IsKnown, IsKnownMethod, failure_struct};
@@ -39,6 +39,13 @@ impl Schema {
         let mut tables = tables;
         tables.set_files(files);
         Schema { tables }
+    }
+
+    /// Whether a struct has this number.
+    pub fn has_struct(&self, s: StructId) -> bool
+        ensures { result ≡ nat_lt s.0 (length self.now.structs) }
+    {
+        (s.0 as usize) < self.tables.structs.len()
     }
 
     /// The field of a struct that has this id.

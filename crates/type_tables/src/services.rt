@@ -50,6 +50,12 @@ impl ServiceList {
         self.list.len()
     }
 
+    pub(crate) fn as_slice(&self) -> &[ServiceDecl]
+        ensures { result.now ≡ self.now.list }
+    {
+        self.list.as_slice()
+    }
+
     /// The service of this name.
     pub(crate) fn find(&self, name: &[u8]) -> Option<ServiceId>
         ensures { result ≡ value_of name.now self.now.names }

@@ -1,7 +1,7 @@
 //! The tables of a schema, in the order of their numbers.
-ghost use Rattle.std.specs.Prelude.{◌≡◌, ◌<◌, ◌+◌, ◌^◌, IfOk, OnOk, OnErr, length};
+ghost use Rattle.std.specs.Prelude.{◌≡◌, ◌↔◌, IsTrue, ◌<◌, ◌+◌, ◌^◌, IfOk, OnOk, OnErr, length};
 ghost use Rattle.type_tables.specs.Adding.{Adds};
-ghost use Rattle.type_tables.specs.Declarations.{nothing, with_type, with_enum, with_struct, with_field, with_service, with_method, with_files};
+ghost use Rattle.type_tables.specs.Declarations.{nothing, with_type, with_enum, with_struct, with_fields, with_field, with_service, with_method, with_files};
 ghost use Rattle.type_tables.specs.Fields.{place_of};
 ghost use Rattle.type_tables.specs.Names.{name_place};
 ghost use Rattle.type_tables.specs.Roots.{named_place};
@@ -79,6 +79,21 @@ impl Tables {
         Ok(StructId(id))
     }
 
+    pub(crate) fn add_fields(
+        &mut self,
+        form: Form,
+        fields: FieldList,
+    ) -> Result<StructId, OutOfMemory>
+        requires { length self.old.structs + 1 < 2 ^ 32 }
+        ensures number { IfOk result (λ s. s.0 ≡ length self.old.structs) }
+        ensures ok { OnOk result (self.new ≡ with_fields self.old form fields) }
+        ensures err { OnErr result (self.new ≡ self.old) }
+    {
+        let id = self.structs.len() as u32;
+        self.structs.push(StructDecl { form, fields })?;
+        Ok(StructId(id))
+    }
+
     pub(crate) fn add_enum(&mut self, alloc: Global, members: &[i32]) -> Result<EnumId, OutOfMemory>
         requires { length self.old.enums + 1 < 2 ^ 32 }
         ensures number { IfOk result (λ e. e.0 ≡ length self.old.enums) }
@@ -123,9 +138,27 @@ impl Tables {
         self.services.add_method(s, name, method)
     }
 
+    pub(crate) fn has_room(&self) -> bool
+        ensures types { IsTrue result → length self.now.types + 1 < 2 ^ 32 }
+        ensures enums { IsTrue result → length self.now.enums + 1 < 2 ^ 32 }
+        ensures structs { IsTrue result → length self.now.structs + 1 < 2 ^ 32 }
+        ensures services { IsTrue result → length self.now.services + 1 < 2 ^ 32 }
+    {
+        is_few(self.types.len())
+            && is_few(self.enums.len())
+            && is_few(self.structs.len())
+            && is_few(self.services.len())
+    }
+
     pub(crate) fn set_files(&mut self, files: u64)
         ensures { self.new ≡ with_files self.old files }
     {
         self.files = files;
     }
+}
+
+fn is_few(count: usize) -> bool
+    ensures { IsTrue result ↔ (count + 1 < 2 ^ 32) }
+{
+    count < 4294967295
 }

@@ -1,0 +1,57 @@
+-- Typedefs, one step at a time.
+use Rattle.std.proofs.Common.{◌≡◌, ℕ, zero, suc, ◌-◌, ◌<◌, List, refl, ap, sym, ◌∙◌, arith, Result, Ok, Err}
+use Rattle.std.specs.Prelude.{IfOk}
+use Rattle.idl_parser.specs.declared.document.TypeForm.{TypeForm}
+use Rattle.idl_parser.specs.declared.document.TypeForm.TheVariants as forms
+use Rattle.idl_parser.specs.Trees.{TypeTree, named_at, form_tree}
+use Rattle.type_tables.specs.declared.declared.Ty.{Ty}
+use Rattle.type_tables.specs.declared.declared.Ty.TheVariants as types
+use Rattle.idl_names.specs.Files.{FileTree}
+use Rattle.idl_schema.specs.Types.{Target, found, further, ty_by, target, followed, plain_ty}
+
+module _ (files : List FileTree) (left file base at : ℕ) (form : TypeForm) (whole : Ty) (i : followed left files file base (form_tree at form) ≡ whole) where
+  one_less : (m : ℕ) → suc m - 1 ≡ m
+  one_less m = omega arith
+
+  -- a name with no step left
+  pub none_left : (word : List ℕ) → form ≡ forms.Named word → left ≡ 0 → types.Unknown ≡ whole
+  none_left word e z =
+      sym (ap (λ (n : ℕ). followed n files file base (form_tree at form)) z ∙ ap (λ (f : TypeForm). followed 0 files file base (form_tree at f)) e) ∙ i
+
+  stepped : (n : ℕ) (word : List ℕ) → left ≡ n → form ≡ forms.Named word → followed n files file base (named_at at word) ≡ whole
+  stepped n word l e = sym (ap (λ (m : ℕ). followed m files file base (form_tree at form)) l ∙ ap (λ (f : TypeForm). followed n files file base (form_tree at f)) e) ∙ i
+
+  -- a name that means a type
+  pub found_here : (word : List ℕ) (ty : Ty) → form ≡ forms.Named word → 0 < left → found ty ≡ target files file word → ty ≡ whole
+  found_here word ty e some t = by left refl
+    where
+      by : (n : ℕ) → left ≡ n → ty ≡ whole
+      by zero z = absurd (omega arith)
+      by (suc m) l = ap (λ (t : Target). ty_by t (followed m files)) t ∙ stepped (suc m) word l e
+
+  -- a name that leads on
+  pub goes_on : (word : List ℕ) (f b : ℕ) (t : TypeTree) → form ≡ forms.Named word → 0 < left → further f b t ≡ target files file word → followed (left - 1) files f b t ≡ whole
+  goes_on word f b t e some d = by left refl
+    where
+      by : (n : ℕ) → left ≡ n → followed (left - 1) files f b t ≡ whole
+      by zero z = absurd (omega arith)
+      by (suc m) l =
+          ap (λ (n : ℕ). followed (n - 1) files f b t) l ∙ ap (λ (n : ℕ). followed n files f b t) (one_less m)
+          ∙ ap (λ (t : Target). ty_by t (followed m files)) d ∙ stepped (suc m) word l e
+
+plain_by : (files : List FileTree) (n file base at : ℕ) (form : TypeForm) → ((word : List ℕ) → form ≡ forms.Named word → ⊥) → plain_ty base (form_tree at form) ≡ followed n files file base (form_tree at form)
+plain_by files zero file base at form other = refl
+plain_by files (suc n) file base at (forms.Base word) other = refl
+plain_by files (suc n) file base at (forms.Named word) other = absurd (other word refl)
+plain_by files (suc n) file base at (forms.Map' p key_at key q value_at value) other = refl
+plain_by files (suc n) file base at (forms.Set' p element_at element) other = refl
+plain_by files (suc n) file base at (forms.List' p element_at element) other = refl
+
+-- what is no name
+pub plain_here : (files : List FileTree) (n file base at : ℕ) (form : TypeForm) (whole : Ty) → followed n files file base (form_tree at form) ≡ whole →
+    ((word : List ℕ) → form ≡ forms.Named word → ⊥) → plain_ty base (form_tree at form) ≡ whole
+plain_here files n file base at form whole i other = plain_by files n file base at form other ∙ i
+
+pub plain_result : {E : Type 0} {a b : Ty} (r : Result Ty E) → a ≡ b → IfOk r (λ t. t ≡ a) → IfOk r (λ t. t ≡ b)
+plain_result (Ok t) e h = h ∙ e
+plain_result (Err x) e h = h

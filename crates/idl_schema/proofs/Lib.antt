@@ -1,0 +1,8 @@
+-- Lemmas on how a schema grows.
+pub mod Counting
+pub mod Following
+pub mod Growing
+pub mod Listing
+pub mod Meaning
+pub mod Servicing
+pub mod Sharing

@@ -1,0 +1,10 @@
+-- The schema of the files of an IDL.
+pub mod Adding
+pub mod Fields
+pub mod Meant
+pub mod Methods
+pub mod Numbers
+pub mod Schema
+pub mod Shares
+pub mod Sights
+pub mod Types

@@ -1,0 +1,41 @@
+-- The methods of a service, and the structs that their arguments and results travel as.
+use Rattle.std.specs.Prelude.{ℕ, ◌+◌, List, [], ◌∷◌, ◌++◌, is_some}
+use Rattle.idl_parser.specs.Declarations.{FunctionTree}
+use Rattle.idl_parser.specs.Trees.{TypeTree}
+use Rattle.type_tables.specs.declared.declared.Form.TheVariants as forms
+use Rattle.type_tables.specs.declared.declared.MethodInfo.{MethodInfo}
+use Rattle.type_tables.specs.declared.declared.StructId.{StructId}
+use Rattle.type_tables.specs.declared.declared.Ty.{Ty}
+use Rattle.type_tables.specs.declared.tables.StructDecl.{StructDecl}
+use Rattle.idl_schema.specs.Fields.{fields_from, fields_types, success, returns_types}
+use Rattle.idl_schema.specs.Numbers.{fields_parts, returns_parts, method_parts}
+
+abbrev pub struct_id : ℕ → StructId
+struct_id n = record { 0 = n }
+
+module _ (ty : ℕ → TypeTree → Ty) where
+  abbrev pub args_struct : ℕ → FunctionTree → StructDecl
+  args_struct base f = record { form = forms.Args; fields = fields_from ty 0 base f.args }
+
+  -- behind the arguments: the result, and then what is thrown
+  abbrev pub result_struct : ℕ → FunctionTree → StructDecl
+  result_struct base f = record { form = forms.Result; fields = success ty base f.returns ++ fields_from ty 0 (base + returns_parts f.returns) f.throws }
+
+  abbrev pub result_types : ℕ → FunctionTree → List Ty
+  result_types base f = returns_types ty base f.returns ++ fields_types ty (base + returns_parts f.returns) f.throws
+
+  abbrev pub methods_structs : ℕ → List FunctionTree → List StructDecl
+  methods_structs base [] = []
+  methods_structs base (f ∷ fs) = args_struct base f ∷ result_struct (base + fields_parts f.args) f ∷ methods_structs (base + method_parts f) fs
+
+  abbrev pub methods_types : ℕ → List FunctionTree → List Ty
+  methods_types base [] = []
+  methods_types base (f ∷ fs) = fields_types ty base f.args ++ result_types (base + fields_parts f.args) f ++ methods_types (base + method_parts f) fs
+
+abbrev pub method_info : ℕ → FunctionTree → MethodInfo
+method_info n f = record { args = struct_id n; result = struct_id (n + 1); oneway = is_some f.oneway }
+
+-- the methods, where the structs of the first begin with this number
+abbrev pub methods_from : ℕ → List FunctionTree → List (List ℕ × MethodInfo)
+methods_from n [] = []
+methods_from n (f ∷ fs) = (f.name.text, method_info n f) ∷ methods_from (n + 2) fs

@@ -1,0 +1,114 @@
+//! The fields of a struct, of the arguments of a method or of what it throws.
+ghost use Rattle.std.specs.Prelude.{◌≡◌, ◌++◌, ◌∷◌, [], ◌<◌, ◌^◌, IfOk, OnOk, length, pos, codes};
+ghost use Rattle.idl_parser.specs.Fields.{field_tree, field_trees};
+ghost use Rattle.idl_parser.specs.Trees.{type_tree};
+ghost use Rattle.idl_rules.specs.Ids.{id_of};
+ghost use Rattle.idl_schema.specs.Adding.{with_types};
+ghost use Rattle.idl_schema.specs.Fields.{need_of, fields_from, fields_types, success, returns_types};
+ghost use Rattle.idl_schema.specs.Numbers.{option_tree};
+ghost use Rattle.idl_schema.specs.Sights.{files_of};
+ghost use Rattle.idl_schema.specs.Types.{ty_in};
+
+use crate::parts::{add_parts, next_part};
+use crate::sight::Sight;
+use gate_io::{OutOfMemory, Text};
+use idl_parser::{Asked, FieldDecl, TypeExpr};
+use idl_rules::{count_on, field_id};
+use std::alloc::Global;
+use type_tables::{FieldInfo, FieldList, Need, SchemaBuilder, Ty};
+
+/// Adds the parts of the types of these fields, and puts the fields behind those of a list.
+pub(crate) fn add_fields(
+    alloc: Global,
+    builder: &mut SchemaBuilder,
+    sight: &Sight<'_, '_>,
+    file: u32,
+    list: FieldList,
+    fields: &[FieldDecl],
+) -> Result<FieldList, OutOfMemory>
+    ensures list { IfOk result (λ l. l ≡ list ++ fields_from (ty_in (files_of sight.now) file) 0 (length builder.old.types) (field_trees fields.now)) }
+    ensures types { OnOk result (builder.new ≡ with_types builder.old (fields_types (ty_in (files_of sight.now) file) (length builder.old.types) (field_trees fields.now))) }
+{
+    let mut list = list;
+    let mut before = 0;
+    for field in fields {
+        let base = next_part(builder)?;
+        let ty = sight.ty(file, base, &field.ty)?;
+        push_field(alloc, &mut list, before, field, ty)?;
+        add_parts(builder, sight, file, &field.ty)?;
+        before = count_on(before, field);
+    }
+    Ok(list)
+}
+
+fn push_field(
+    alloc: Global,
+    list: &mut FieldList,
+    before: usize,
+    field: &FieldDecl,
+    ty: Ty,
+) -> Result<(), OutOfMemory>
+    requires { before < 2 ^ 63 }
+    ensures { OnOk result (list.new ≡ list.old ++ record { id = (id_of before (field_tree field.now)).id; name = field.now.name.text; ty = ty; need = need_of field.now.asked } ∷ []) }
+{
+    let id = field_id(before, field).id;
+    let name = Text::new(alloc, field.name.text.as_slice())?;
+    push(list, id, name, ty, need_of(field.asked))
+}
+
+// A field whose id has no 16 bits, or whose id is there, is none that the rules allow.
+fn push(list: &mut FieldList, id: i64, name: Text, ty: Ty, need: Need) -> Result<(), OutOfMemory>
+    ensures { OnOk result (list.new ≡ list.old ++ record { id = id; name = name; ty = ty; need = need } ∷ []) }
+{
+    if !list.has_room() {
+        return Err(OutOfMemory);
+    }
+    let Ok(id) = i16::try_from(id) else {
+        return Err(OutOfMemory);
+    };
+    match list.push(FieldInfo { id, name, ty, need }) {
+        Ok(()) => Ok(()),
+        Err(_) => Err(OutOfMemory),
+    }
+}
+
+/// The field of a result, where there is one. The parts of its type are added.
+pub(crate) fn add_success(
+    alloc: Global,
+    builder: &mut SchemaBuilder,
+    sight: &Sight<'_, '_>,
+    file: u32,
+    returns: &Option<TypeExpr>,
+) -> Result<FieldList, OutOfMemory>
+    ensures list { IfOk result (λ l. l ≡ success (ty_in (files_of sight.now) file) (length builder.old.types) (option_tree returns.now)) }
+    ensures types { OnOk result (builder.new ≡ with_types builder.old (returns_types (ty_in (files_of sight.now) file) (length builder.old.types) (option_tree returns.now))) }
+{
+    match returns {
+        Some(tree) => {
+            let base = next_part(builder)?;
+            let ty = sight.ty(file, base, tree)?;
+            add_parts(builder, sight, file, tree)?;
+            success(alloc, ty)
+        }
+        None => Ok(FieldList::new(alloc)),
+    }
+}
+
+fn success(alloc: Global, ty: Ty) -> Result<FieldList, OutOfMemory>
+    ensures { IfOk result (λ l. l ≡ record { id = pos 0; name = codes "success"; ty = ty; need = Need.Optional } ∷ []) }
+{
+    let mut list = FieldList::new(alloc);
+    let name = Text::new(alloc, b"success")?;
+    push(&mut list, 0, name, ty, Need::Optional)?;
+    Ok(list)
+}
+
+fn need_of(asked: Asked) -> Need
+    ensures { result ≡ need_of asked }
+{
+    match asked {
+        Asked::Required => Need::Required,
+        Asked::Optional => Need::Optional,
+        Asked::Default => Need::Default,
+    }
+}

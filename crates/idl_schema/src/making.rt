@@ -1,0 +1,219 @@
+//! The schema of the files of an IDL.
+ghost use Rattle.std.specs.Prelude.{◌≡◌, ◌<◌, ◌^◌, IfOk, OnOk, length, map};
+ghost use Rattle.idl_parser.specs.Declarations.{definition_tree, definition_trees, function_trees};
+ghost use Rattle.idl_rules.specs.Values.{member_values};
+ghost use Rattle.idl_names.specs.Files.{file_trees};
+ghost use Rattle.idl_names.specs.Meaning.{HasFewDefinitions};
+ghost use Rattle.type_tables.specs.Declarations.{with_enum, with_files};
+ghost use Rattle.idl_schema.specs.Adding.{firsts};
+ghost use Rattle.idl_schema.specs.Fields.{form_of};
+ghost use Rattle.idl_schema.specs.Schema.{declarations_of};
+ghost use Rattle.idl_schema.specs.Shares.{share, shares, files_shares, with_share, service_share, prefix_of, root_name};
+ghost use Rattle.idl_schema.specs.Sights.{files_of};
+
+use crate::fields::add_fields;
+use crate::methods::{add_methods, add_struct, add_structs};
+use crate::numbers::small;
+use crate::parts::add_parts;
+use crate::sight::Sight;
+use gate_io::{OutOfMemory, Text};
+use idl_names::{Documents, FileDoc, Names};
+use idl_parser::{Definition, Function, Kin, Member, Name};
+use idl_rules::{member_value, number_after};
+use std::alloc::Global;
+use type_tables::{FieldList, Form, Schema, SchemaBuilder};
+
+/// The schema of the files of an IDL. Files count in their order, and their definitions in the order of the text. Struct 0
+/// is the built-in TApplicationException; then each struct, union and exception takes one number of a struct, and each
+/// method two, for its arguments and its result.
+///
+/// The files are to keep the rules of an IDL: where one is broken there may be no schema.
+///
+/// `OutOfMemory`: the memory for it was not found.
+pub fn schema_of(alloc: Global, documents: &Documents) -> Result<Schema, OutOfMemory>
+    requires few { HasFewDefinitions (file_trees documents.now) }
+    requires few_files { length documents.now < 2 ^ 32 }
+    ensures { IfOk result (λ s. s ≡ declarations_of (file_trees documents.now)) }
+{
+    let names = Names::build(alloc, documents)?;
+    schema_by(alloc, &names)
+}
+
+/// The schema of files whose names are entered already.
+///
+/// `OutOfMemory`: the memory for it was not found.
+#[tactic(auto, unfolding(crate::specs::Schema::declarations_of))]
+pub fn schema_by(alloc: Global, names: &Names<'_>) -> Result<Schema, OutOfMemory>
+    ensures { IfOk result (λ s. s ≡ declarations_of (file_trees names.now.files.now)) }
+{
+    let sight = Sight::new(alloc, names)?;
+    let mut builder = SchemaBuilder::new(alloc)?;
+    add_files(alloc, &mut builder, &sight, names.files)?;
+    finished(builder, names.files.len())
+}
+
+// Files that keep the rules of an IDL have names for all that is meant, and no service that extends itself.
+fn finished(builder: SchemaBuilder, files: usize) -> Result<Schema, OutOfMemory>
+    ensures { IfOk result (λ s. s ≡ with_files builder files) }
+{
+    if !builder.is_closed() {
+        return Err(OutOfMemory);
+    }
+    if !builder.is_ending()? {
+        return Err(OutOfMemory);
+    }
+    Ok(builder.finish(files as u64))
+}
+
+fn add_files(
+    alloc: Global,
+    builder: &mut SchemaBuilder,
+    sight: &Sight<'_, '_>,
+    files: &[FileDoc],
+) -> Result<(), OutOfMemory>
+    ensures { OnOk result (builder.new ≡ with_share builder.old (files_shares (files_of sight.now) 0 (firsts builder.old) (file_trees files.now))) }
+{
+    for (at, file) in files.iter().enumerate() {
+        let place = small(at)?;
+        let prefix = sight.prefix_of(alloc, place)?;
+        add_definitions(
+            alloc,
+            builder,
+            sight,
+            place,
+            &prefix,
+            file.document.definitions.as_slice(),
+        )?;
+    }
+    Ok(())
+}
+
+fn add_definitions(
+    alloc: Global,
+    builder: &mut SchemaBuilder,
+    sight: &Sight<'_, '_>,
+    file: u32,
+    prefix: &Option<Text>,
+    definitions: &[Definition],
+) -> Result<(), OutOfMemory>
+    requires { prefix.now ≡ prefix_of (files_of sight.now) file }
+    ensures { OnOk result (builder.new ≡ with_share builder.old (shares (files_of sight.now) file (firsts builder.old) (definition_trees definitions.now))) }
+{
+    for definition in definitions {
+        add_definition(alloc, builder, sight, file, prefix, definition)?;
+    }
+    Ok(())
+}
+
+fn add_definition(
+    alloc: Global,
+    builder: &mut SchemaBuilder,
+    sight: &Sight<'_, '_>,
+    file: u32,
+    prefix: &Option<Text>,
+    definition: &Definition,
+) -> Result<(), OutOfMemory>
+    requires { prefix.now ≡ prefix_of (files_of sight.now) file }
+    ensures { OnOk result (builder.new ≡ with_share builder.old (share (files_of sight.now) file (firsts builder.old) (definition_tree definition.now))) }
+{
+    match definition {
+        Definition::Const(_, _, _) => Ok(()),
+        Definition::Typedef(_, ty) => add_parts(builder, sight, file, ty),
+        Definition::Enum(_, members) => add_enum(alloc, builder, members.as_slice()),
+        Definition::Struct(kin, _, fields) => {
+            let none = FieldList::new(alloc);
+            let list = add_fields(alloc, builder, sight, file, none, fields.as_slice())?;
+            add_struct(builder, form_of(*kin), list)
+        }
+        Definition::Service(name, base, functions) => {
+            let name = root_name(alloc, prefix, name.text.as_slice())?;
+            add_service(
+                alloc,
+                builder,
+                sight,
+                file,
+                name,
+                base,
+                functions.as_slice(),
+            )
+        }
+    }
+}
+
+fn form_of(kin: Kin) -> Form
+    ensures { result ≡ form_of kin }
+{
+    match kin {
+        Kin::Struct => Form::Struct,
+        Kin::Union => Form::Union,
+        Kin::Exception => Form::Exception,
+    }
+}
+
+fn add_enum(
+    alloc: Global,
+    builder: &mut SchemaBuilder,
+    members: &[Member],
+) -> Result<(), OutOfMemory>
+    ensures { OnOk result (builder.new ≡ with_enum builder.old (map (λ v. v.1) (member_values members.now))) }
+{
+    let values = values(alloc, members)?;
+    if !builder.has_room() {
+        return Err(OutOfMemory);
+    }
+    builder.add_enum(values.as_slice())?;
+    Ok(())
+}
+
+fn values(alloc: Global, members: &[Member]) -> Result<Vec<i32>, OutOfMemory>
+    ensures { IfOk result (λ values. values.items ≡ map (λ v. v.1) (member_values members.now)) }
+{
+    let mut values = Vec::new(alloc);
+    let mut next = 0i64;
+    for member in members {
+        let value = member_value(next, member);
+        // A number with more than 32 bits is none that the rules allow.
+        let Ok(short) = i32::try_from(value) else {
+            return Err(OutOfMemory);
+        };
+        values.push(short)?;
+        next = number_after(value);
+    }
+    Ok(values)
+}
+
+// The name of a service in the root file, where it has one.
+fn root_name(alloc: Global, prefix: &Option<Text>, name: &[u8]) -> Result<Option<Text>, OutOfMemory>
+    ensures { IfOk result (λ text. text ≡ root_name prefix.now name.now) }
+{
+    match prefix {
+        Some(prefix) => {
+            let mut bytes = Vec::from_slice(alloc, prefix.as_slice())?;
+            bytes.extend_from_slice(name)?;
+            Ok(Some(Text::new(alloc, bytes.as_slice())?))
+        }
+        None => Ok(None),
+    }
+}
+
+fn add_service(
+    alloc: Global,
+    builder: &mut SchemaBuilder,
+    sight: &Sight<'_, '_>,
+    file: u32,
+    name: Option<Text>,
+    base: &Option<Name>,
+    functions: &[Function],
+) -> Result<(), OutOfMemory>
+    ensures { OnOk result (builder.new ≡ with_share builder.old (service_share (files_of sight.now) file (firsts builder.old) name base.now (function_trees functions.now))) }
+{
+    let first = small(builder.struct_count())?;
+    if !builder.has_room() {
+        return Err(OutOfMemory);
+    }
+    let Ok(service) = builder.add_service(name, sight.base_of(file, base)) else {
+        return Err(OutOfMemory);
+    };
+    add_structs(alloc, builder, sight, file, functions)?;
+    add_methods(alloc, builder, service, first, functions)
+}

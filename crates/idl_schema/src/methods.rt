@@ -1,0 +1,125 @@
+//! The methods of a service, and the structs that their arguments and results travel as.
+ghost use Rattle.std.specs.Prelude.{◌≡◌, ◌<◌, ◌∷◌, [], OnOk, length};
+ghost use Rattle.idl_parser.specs.Declarations.{function_tree, function_trees};
+ghost use Rattle.type_tables.specs.Declarations.{with_fields, with_method};
+ghost use Rattle.idl_schema.specs.Adding.{with_structs, with_methods};
+ghost use Rattle.idl_schema.specs.Methods.{args_struct, result_struct, result_types, methods_structs, methods_types, methods_from, method_info};
+ghost use Rattle.idl_schema.specs.Fields.{fields_types};
+ghost use Rattle.idl_schema.specs.Sights.{files_of};
+ghost use Rattle.idl_schema.specs.Types.{ty_in};
+
+use crate::fields::{add_fields, add_success};
+use crate::numbers::sum;
+use crate::sight::Sight;
+use gate_io::{OutOfMemory, Text};
+use idl_parser::Function;
+use std::alloc::Global;
+use type_tables::{FieldList, Form, MethodInfo, SchemaBuilder, ServiceId, StructId};
+
+/// Adds a struct with its fields.
+pub(crate) fn add_struct(
+    builder: &mut SchemaBuilder,
+    form: Form,
+    fields: FieldList,
+) -> Result<(), OutOfMemory>
+    ensures { OnOk result (builder.new ≡ with_fields builder.old form fields) }
+{
+    if !builder.has_room() {
+        return Err(OutOfMemory);
+    }
+    builder.add_struct(form, fields)?;
+    Ok(())
+}
+
+/// Adds two structs for each method.
+pub(crate) fn add_structs(
+    alloc: Global,
+    builder: &mut SchemaBuilder,
+    sight: &Sight<'_, '_>,
+    file: u32,
+    methods: &[Function],
+) -> Result<(), OutOfMemory>
+    ensures { OnOk result (builder.new ≡ with_structs builder.old (methods_types (ty_in (files_of sight.now) file) (length builder.old.types) (function_trees methods.now)) (methods_structs (ty_in (files_of sight.now) file) (length builder.old.types) (function_trees methods.now))) }
+{
+    for method in methods {
+        add_args(alloc, builder, sight, file, method)?;
+        add_result(alloc, builder, sight, file, method)?;
+    }
+    Ok(())
+}
+
+fn add_args(
+    alloc: Global,
+    builder: &mut SchemaBuilder,
+    sight: &Sight<'_, '_>,
+    file: u32,
+    method: &Function,
+) -> Result<(), OutOfMemory>
+    ensures { OnOk result (builder.new ≡ with_structs builder.old (fields_types (ty_in (files_of sight.now) file) (length builder.old.types) (function_tree method.now).args) (args_struct (ty_in (files_of sight.now) file) (length builder.old.types) (function_tree method.now) ∷ [])) }
+{
+    let none = FieldList::new(alloc);
+    let fields = add_fields(alloc, builder, sight, file, none, method.args.as_slice())?;
+    add_struct(builder, Form::Args, fields)
+}
+
+fn add_result(
+    alloc: Global,
+    builder: &mut SchemaBuilder,
+    sight: &Sight<'_, '_>,
+    file: u32,
+    method: &Function,
+) -> Result<(), OutOfMemory>
+    ensures { OnOk result (builder.new ≡ with_structs builder.old (result_types (ty_in (files_of sight.now) file) (length builder.old.types) (function_tree method.now)) (result_struct (ty_in (files_of sight.now) file) (length builder.old.types) (function_tree method.now) ∷ [])) }
+{
+    let success = add_success(alloc, builder, sight, file, &method.returns)?;
+    let fields = add_fields(
+        alloc,
+        builder,
+        sight,
+        file,
+        success,
+        method.throws.as_slice(),
+    )?;
+    add_struct(builder, Form::Result, fields)
+}
+
+/// Adds the methods of a service, where the structs of the first begin with this number.
+pub(crate) fn add_methods(
+    alloc: Global,
+    builder: &mut SchemaBuilder,
+    service: ServiceId,
+    first: u32,
+    methods: &[Function],
+) -> Result<(), OutOfMemory>
+    requires { service.0 < length builder.old.services }
+    ensures { OnOk result (builder.new ≡ with_methods builder.old service.0 (methods_from first (function_trees methods.now))) }
+{
+    let mut n = first;
+    for method in methods {
+        add_method(alloc, builder, service, n, method)?;
+        n = sum(n, 2)?;
+    }
+    Ok(())
+}
+
+fn add_method(
+    alloc: Global,
+    builder: &mut SchemaBuilder,
+    service: ServiceId,
+    first: u32,
+    method: &Function,
+) -> Result<(), OutOfMemory>
+    requires { service.0 < length builder.old.services }
+    ensures { OnOk result (builder.new ≡ with_method builder.old service.0 method.now.name.text (method_info first (function_tree method.now))) }
+{
+    let name = Text::new(alloc, method.name.text.as_slice())?;
+    let info = MethodInfo {
+        args: StructId(first),
+        result: StructId(sum(first, 1)?),
+        oneway: method.oneway.is_some(),
+    };
+    match builder.add_method(service, name, info) {
+        Ok(()) => Ok(()),
+        Err(_) => Err(OutOfMemory),
+    }
+}
