@@ -1,0 +1,7 @@
+mod Places
+mod Chains
+mod Followed
+mod Trailing
+mod Judged
+mod Kept
+mod Once

@@ -1,0 +1,358 @@
+//! The names of a value followed to the values of their constants.
+ghost use Rattle.std.specs.Prelude.{◌≡◌, ℕ, List, IfOk, IfSome, IsTrue, Some, option_copied, slice_get};
+ghost use Rattle.idl_names.specs.declared.documents.Spot.{Spot};
+ghost use Rattle.idl_names.specs.Files.{FileTree, file_trees};
+ghost use Rattle.idl_names.specs.Meaning.{HasFewDefinitions};
+ghost use Rattle.idl_consts.specs.Following.{IsRow, constant_course};
+ghost use Rattle.idl_consts.specs.Knowing.{IsSound};
+ghost use Rattle.idl_consts.specs.Meant.{Meant, all_definitions, meant_at};
+ghost use Rattle.idl_consts.specs.Pieces.{course_of};
+ghost use Rattle.idl_consts.specs.Trails.{IsFrame, IsTrail, IsAmong, IsNext, IsFollowing, IsLeaving, IsHalted, GoesOn, met, upcoming_fault};
+
+use crate::fitting::same_spot;
+use crate::knowing::{Known, is_own};
+use crate::row::ConstRow;
+use crate::same::same_ref;
+use crate::survey::{Stand, Survey, survey_value};
+use crate::types::{TypeRef, definition};
+use gate_io::OutOfMemory;
+use idl_names::{Documents, Spot};
+use idl_parser::Definition;
+use std::alloc::Global;
+use std::mem;
+
+/// The value of a constant where a type is asked for, and how many of its names were taken.
+#[derive(Drop)]
+pub struct Frame<'d> {
+    pub constant: Spot,
+    pub ty: TypeRef<'d>,
+    pub survey: Survey<'d>,
+    pub next: usize,
+}
+
+/// Values of which each waits for a name to be followed, and the value of the last name.
+#[derive(Drop)]
+pub struct Trail<'d> {
+    pub outer: Vec<Frame<'d>>,
+    pub top: Frame<'d>,
+}
+
+/// What stands next in a value.
+#[derive(Clone, Copy)]
+pub enum Upcoming<'d> {
+    Name(Stand<'d>),
+    Fault(usize, ConstRow),
+    Nothing,
+}
+
+/// The row of a name that stands for a constant, or None where nothing is refused through it.
+///
+/// The names are followed in a loop, however long the chain is. `OutOfMemory` is the answer too where more names were
+/// followed than memory could hold.
+pub fn name_row<'d>(
+    alloc: Global,
+    documents: &'d Documents,
+    limit: usize,
+    known: &mut Known,
+    name: Stand<'d>,
+) -> Result<Option<ConstRow>, OutOfMemory>
+    requires few { HasFewDefinitions (file_trees documents.now) }
+    requires all { limit ≡ all_definitions (file_trees documents.now) }
+    requires known { IsSound (file_trees documents.now) known.old }
+    ensures row { IfOk result (λ row. IsRow (file_trees documents.now) name.entry.constant (meant_at (file_trees documents.now) name.entry.ty) row) }
+    ensures known { IsSound (file_trees documents.now) known.new }
+{
+    let mut trail = begin(alloc, documents, limit, name)?;
+    'names: for _ in 0..u64::MAX {
+        if let Some(row) = go_on(alloc, documents, limit, known, &mut trail)? {
+            return Ok(settle(documents, limit, known, &mut trail, name, row));
+        }
+    }
+    Err(OutOfMemory)
+}
+
+fn begin<'d>(
+    alloc: Global,
+    documents: &'d Documents,
+    limit: usize,
+    name: Stand<'d>,
+) -> Result<Trail<'d>, OutOfMemory>
+    requires few { HasFewDefinitions (file_trees documents.now) }
+    requires all { limit ≡ all_definitions (file_trees documents.now) }
+    ensures { IfOk result (λ trail. IsTrail (file_trees documents.now) name.entry.constant (meant_at (file_trees documents.now) name.entry.ty) trail) }
+{
+    let top = open_frame(alloc, documents, limit, name)?;
+    Ok(Trail {
+        outer: Vec::new(alloc),
+        top,
+    })
+}
+
+/// The value of the constant that a name stands for.
+fn open_frame<'d>(
+    alloc: Global,
+    documents: &'d Documents,
+    limit: usize,
+    name: Stand<'d>,
+) -> Result<Frame<'d>, OutOfMemory>
+    requires few { HasFewDefinitions (file_trees documents.now) }
+    requires all { limit ≡ all_definitions (file_trees documents.now) }
+    ensures whole { IfOk result (IsFrame (file_trees documents.now)) }
+    ensures constant { IfOk result (λ f. f.constant ≡ name.entry.constant) }
+    ensures ty { IfOk result (λ f. f.ty ≡ name.entry.ty) }
+{
+    let survey = constant_survey(alloc, documents, limit, name.constant, name.ty)?;
+    Ok(Frame {
+        constant: name.constant,
+        ty: name.ty,
+        survey,
+        next: 0,
+    })
+}
+
+#[tactic(auto, unfolding(crate::specs::Following::constant_course))]
+fn constant_survey<'d>(
+    alloc: Global,
+    documents: &'d Documents,
+    limit: usize,
+    constant: Spot,
+    ty: TypeRef<'d>,
+) -> Result<Survey<'d>, OutOfMemory>
+    requires few { HasFewDefinitions (file_trees documents.now) }
+    requires all { limit ≡ all_definitions (file_trees documents.now) }
+    ensures { IfOk result (λ s. course_of (file_trees documents.now) s ≡ constant_course (file_trees documents.now) constant (meant_at (file_trees documents.now) ty.entry)) }
+{
+    match definition(documents, constant) {
+        Some(Definition::Const(_, _, value)) => {
+            survey_value(alloc, documents, limit, constant.file, ty, value)
+        }
+        _ => Ok(Survey {
+            stands: Vec::new(alloc),
+            fault: None,
+        }),
+    }
+}
+
+/// Goes on by one name, or tells the row of the name at the beginning.
+fn go_on<'d>(
+    alloc: Global,
+    documents: &'d Documents,
+    limit: usize,
+    known: &mut Known,
+    trail: &mut Trail<'d>,
+) -> Result<Option<Option<ConstRow>>, OutOfMemory>
+    requires few { HasFewDefinitions (file_trees documents.now) }
+    requires all { limit ≡ all_definitions (file_trees documents.now) }
+    requires known { IsSound (file_trees documents.now) known.old }
+    requires top { IsFrame (file_trees documents.now) trail.old.top }
+    ensures goes { IfOk result (λ done. (s : Spot) → (m : Meant) → IsTrail (file_trees documents.now) s m trail.old → GoesOn (file_trees documents.now) s m done trail.new) }
+    ensures known { IsSound (file_trees documents.now) known.new }
+{
+    match take_next(&mut trail.top) {
+        Upcoming::Name(name) => meet_name(alloc, documents, limit, known, trail, name),
+        Upcoming::Fault(_, row) => Ok(Some(Some(row))),
+        Upcoming::Nothing => {
+            keep(documents, limit, known, &trail.top, None);
+            Ok(leave(trail))
+        }
+    }
+}
+
+/// Takes what stands next from a frame.
+fn take_next<'d>(frame: &mut Frame<'d>) -> Upcoming<'d>
+    ensures { (d : List FileTree) → IsNext d frame.old result frame.new }
+{
+    let next = frame.next;
+    match stand_at(frame.survey.stands.as_slice(), next) {
+        Some(name) => {
+            frame.next = next + 1;
+            Upcoming::Name(name)
+        }
+        None => fault_next(frame.survey.fault),
+    }
+}
+
+fn stand_at<'d>(stands: &[Stand<'d>], next: usize) -> Option<Stand<'d>>
+    ensures { result ≡ slice_get stands.now next }
+{
+    stands.get(next).copied()
+}
+
+fn fault_next<'d>(fault: Option<(usize, ConstRow)>) -> Upcoming<'d>
+    ensures { result ≡ upcoming_fault fault }
+{
+    match fault {
+        Some((at, row)) => Upcoming::Fault(at, row),
+        None => Upcoming::Nothing,
+    }
+}
+
+/// Meets a name that stands in the innermost value: what is known of it, or else it is followed.
+fn meet_name<'d>(
+    alloc: Global,
+    documents: &'d Documents,
+    limit: usize,
+    known: &Known,
+    trail: &mut Trail<'d>,
+    name: Stand<'d>,
+) -> Result<Option<Option<ConstRow>>, OutOfMemory>
+    requires few { HasFewDefinitions (file_trees documents.now) }
+    requires all { limit ≡ all_definitions (file_trees documents.now) }
+    requires known { IsSound (file_trees documents.now) known.now }
+    ensures { IfOk result (λ done. (s : Spot) → (m : Meant) → IsFollowing (file_trees documents.now) s m trail.old name.entry → GoesOn (file_trees documents.now) s m done trail.new) }
+{
+    match known_row(documents, limit, known, name) {
+        Some(row) => Ok(met(row)),
+        None => follow_name(alloc, documents, limit, trail, name),
+    }
+}
+
+fn met(row: Option<ConstRow>) -> Option<Option<ConstRow>>
+    ensures { result ≡ met row }
+{
+    match row {
+        Some(row) => Some(Some(row)),
+        None => None,
+    }
+}
+
+/// Follows a name that stands in the innermost value.
+fn follow_name<'d>(
+    alloc: Global,
+    documents: &'d Documents,
+    limit: usize,
+    trail: &mut Trail<'d>,
+    name: Stand<'d>,
+) -> Result<Option<Option<ConstRow>>, OutOfMemory>
+    requires few { HasFewDefinitions (file_trees documents.now) }
+    requires all { limit ≡ all_definitions (file_trees documents.now) }
+    ensures { IfOk result (λ done. (s : Spot) → (m : Meant) → IsFollowing (file_trees documents.now) s m trail.old name.entry → GoesOn (file_trees documents.now) s m done trail.new) }
+{
+    if comes_again(trail, name) {
+        return Ok(Some(Some(ConstRow::CycleOfConstants)));
+    }
+    let inner = open_frame(alloc, documents, limit, name)?;
+    let waiting = mem::replace(&mut trail.top, inner);
+    trail.outer.push(waiting)?;
+    Ok(None)
+}
+
+/// What is refused through a name, as far as it is known.
+fn known_row(
+    documents: &Documents,
+    limit: usize,
+    known: &Known,
+    name: Stand<'_>,
+) -> Option<Option<ConstRow>>
+    requires all { limit ≡ all_definitions (file_trees documents.now) }
+    requires known { IsSound (file_trees documents.now) known.now }
+    ensures { IfSome result (IsRow (file_trees documents.now) name.entry.constant (meant_at (file_trees documents.now) name.entry.ty)) }
+{
+    if is_own(documents, limit, name.constant, name.ty) {
+        known.get(name.constant)
+    } else {
+        None
+    }
+}
+
+/// Keeps what is refused through a constant, where its own type was asked for.
+fn keep(
+    documents: &Documents,
+    limit: usize,
+    known: &mut Known,
+    frame: &Frame<'_>,
+    row: Option<ConstRow>,
+)
+    requires all { limit ≡ all_definitions (file_trees documents.now) }
+    requires known { IsSound (file_trees documents.now) known.old }
+    requires row { IsRow (file_trees documents.now) frame.now.constant (meant_at (file_trees documents.now) frame.now.ty) row }
+    ensures { IsSound (file_trees documents.now) known.new }
+{
+    if is_own(documents, limit, frame.constant, frame.ty) {
+        known.put(frame.constant, row)
+    }
+}
+
+/// The row of the name at the beginning. Where something is refused, it is so through each name of the trail.
+fn settle<'d>(
+    documents: &'d Documents,
+    limit: usize,
+    known: &mut Known,
+    trail: &mut Trail<'d>,
+    name: Stand<'d>,
+    row: Option<ConstRow>,
+) -> Option<ConstRow>
+    requires all { limit ≡ all_definitions (file_trees documents.now) }
+    requires known { IsSound (file_trees documents.now) known.old }
+    requires done { GoesOn (file_trees documents.now) name.constant (meant_at (file_trees documents.now) name.ty) (Some row) trail.old }
+    ensures row { IsRow (file_trees documents.now) name.entry.constant (meant_at (file_trees documents.now) name.entry.ty) result }
+    ensures known { IsSound (file_trees documents.now) known.new }
+{
+    match row {
+        Some(row) => {
+            unwind(documents, limit, known, trail, name, row);
+            Some(row)
+        }
+        None => None,
+    }
+}
+
+/// Keeps what is refused through each name of a trail.
+fn unwind<'d>(
+    documents: &'d Documents,
+    limit: usize,
+    known: &mut Known,
+    trail: &mut Trail<'d>,
+    name: Stand<'d>,
+    row: ConstRow,
+)
+    requires all { limit ≡ all_definitions (file_trees documents.now) }
+    requires known { IsSound (file_trees documents.now) known.old }
+    requires halted { IsHalted (file_trees documents.now) name.constant (meant_at (file_trees documents.now) name.ty) trail.old row }
+    ensures { IsSound (file_trees documents.now) known.new }
+{
+    keep(documents, limit, known, &trail.top, Some(row));
+    'frames: while let Some(frame) = trail.outer.pop() {
+        trail.top = frame;
+        keep(documents, limit, known, &trail.top, Some(row));
+    }
+}
+
+/// Leaves the innermost value, in which nothing is refused.
+fn leave(trail: &mut Trail<'_>) -> Option<Option<ConstRow>>
+    ensures { (d : List FileTree) → (s : Spot) → (m : Meant) → IsLeaving d s m trail.old → GoesOn d s m result trail.new }
+{
+    match trail.outer.pop() {
+        Some(frame) => {
+            trail.top = frame;
+            None
+        }
+        None => Some(None),
+    }
+}
+
+/// Whether a name stands for a constant whose value waits for it already, where the same type is asked for.
+///
+/// Only the value half way up is compared: values that come in a circle are found so, after less than three rounds.
+fn comes_again(trail: &Trail<'_>, name: Stand<'_>) -> bool
+    ensures { IsTrue result → ((d : List FileTree) → IsAmong d name.entry.constant (meant_at d name.entry.ty) trail.now.outer.items trail.now.top.constant (meant_at d trail.now.top.ty)) }
+{
+    let half = (trail.outer.len() + 1) / 2;
+    match frame_at(trail.outer.as_slice(), half) {
+        Some(frame) => is_of(frame, name),
+        None => is_of(&trail.top, name),
+    }
+}
+
+fn frame_at<'t, 'd>(frames: &'t [Frame<'d>], place: usize) -> Option<&'t Frame<'d>>
+    ensures { option_copied result ≡ slice_get frames.now place }
+{
+    frames.get(place)
+}
+
+fn is_of(frame: &Frame<'_>, name: Stand<'_>) -> bool
+    ensures constant { IsTrue result → name.entry.constant ≡ frame.now.constant }
+    ensures ty { IsTrue result → ((d : List FileTree) → meant_at d name.entry.ty ≡ meant_at d frame.now.ty) }
+{
+    same_spot(name.constant, frame.constant) && same_ref(name.ty, frame.ty)
+}

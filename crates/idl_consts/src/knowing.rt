@@ -1,0 +1,132 @@
+//! What is refused through constants, so that each is looked through once.
+ghost use Rattle.std.specs.Prelude.{◌≡◌, List, IfOk, IfSome, IsTrue, slice_get, option_copied, option_map};
+ghost use Rattle.idl_parser.specs.Declarations.{definition_tree};
+ghost use Rattle.idl_names.specs.Files.{FileTree, file_trees};
+ghost use Rattle.idl_consts.specs.Knowing.{own_by, own_type, AreRows, IsOwnRow, IsSound};
+ghost use Rattle.idl_consts.specs.Meant.{all_definitions, meant_at};
+
+use crate::fitting::same_spot;
+use crate::row::ConstRow;
+use crate::same::same_ref;
+use crate::types::{TypeRef, definition};
+use gate_io::OutOfMemory;
+use idl_names::{Documents, FileDoc, Spot};
+use idl_parser::Definition;
+use std::alloc::Global;
+
+/// Of each file the number of the definitions before it, and for each definition, if it is a constant, what is refused
+/// through it where its own type is asked for, as far as it is known.
+#[derive(Drop)]
+pub struct Known {
+    pub starts: Vec<usize>,
+    pub rows: Vec<Option<(Spot, Option<ConstRow>)>>,
+}
+
+impl Known {
+    /// Nothing is known yet of so many definitions.
+    pub fn new(alloc: Global, files: &[FileDoc], limit: usize) -> Result<Known, OutOfMemory>
+        ensures { IfOk result (λ known. (d : List FileTree) → IsSound d known) }
+    {
+        Ok(Known {
+            starts: starts(alloc, files)?,
+            rows: blank(alloc, limit)?,
+        })
+    }
+
+    /// Where a spot stands in the list.
+    fn place(&self, spot: Spot) -> usize {
+        match self.starts.as_slice().get(spot.file as usize) {
+            Some(start) => start.saturating_add(spot.definition as usize),
+            None => usize::MAX,
+        }
+    }
+
+    /// What is refused through the constant at a spot, as far as it is known.
+    pub fn get(&self, spot: Spot) -> Option<Option<ConstRow>>
+        ensures { (d : List FileTree) → IsSound d self.now → IfSome result (IsOwnRow d spot) }
+    {
+        match row_in(self.rows.as_slice(), self.place(spot)) {
+            Some(Some((other, row))) => row_of(other, spot, row),
+            _ => None,
+        }
+    }
+
+    /// Keeps what is refused through the constant at a spot.
+    pub fn put(&mut self, spot: Spot, row: Option<ConstRow>)
+        ensures { (d : List FileTree) → IsSound d self.old → IsOwnRow d spot row → IsSound d self.new }
+    {
+        let place = self.place(spot);
+        if place < self.rows.len() {
+            self.rows[place] = Some((spot, row));
+        }
+    }
+}
+
+fn row_of(other: Spot, spot: Spot, row: Option<ConstRow>) -> Option<Option<ConstRow>>
+    ensures { (d : List FileTree) → IsOwnRow d other row → IfSome result (IsOwnRow d spot) }
+{
+    if is_spot(other, spot) {
+        Some(row)
+    } else {
+        None
+    }
+}
+
+fn is_spot(spot: Spot, other: Spot) -> bool
+    ensures { IsTrue result → spot ≡ other }
+{
+    same_spot(spot, other)
+}
+
+fn starts(alloc: Global, files: &[FileDoc]) -> Result<Vec<usize>, OutOfMemory> {
+    let mut starts = Vec::new(alloc);
+    let mut total = 0usize;
+    for file in files {
+        starts.push(total)?;
+        total = total.saturating_add(file.document.definitions.as_slice().len());
+    }
+    Ok(starts)
+}
+
+fn blank(alloc: Global, limit: usize) -> Result<Vec<Option<(Spot, Option<ConstRow>)>>, OutOfMemory>
+    ensures { IfOk result (λ rows. (d : List FileTree) → AreRows d rows.items) }
+{
+    let mut rows = Vec::new(alloc);
+    'rows: for _ in 0..limit {
+        rows.push(None)?;
+    }
+    Ok(rows)
+}
+
+fn row_in(
+    rows: &[Option<(Spot, Option<ConstRow>)>],
+    place: usize,
+) -> Option<Option<(Spot, Option<ConstRow>)>>
+    ensures { result ≡ slice_get rows.now place }
+{
+    rows.get(place).copied()
+}
+
+/// Whether a type is that of the constant at a spot.
+pub fn is_own(documents: &Documents, limit: usize, spot: Spot, ty: TypeRef<'_>) -> bool
+    requires { limit ≡ all_definitions (file_trees documents.now) }
+    ensures { IsTrue result → meant_at (file_trees documents.now) ty.entry ≡ own_type (file_trees documents.now) spot }
+{
+    match own_ref(definition(documents, spot), limit, spot) {
+        Some(own) => same_ref(ty, own),
+        None => false,
+    }
+}
+
+fn own_ref<'d>(definition: Option<&'d Definition>, limit: usize, spot: Spot) -> Option<TypeRef<'d>>
+    ensures { (d : List FileTree) → limit ≡ all_definitions d → IfSome result (λ t. meant_at d t ≡ own_by d spot (option_map definition_tree (option_copied definition.entry))) }
+{
+    match definition {
+        Some(Definition::Const(_, ty, _)) => Some(TypeRef {
+            file: spot.file,
+            ty,
+            left: limit,
+        }),
+        _ => None,
+    }
+}

@@ -1,0 +1,100 @@
+//! The members of enums by their names.
+ghost use Rattle.std.specs.Prelude.{◌≡◌, ◌<◌, IfSome, length, pos, option_map, option_copied};
+ghost use Rattle.idl_parser.specs.Declarations.{definition_tree};
+ghost use Rattle.idl_names.specs.Files.{file_trees};
+ghost use Rattle.idl_names.specs.Meaning.{HasFewDefinitions};
+ghost use Rattle.idl_names.specs.Paths.{last_place};
+ghost use Rattle.idl_consts.specs.Fitting.{after_number, number_by, number_from, members_in, member_of, any_member, with_spot};
+
+use crate::types::definition;
+use idl_names::{Documents, Scope, Spot, look_up};
+use idl_parser::{Definition, Member};
+
+/// The number of the member of this name, of the enum at a spot.
+#[tactic(auto, unfolding(crate::specs::Fitting::member_of))]
+pub fn member_of(documents: &Documents, spot: Spot, word: &[u8]) -> Option<i64>
+    ensures { result ≡ member_of (file_trees documents.now) spot word.now }
+{
+    number_of(members_in(definition(documents, spot)), word)
+}
+
+fn members_in<'d>(definition: Option<&'d Definition>) -> &'d [Member]
+    ensures { result.now ≡ members_in (option_map definition_tree (option_copied definition.entry)) }
+{
+    match definition {
+        Some(Definition::Enum(_, members)) => members.as_slice(),
+        _ => &[],
+    }
+}
+
+fn number_of(members: &[Member], word: &[u8]) -> Option<i64>
+    ensures { result ≡ number_from (pos 0) members.now word.now }
+{
+    let mut next = 0i64;
+    for member in members {
+        let number = number_by(member.value, next);
+        if member.name.text.as_slice() == word {
+            return Some(number);
+        }
+        next = after_number(number);
+    }
+    None
+}
+
+fn number_by(value: Option<i64>, next: i64) -> i64
+    ensures { result ≡ number_by value next }
+{
+    match value {
+        Some(number) => number,
+        None => next,
+    }
+}
+
+fn after_number(number: i64) -> i64
+    ensures { result ≡ after_number number }
+{
+    if number < 9223372036854775807 {
+        number + 1
+    } else {
+        number
+    }
+}
+
+/// A member of any enum, and the enum: the enum's name stands before the last dot.
+#[tactic(auto, unfolding(crate::specs::Fitting::any_member))]
+pub fn any_member(documents: &Documents, file: u32, word: &[u8]) -> Option<(Spot, i64)>
+    requires { HasFewDefinitions (file_trees documents.now) }
+    ensures { result ≡ any_member (file_trees documents.now) file word.now }
+{
+    match last_place(word, b'.') {
+        Some(dot) => match look_up(documents, file, Scope::Types, &word[..dot]) {
+            Some(spot) => with_spot(spot, member_of(documents, spot, &word[dot + 1..])),
+            None => None,
+        },
+        None => None,
+    }
+}
+
+fn with_spot(spot: Spot, number: Option<i64>) -> Option<(Spot, i64)>
+    ensures { result ≡ with_spot spot number }
+{
+    match number {
+        Some(number) => Some((spot, number)),
+        None => None,
+    }
+}
+
+/// The place of the last of these bytes.
+fn last_place(bytes: &[u8], mark: u8) -> Option<usize>
+    ensures place { result ≡ last_place mark bytes.now }
+    ensures within { IfSome result (λ place. place < length bytes.now) }
+{
+    let mut front = bytes;
+    'bytes: while let Some((last, rest)) = front.split_last() {
+        if *last == mark {
+            return Some(rest.len());
+        }
+        front = rest;
+    }
+    None
+}

@@ -1,0 +1,120 @@
+//! What a written type means, one step at a time.
+ghost use Rattle.std.specs.Prelude.{◌≡◌, ◌+◌, List, option_copied, option_map};
+ghost use Rattle.idl_parser.specs.Declarations.{definition_tree};
+ghost use Rattle.idl_parser.specs.Trees.{type_tree};
+ghost use Rattle.idl_names.specs.Files.{FileTree, file_trees};
+ghost use Rattle.idl_names.specs.Meaning.{HasFewDefinitions};
+ghost use Rattle.idl_consts.specs.Meant.{definition_of, type_by, named_type, meant_at, meant_by, meant_next, left_below, defined_type};
+
+use idl_names::{Documents, Scope, Spot, look_up};
+use idl_parser::{BaseWord, Definition, TypeExpr, TypeForm};
+
+/// A type, the place of the file in which it is written, and how many typedefs may be followed.
+#[derive(Clone, Copy)]
+pub struct TypeRef<'d> {
+    pub file: u32,
+    pub ty: &'d TypeExpr,
+    pub left: usize,
+}
+
+/// What a type is, with its parts still as they are written.
+#[derive(Clone, Copy)]
+pub enum Shape<'d> {
+    Base(BaseWord),
+    Enum(Spot),
+    /// A struct, a union or an exception.
+    Struct(Spot),
+    Map(TypeRef<'d>, TypeRef<'d>),
+    /// A set or a list.
+    Sequence(TypeRef<'d>),
+    Unknown,
+}
+
+/// A shape, or the target of a typedef.
+#[derive(Clone, Copy)]
+pub enum Step<'d> {
+    Done(Shape<'d>),
+    Next(TypeRef<'d>),
+}
+
+/// The definition at a spot.
+pub fn definition<'d>(documents: &'d Documents, spot: Spot) -> Option<&'d Definition>
+    ensures { option_map definition_tree (option_copied result) ≡ definition_of (file_trees documents.now) spot }
+{
+    let file = documents.as_slice().get(spot.file as usize)?;
+    file.document
+        .definitions
+        .as_slice()
+        .get(spot.definition as usize)
+}
+
+/// What a type is.
+pub fn resolve<'d>(documents: &'d Documents, start: TypeRef<'d>) -> Shape<'d>
+    requires { HasFewDefinitions (file_trees documents.now) }
+    ensures { meant_by (file_trees documents.now) result ≡ meant_at (file_trees documents.now) start.entry }
+{
+    let mut at = start;
+    'chain: loop {
+        match resolve_once(documents, at) {
+            Step::Done(shape) => return shape,
+            Step::Next(target) => at = target,
+        }
+    }
+}
+
+fn resolve_once<'d>(documents: &'d Documents, at: TypeRef<'d>) -> Step<'d>
+    requires { HasFewDefinitions (file_trees documents.now) }
+    ensures meant { meant_next (file_trees documents.now) result ≡ meant_at (file_trees documents.now) at.entry }
+    ensures fewer { left_below at.entry.left result }
+{
+    match &at.ty.form {
+        TypeForm::Base(word) => Step::Done(Shape::Base(*word)),
+        TypeForm::Named(name) => named(documents, at.file, name.as_slice(), at.left),
+        TypeForm::Map(key, value) => Step::Done(Shape::Map(part(at, key), part(at, value))),
+        TypeForm::Set(element) => Step::Done(Shape::Sequence(part(at, element))),
+        TypeForm::List(element) => Step::Done(Shape::Sequence(part(at, element))),
+    }
+}
+
+/// A part of a type.
+fn part<'d>(whole: TypeRef<'d>, ty: &'d TypeExpr) -> TypeRef<'d>
+    ensures file { result.file ≡ whole.entry.file }
+    ensures ty { result.ty.now ≡ ty.now }
+    ensures left { result.left ≡ whole.entry.left }
+{
+    TypeRef {
+        file: whole.file,
+        ty,
+        left: whole.left,
+    }
+}
+
+fn named<'d>(documents: &'d Documents, file: u32, name: &[u8], left: usize) -> Step<'d>
+    requires { HasFewDefinitions (file_trees documents.now) }
+    ensures meant { meant_next (file_trees documents.now) result ≡ named_type (file_trees documents.now) left file name.now }
+    ensures fewer { left_below left result }
+{
+    if left == 0 {
+        return Step::Done(Shape::Unknown);
+    }
+    match look_up(documents, file, Scope::Types, name) {
+        Some(spot) => defined(spot, definition(documents, spot), left - 1),
+        None => Step::Done(Shape::Unknown),
+    }
+}
+
+fn defined<'d>(spot: Spot, definition: Option<&'d Definition>, left: usize) -> Step<'d>
+    ensures meant { (d : List FileTree) → meant_next d result ≡ defined_type (named_type d left) spot (option_map definition_tree (option_copied definition.entry)) }
+    ensures fewer { left_below (left + 1) result }
+{
+    match definition {
+        Some(Definition::Typedef(_, ty)) => Step::Next(TypeRef {
+            file: spot.file,
+            ty,
+            left,
+        }),
+        Some(Definition::Enum(_, _)) => Step::Done(Shape::Enum(spot)),
+        Some(Definition::Struct(_, _, _)) => Step::Done(Shape::Struct(spot)),
+        _ => Step::Done(Shape::Unknown),
+    }
+}
