@@ -1,0 +1,2 @@
+-- Names of methods with the names of their services.
+pub mod Names

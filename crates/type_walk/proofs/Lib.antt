@@ -1,0 +1,3 @@
+mod Nested
+mod Sound
+mod Unknown

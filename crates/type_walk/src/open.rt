@@ -1,0 +1,153 @@
+//! What is open in a body, of which something is declared or not.
+ghost use Rattle.std.specs.Prelude.{◌≡◌, ◌<◌, ◌≤◌, ◌∷◌, Some, length};
+ghost use Rattle.thrift_value.specs.Items.{item_of};
+ghost use Rattle.protocol_traits.specs.Follow.{depth_after};
+ghost use Rattle.type_tables.specs.Declarations.{Declarations};
+ghost use Rattle.type_walk.specs.Positions.{after, called_for, entered, passed, standing};
+ghost use Rattle.type_walk.specs.Stack.{rest_of};
+ghost use Rattle.type_walk.specs.Known.{IsKnownLevel, IsSound, shaded, position_of};
+
+use crate::levels::{Level, Levels};
+use crate::types::{called_for, field_type, in_list, in_map, in_set, in_struct};
+use thrift_value::Event;
+use type_tables::{Schema, Ty};
+
+/// The open structs and containers, and the declared type of the value that stands next.
+#[derive(Drop)]
+pub struct Open {
+    pub next: Ty,
+    pub known: Levels,
+    /// How many levels are open inside the known ones, of which nothing is known.
+    pub unknown: usize,
+}
+
+impl Open {
+    /// Goes past an event.
+    #[inline(always)]
+    pub fn pass(&mut self, schema: &Schema, event: &Event<'_>)
+        requires sound { IsSound schema.now self.old }
+        requires open { 0 < length (shaded self.old.unknown self.old.known) }
+        requires shallow { depth_after (item_of event.now) (length (shaded self.old.unknown self.old.known)) ≤ 256 }
+        ensures after { position_of schema.now self.new ≡ after (position_of schema.now self.old) (item_of event.now) }
+        ensures sound { IsSound schema.now self.new }
+    {
+        if self.unknown > 0 {
+            self.pass_unknown(schema, event);
+        } else {
+            self.pass_known(schema, event);
+        }
+    }
+
+    #[inline(always)]
+    fn pass_unknown(&mut self, schema: &Schema, event: &Event<'_>)
+        requires sound { IsSound schema.now self.old }
+        requires below { 0 < self.old.unknown }
+        requires shallow { depth_after (item_of event.now) (length (shaded self.old.unknown self.old.known)) ≤ 256 }
+        ensures after { position_of schema.now self.new ≡ after (position_of schema.now self.old) (item_of event.now) }
+        ensures sound { IsSound schema.now self.new }
+    {
+        match *event {
+            Event::Stop | Event::End => self.leave_unknown(schema),
+            Event::StructBegin
+            | Event::MapBegin(_, _, _)
+            | Event::SetBegin(_, _)
+            | Event::ListBegin(_, _) => self.unknown += 1,
+            _ => {}
+        }
+    }
+
+    /// Closes a level of which nothing is known.
+    fn leave_unknown(&mut self, schema: &Schema)
+        requires sound { IsSound schema.now self.old }
+        requires below { 0 < self.old.unknown }
+        ensures after { position_of schema.now self.new ≡ standing schema.now (rest_of (shaded self.old.unknown self.old.known)) }
+        ensures sound { IsSound schema.now self.new }
+    {
+        self.unknown -= 1;
+        if self.unknown == 0 {
+            self.next = called_for(self.known.top());
+        }
+    }
+
+    fn pass_known(&mut self, schema: &Schema, event: &Event<'_>)
+        requires sound { IsSound schema.now self.old }
+        requires all { self.old.unknown ≡ 0 }
+        requires open { 0 < length self.old.known }
+        requires shallow { depth_after (item_of event.now) (length self.old.known) ≤ 256 }
+        ensures after { position_of schema.now self.new ≡ after (position_of schema.now self.old) (item_of event.now) }
+        ensures sound { IsSound schema.now self.new }
+    {
+        match *event {
+            Event::Field(id, kind) => self.next = field_type(schema, self.known.top(), id, kind),
+            Event::Stop | Event::End => self.leave(schema),
+            Event::StructBegin => self.enter(schema, in_struct(self.next)),
+            Event::MapBegin(key, value, _) => {
+                self.enter(schema, in_map(schema, self.next, key, value));
+            }
+            Event::SetBegin(kind, _) => self.enter(schema, in_set(schema, self.next, kind)),
+            Event::ListBegin(kind, _) => self.enter(schema, in_list(schema, self.next, kind)),
+            _ => self.spend(schema),
+        }
+    }
+
+    /// A struct or container has begun where a value was called for.
+    fn enter(&mut self, schema: &Schema, level: Level)
+        requires sound { IsSound schema.now self.old }
+        requires known { IsKnownLevel schema.now level }
+        requires all { self.old.unknown ≡ 0 }
+        requires open { 0 < length self.old.known }
+        requires shallow { length self.old.known < 256 }
+        ensures after { position_of schema.now self.new ≡ entered (position_of schema.now self.old) level }
+        ensures sound { IsSound schema.now self.new }
+    {
+        self.spend(schema);
+        match level {
+            Level::Unknown => {
+                self.unknown = 1;
+                self.next = Ty::Unknown;
+            }
+            _ => {
+                self.known.push(level);
+                self.next = called_for(Some(level));
+            }
+        }
+    }
+
+    /// Closes the innermost level.
+    fn leave(&mut self, schema: &Schema)
+        requires sound { IsSound schema.now self.old }
+        requires all { self.old.unknown ≡ 0 }
+        requires open { 0 < length self.old.known }
+        ensures after { position_of schema.now self.new ≡ standing schema.now (rest_of self.old.known) }
+        ensures sound { IsSound schema.now self.new }
+        ensures all { self.new.unknown ≡ 0 }
+    {
+        self.known.pop();
+        self.next = called_for(self.known.top());
+    }
+
+    /// A value has come: after a key comes its value, after that the next key.
+    #[inline(always)]
+    fn spend(&mut self, schema: &Schema)
+        requires sound { IsSound schema.now self.old }
+        requires all { self.old.unknown ≡ 0 }
+        requires open { 0 < length self.old.known }
+        ensures levels { self.new.known ≡ passed self.old.known }
+        ensures after { position_of schema.now self.new ≡ standing schema.now (passed self.old.known) }
+        ensures sound { IsSound schema.now self.new }
+        ensures all { self.new.unknown ≡ 0 }
+    {
+        match self.known.top() {
+            Some(Level::Keys(key, value)) => {
+                self.known.set_top(Level::Values(key, value));
+                self.next = value;
+            }
+            Some(Level::Values(key, value)) => {
+                self.known.set_top(Level::Keys(key, value));
+                self.next = key;
+            }
+            Some(Level::Elements(element)) => self.next = element,
+            Some(Level::Fields(_) | Level::Unknown) | None => self.next = Ty::Unknown,
+        }
+    }
+}

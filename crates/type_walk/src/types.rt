@@ -1,0 +1,169 @@
+//! The declared types at one step down from a struct or container.
+ghost use Rattle.std.specs.Prelude.{◌≡◌, IfSome, Some};
+ghost use Rattle.thrift_value.specs.Gathering.{rank_of};
+ghost use Rattle.type_tables.specs.Declarations.{Declarations};
+ghost use Rattle.type_tables.specs.Kinds.{kind_of};
+ghost use Rattle.type_tables.specs.Known.{IsKnown};
+ghost use Rattle.type_walk.specs.Known.{IsKnownLevel};
+ghost use Rattle.type_walk.specs.Positions.{under, field_type, type_at, in_struct, in_map, in_set, in_list, called_for, mark_at, hint_at, filler};
+
+use crate::levels::Level;
+use protocol_traits::{Hint, Mark};
+use thrift_value::Kind;
+use type_tables::{Schema, StructId, Ty, TyId};
+
+/// The type of the field with this id, where a value of this kind is announced.
+#[inline(always)]
+pub fn field_type(schema: &Schema, level: Option<Level>, id: i16, kind: Kind) -> Ty
+    requires { IfSome level (IsKnownLevel schema.now) }
+    ensures value { result ≡ field_type schema.now level id kind }
+    ensures known { IsKnown schema.now result }
+{
+    match level {
+        Some(Level::Fields(s)) => declared_field(schema, s, id, kind),
+        _ => Ty::Unknown,
+    }
+}
+
+fn declared_field(schema: &Schema, s: StructId, id: i16, kind: Kind) -> Ty
+    requires { IsKnownLevel schema.now (Level.Fields s) }
+    ensures value { result ≡ field_type schema.now (Some (Level.Fields s)) id kind }
+    ensures known { IsKnown schema.now result }
+{
+    match schema.field(s, id) {
+        Some(field) => under(field.ty, kind),
+        None => Ty::Unknown,
+    }
+}
+
+/// What a struct of this type is inside.
+#[inline(always)]
+pub fn in_struct(ty: Ty) -> Level
+    ensures value { result ≡ in_struct ty }
+    ensures known { (d : Declarations) → IsKnown d ty → IsKnownLevel d result }
+{
+    match ty {
+        Ty::Struct(s) => Level::Fields(s),
+        _ => Level::Unknown,
+    }
+}
+
+/// What a map of this type is inside, where its begin tells these kinds.
+pub fn in_map(schema: &Schema, ty: Ty, key_kind: Kind, value_kind: Kind) -> Level
+    requires { IsKnown schema.now ty }
+    ensures value { result ≡ in_map schema.now ty key_kind value_kind }
+    ensures known { IsKnownLevel schema.now result }
+{
+    match ty {
+        Ty::Map(key, value) => {
+            let key = under(schema.ty(key), key_kind);
+            let value = under(schema.ty(value), value_kind);
+            Level::Keys(key, value)
+        }
+        _ => Level::Unknown,
+    }
+}
+
+/// What a set of this type is inside, where its begin tells this kind.
+pub fn in_set(schema: &Schema, ty: Ty, kind: Kind) -> Level
+    requires { IsKnown schema.now ty }
+    ensures value { result ≡ in_set schema.now ty kind }
+    ensures known { IsKnownLevel schema.now result }
+{
+    match ty {
+        Ty::Set(element) => Level::Elements(under(schema.ty(element), kind)),
+        _ => Level::Unknown,
+    }
+}
+
+/// What a list of this type is inside, where its begin tells this kind.
+pub fn in_list(schema: &Schema, ty: Ty, kind: Kind) -> Level
+    requires { IsKnown schema.now ty }
+    ensures value { result ≡ in_list schema.now ty kind }
+    ensures known { IsKnownLevel schema.now result }
+{
+    match ty {
+        Ty::List(element) => Level::Elements(under(schema.ty(element), kind)),
+        _ => Level::Unknown,
+    }
+}
+
+/// The type of the value that an innermost level calls for.
+#[inline(always)]
+pub fn called_for(level: Option<Level>) -> Ty
+    ensures value { result ≡ called_for level }
+    ensures known { (d : Declarations) → IfSome level (IsKnownLevel d) → IsKnown d result }
+{
+    match level {
+        Some(Level::Elements(element)) => element,
+        Some(Level::Keys(key, _)) => key,
+        Some(Level::Values(_, value)) => value,
+        Some(Level::Fields(_) | Level::Unknown) | None => Ty::Unknown,
+    }
+}
+
+/// What is known at a position of this type.
+#[inline(always)]
+pub fn mark_at(schema: &Schema, ty: Ty) -> Mark
+    requires { IsKnown schema.now ty }
+    ensures { result ≡ mark_at schema.now ty }
+{
+    match ty {
+        Ty::Map(key, value) => map_mark(schema, key, value),
+        _ => Mark {
+            hint: hint_at(ty),
+            key: Kind::I8,
+            value: Kind::I8,
+        },
+    }
+}
+
+fn map_mark(schema: &Schema, key: TyId, value: TyId) -> Mark
+    requires { IsKnown schema.now (Ty.Map key value) }
+    ensures { result ≡ mark_at schema.now (Ty.Map key value) }
+{
+    Mark {
+        hint: Hint::Unknown,
+        key: filler(schema.ty(key).kind()),
+        value: filler(schema.ty(value).kind()),
+    }
+}
+
+/// How a string of this type is read.
+#[inline(always)]
+pub fn hint_at(ty: Ty) -> Hint
+    ensures { result ≡ hint_at ty }
+{
+    match ty {
+        Ty::Text => Hint::Text,
+        Ty::Blob => Hint::Blob,
+        _ => Hint::Unknown,
+    }
+}
+
+fn filler(kind: Option<Kind>) -> Kind
+    ensures { result ≡ filler kind }
+{
+    match kind {
+        Some(kind) => kind,
+        None => Kind::I8,
+    }
+}
+
+/// The declared type, where a value of this kind stands.
+fn under(ty: Ty, kind: Kind) -> Ty
+    ensures value { result ≡ under ty kind }
+    ensures known { (d : Declarations) → IsKnown d ty → IsKnown d result }
+{
+    match ty.kind() {
+        Some(own) if rank(own) == rank(kind) => ty,
+        _ => Ty::Unknown,
+    }
+}
+
+/// A number for each kind.
+fn rank(kind: Kind) -> u8
+    ensures { result ≡ rank_of kind }
+{
+    kind as u8
+}
