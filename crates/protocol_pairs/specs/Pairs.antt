@@ -1,11 +1,18 @@
--- The verdict on a frame of one protocol for another.
-use Rattle.std.specs.Prelude.{◌≡◌, ℕ, List, length, None}
+-- The verdict on a frame of one protocol for another, by what is declared and by the route.
+use Rattle.std.specs.Prelude.{ℕ, List, None, Result}
 use Rattle.protocol_traits.specs.declared.proto.Proto.{Proto}
 use Rattle.protocol_traits.specs.declared.proto.Proto.TheVariants as protocols
 use Rattle.protocol_traits.specs.Follow.{depth_after}
-use Rattle.translate_core.specs.Positions.{untyped, start}
+use Rattle.thrift_value.specs.declared.kind.MessageType.{MessageType}
+use Rattle.protocol_traits.specs.declared.fault.Fault.{Fault}
+use Rattle.type_tables.specs.Declarations.{Declarations}
+use Rattle.translate_core.specs.declared.route.Route.{Route}
+use Rattle.translate_core.specs.declared.verdict.Cause.{Cause}
+use Rattle.translate_core.specs.Positions.{typed}
+use Rattle.translate_core.specs.Routes.{start_of, info_of}
 use Rattle.translate_core.specs.Body.{Source, Target, source_of, target_of}
-use Rattle.translate_core.specs.Judged.{Judged, judge}
+use Rattle.translate_core.specs.Judged.{Judged, judge, type_of}
+use Rattle.translate_core.specs.Answers.{answer_of}
 use Rattle.binary_protocol.specs.Reading as binary_reading
 use Rattle.binary_protocol.specs.Plain as binary_plain
 use Rattle.compact_protocol.specs.Reading as compact_reading
@@ -37,13 +44,34 @@ json_target = target_of json_plain.begun json_plain.name_bar json_plain.plain_he
 
 module _ {S : Type 0} (source : Source S) where
   -- the verdict on a frame of this source for a protocol
-  abbrev pub judged_to : Proto → List ℕ → Judged
-  judged_to protocols.Binary frame = judge source untyped start binary_target frame
-  judged_to protocols.Compact frame = judge source untyped start compact_target frame
-  judged_to protocols.Json frame = judge source untyped start json_target frame
+  abbrev pub judged_to : Declarations → Route → Proto → List ℕ → Judged
+  judged_to d route protocols.Binary frame = judge source typed (start_of d route) (info_of d route) binary_target frame
+  judged_to d route protocols.Compact frame = judge source typed (start_of d route) (info_of d route) compact_target frame
+  judged_to d route protocols.Json frame = judge source typed (start_of d route) (info_of d route) json_target frame
+
+  -- what answers a frame of this source in a protocol
+  abbrev pub answered_to : Proto → List ℕ → Cause → List ℕ
+  answered_to protocols.Binary frame cause = answer_of source binary_target frame cause
+  answered_to protocols.Compact frame cause = answer_of source compact_target frame cause
+  answered_to protocols.Json frame cause = answer_of source json_target frame cause
+
+  abbrev pub typed_as : List ℕ → Result MessageType Fault
+  typed_as frame = type_of (source.reads_head (source.begun frame))
 
 -- the verdict on a frame of one protocol for another, and the bytes that are written
-unfoldable pub judged : Proto → Proto → List ℕ → Judged
-judged protocols.Binary to frame = judged_to binary_source to frame
-judged protocols.Compact to frame = judged_to compact_source to frame
-judged protocols.Json to frame = judged_to json_source to frame
+unfoldable pub judged : Declarations → Route → Proto → Proto → List ℕ → Judged
+judged d route protocols.Binary to frame = judged_to binary_source d route to frame
+judged d route protocols.Compact to frame = judged_to compact_source d route to frame
+judged d route protocols.Json to frame = judged_to json_source d route to frame
+
+-- what answers a frame of one protocol in another, for a cause
+unfoldable pub answered : Proto → Proto → List ℕ → Cause → List ℕ
+answered protocols.Binary to frame cause = answered_to binary_source to frame cause
+answered protocols.Compact to frame cause = answered_to compact_source to frame cause
+answered protocols.Json to frame cause = answered_to json_source to frame cause
+
+-- the type in a frame's header, or the fault that stands in the header
+unfoldable pub headed : Proto → List ℕ → Result MessageType Fault
+headed protocols.Binary frame = typed_as binary_source frame
+headed protocols.Compact frame = typed_as compact_source frame
+headed protocols.Json frame = typed_as json_source frame

@@ -4,6 +4,8 @@
 //! else. `judged` is the verdict on a frame for two protocols, in the words of the readers' and writers' own rules.
 #![tactic(auto)]
 
+mod answers;
 mod pairs;
 
+pub use answers::{answer, head_type};
 pub use pairs::translate;

@@ -20,9 +20,6 @@ pub record Judged : Type 0 where
 abbrev pub judged : Verdict → List ℕ → Judged
 judged verdict bytes = record { verdict = verdict; bytes = bytes }
 
-abbrev pub info_of : Header → HeadInfo
-info_of h = record { mtype = h.mtype; seq = h.seq }
-
 -- the message passes, unless something stands against it
 abbrev pub passed_or : HeadInfo → Option Cause → Verdict
 passed_or info (Some cause) = Refused info cause
@@ -47,7 +44,7 @@ abbrev pub body_bytes : {S P T : Type 0} → Ended S P T → List ℕ
 body_bytes (Ok g) = g.bytes
 body_bytes (Err f) = []
 
-module _ {S P T : Type 0} (source : Source S) (positions : Positions P) (start : MessageType → P) (target : Target T) where
+module _ {S P T : Type 0} (source : Source S) (positions : Positions P) (start : Header → P) (info : Header → HeadInfo) (target : Target T) where
   abbrev pub head_cause : Header → S → Option Cause
   head_cause h s = first_cause None (target.name_bar h.name) (source.place s)
 
@@ -55,11 +52,11 @@ module _ {S P T : Type 0} (source : Source S) (positions : Positions P) (start :
   head_bytes h = if is_some (target.name_bar h.name) then [] else target.plain_head h
 
   abbrev pub body_of : Header × S → Ended S P T
-  body_of x = whole source positions target (going x.1 (start x.0.mtype) target.begun 1 (head_cause x.0 x.1) [])
+  body_of x = whole source positions target (going x.1 (start x.0) target.begun 1 (head_cause x.0 x.1) [])
 
   abbrev pub after_head : Step S Header → Judged
   after_head (Ok x) =
-      let verdict = after_body source (info_of x.0) (body_of x) in
+      let verdict = after_body source (info x.0) (body_of x) in
       judged verdict (kept verdict (head_bytes x.0 ++ body_bytes (body_of x)))
   after_head (Err f) = judged (Unread f) []
 
@@ -70,6 +67,12 @@ module _ {S P T : Type 0} (source : Source S) (positions : Positions P) (start :
 -- the code's answer, and what the output has grown by
 abbrev pub IsJudged : Verdict → List ℕ → List ℕ → Judged → Type 0
 IsJudged verdict old new j = (j.verdict ≡ verdict) × (new ≡ old ++ j.bytes)
+
+-- where the message does not pass the output is as it was
+abbrev pub IsLeft : Verdict → List ℕ → List ℕ → Type 0
+IsLeft (Passed info) old new = Unit {0}
+IsLeft (Refused info cause) old new = new ≡ old
+IsLeft (Unread f) old new = new ≡ old
 
 -- the output has grown, where the message passed by these bytes
 abbrev pub Grows : Verdict → List ℕ → List ℕ → List ℕ → Type 0

@@ -3,41 +3,40 @@ ghost use Rattle.std.specs.Prelude.{◌≡◌, ℕ, ◌+◌, ◌*◌, ◌≤◌,
 ghost use Rattle.thrift_value.specs.Items.{item_of};
 ghost use Rattle.protocol_traits.specs.Follow.{depth_after};
 ghost use Rattle.protocol_traits.specs.Room.{weight, IsSized};
-ghost use Rattle.translate_core.specs.Positions.{untyped};
+ghost use Rattle.translate_core.specs.Positions.{typed};
 ghost use Rattle.translate_core.specs.Body.{tried, goes_out, first_cause, whole, source_of, target_of, going, IsEnd};
 
 use crate::verdict::Cause;
-use crate::walk::{Walk, depth_after};
 use gate_io::Out;
 use protocol_traits::{Bar, Fault, Mark, WireRead, WireWrite};
 use thrift_value::Event;
+use type_walk::Walking;
 
 /// Takes the body from the reader to the writer, and answers the first bar.
 ///
 /// Behind a bar it reads on, for a fault that stands later goes before the bar.
-pub fn body<'f, R: WireRead<'f>, W: WireWrite>(
+pub fn body<'f, R: WireRead<'f>, W: WireWrite, K: Walking>(
     reader: &mut R,
-    walk: &mut Walk,
+    walk: &mut K,
     writer: &mut W,
     barred: Option<Cause>,
     out: &mut Out,
 ) -> Result<Option<Cause>, Fault>
     requires begins { R.depth reader.old ≡ 1 }
-    requires walks { walk.old.depth ≡ 1 }
+    requires walks { length (K.at walk.old).levels ≡ 1 }
     requires opens { W.depth writer.old ≡ 1 }
     requires room { length out.old.bytes + R.ahead reader.old ≤ out.old.room }
-    ensures exact { IsEnd result reader.new walk.new writer.new out.old.bytes out.new.bytes
-        (whole (source_of R.begun R.reads_head R.reads R.reads_end R.value_place R.ahead) untyped
+    ensures exact { IsEnd result reader.new (K.at walk.new) writer.new out.old.bytes out.new.bytes
+        (whole (source_of R.begun R.reads_head R.reads R.reads_end R.value_place R.ahead) typed
         (target_of W.begun W.name_bar W.plain_head W.bar W.plain W.after)
-        (going reader.old walk.old writer.old 1 barred [])) }
+        (going reader.old (K.at walk.old) writer.old 1 barred [])) }
     ensures room { out.new.room ≡ out.old.room }
+    ensures short { length out.new.bytes ≤ length out.old.bytes + R.ahead reader.old }
 {
-    let mut depth: usize = 1;
     let mut cause = barred;
-    while depth > 0 {
+    'events: while walk.is_open() {
         match reader.next(walk.hint()) {
             Ok(event) => {
-                depth = depth_after(&event, depth);
                 let mark = walk.step(&event);
                 let found = pass(writer, &event, mark, cause.is_some(), out);
                 cause = first_cause(cause, found, reader.place());

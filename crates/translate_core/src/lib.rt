@@ -1,16 +1,21 @@
 //! One message from any protocol to any other, event by event.
 //!
 //! A frame passes whole, or nothing is written of it and its cause is told: the fault that stands in it, or else the
-//! first value that the target's protocol can't hold. No tree is built and no memory is taken.
+//! first value that the target's protocol can't hold. What an IDL declares of each value says how a string of JSON is
+//! read and with which kinds an empty map is written. No tree is built and no memory is taken.
 #![tactic(auto)]
 
+mod answering;
 mod body;
+mod laws;
 mod message;
+mod route;
 mod texts;
 mod verdict;
-mod walk;
 
+pub use answering::answer;
+pub use laws::an_answer_is_a_declared_failure;
 pub use message::{head_type, translate};
+pub use route::Route;
 pub use texts::{bar_text, reason_text};
 pub use verdict::{Cause, HeadInfo, Verdict};
-pub use walk::Walk;

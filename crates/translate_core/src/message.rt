@@ -1,50 +1,61 @@
 //! A whole message.
-ghost use Rattle.std.specs.Prelude.{◌≡◌, ℕ, ◌+◌, ◌*◌, ◌≤◌, ◌^◌, ◌<◌, List, ◌++◌, [], length, take, drop, is_some, if◌then◌else◌, FitsSigned};
+ghost use Rattle.std.specs.Prelude.{◌≡◌, ℕ, ◌+◌, ◌*◌, ◌≤◌, ◌^◌, ◌<◌, List, ◌++◌, [], length, take, drop, is_some, if◌then◌else◌, IfSome, FitsSigned};
 ghost use Rattle.std.specs.Int.{w32};
 ghost use Rattle.protocol_traits.specs.Heads.{header_of};
 ghost use Rattle.protocol_traits.specs.Room.{head_weight};
 ghost use Rattle.protocol_traits.specs.Steps.{seen};
-ghost use Rattle.translate_core.specs.Positions.{untyped, start};
+ghost use Rattle.type_walk.specs.Positions.{start};
+ghost use Rattle.translate_core.specs.Positions.{typed};
+ghost use Rattle.translate_core.specs.Routes.{IsKnownRoute, info_of, start_of};
 ghost use Rattle.translate_core.specs.Body.{first_cause, source_of, target_of, going, whole};
-ghost use Rattle.translate_core.specs.Judged.{judge, IsJudged, info_of, after_body, body_bytes, kept, Grows, type_of};
+ghost use Rattle.translate_core.specs.Judged.{judge, IsJudged, after_body, body_bytes, kept, Grows, IsLeft, type_of};
 
-use crate::Walk;
 use crate::body::{body, first_cause};
+use crate::route::{Route, Told, told_of};
 use crate::verdict::{Cause, HeadInfo, Verdict};
 use gate_io::Out;
 use protocol_traits::{Bar, Fault, Head, WireRead, WireWrite};
 use thrift_value::MessageType;
+use type_tables::Schema;
+use type_walk::{Undeclared, Walk, Walking};
 
 /// Translates a frame to the end of `out`, or leaves `out` as it was.
+///
+/// The route says which of the schema's structs the body is. Below what the schema declares nothing is known.
 ///
 /// `room` is the reader's, at least as long as the frame. The verdict is `Unread` where no front of the frame is a
 /// whole header, else `Refused` with the fault where the frame is no message, else `Refused` with the first value that
 /// is barred, the name before the others, and else `Passed`.
 pub fn translate<'f, R: WireRead<'f>, W: WireWrite>(
+    schema: &Schema,
+    route: Route,
     frame: &'f [u8],
     room: &'f mut [u8],
     out: &mut Out,
 ) -> Verdict
+    requires known { IsKnownRoute schema.now route }
     requires room { length frame.now ≤ length room.old }
     requires size { length frame.now < 2 ^ 31 }
     requires fits { length out.old.bytes + (24 * length frame.now + 256) ≤ out.old.room }
     ensures exact { IsJudged result out.old.bytes out.new.bytes
-        (judge (source_of R.begun R.reads_head R.reads R.reads_end R.value_place R.ahead) untyped start
+        (judge (source_of R.begun R.reads_head R.reads R.reads_end R.value_place R.ahead) typed (start_of schema.now route) (info_of schema.now route)
         (target_of W.begun W.name_bar W.plain_head W.bar W.plain W.after) frame.now) }
+    ensures left { IsLeft result out.old.bytes out.new.bytes }
     ensures room { out.new.room ≡ out.old.room }
+    ensures short { length out.new.bytes ≤ length out.old.bytes + (24 * length frame.now + 256) }
 {
     let start = out.bytes().len();
     let mut reader = R::over(frame, room);
     let mut writer = W::over();
-    let (info, bar) = match reader.head() {
+    let (told, bar) = match reader.head() {
         Ok(head) => {
-            let info = info_of(&head);
-            (info, pass_head(&mut writer, head, out))
+            let told = told_of(schema, route, &head);
+            (told, pass_head(&mut writer, head, out))
         }
         Err(fault) => return Verdict::Unread(fault),
     };
     let barred = first_cause(None, bar, reader.place());
-    let verdict = verdict_on(&mut reader, &mut writer, info, barred, out);
+    let verdict = verdict_by(schema, told, &mut reader, &mut writer, barred, out);
     keep(&verdict, start, out);
     verdict
 }
@@ -65,15 +76,6 @@ pub fn head_type<'f, R: WireRead<'f>>(
     }
 }
 
-fn info_of(head: &Head<'_>) -> HeadInfo
-    ensures { result ≡ info_of (header_of head.now) }
-{
-    HeadInfo {
-        mtype: head.mtype,
-        seq: head.seq,
-    }
-}
-
 /// Writes the header, unless its name is barred.
 fn pass_head<W: WireWrite>(writer: &mut W, head: Head<'_>, out: &mut Out) -> Option<Bar>
     requires sized { length head.name.now < 2 ^ 31 }
@@ -81,6 +83,7 @@ fn pass_head<W: WireWrite>(writer: &mut W, head: Head<'_>, out: &mut Out) -> Opt
     ensures found { result ≡ W.name_bar head.entry.name.now }
     ensures state { writer.new ≡ writer.old }
     ensures out { out.new ≡ record out.old { bytes = if is_some (W.name_bar head.entry.name.now) then out.old.bytes else out.old.bytes ++ W.plain_head (header_of head.entry) } }
+    ensures short { length out.new.bytes ≤ length out.old.bytes + head_weight (length head.entry.name.now) }
 {
     match W::takes_name(head.name) {
         Ok(()) => {
@@ -91,29 +94,91 @@ fn pass_head<W: WireWrite>(writer: &mut W, head: Head<'_>, out: &mut Out) -> Opt
     }
 }
 
-/// Takes the body and the end, and answers the verdict.
-fn verdict_on<'f, R: WireRead<'f>, W: WireWrite>(
+/// Takes the body and the end, and answers the verdict, by what the header tells.
+fn verdict_by<'f, R: WireRead<'f>, W: WireWrite>(
+    schema: &Schema,
+    told: Told,
     reader: &mut R,
+    writer: &mut W,
+    barred: Option<Cause>,
+    out: &mut Out,
+) -> Verdict
+    requires known { IfSome told.body (λ s. s.0 < length schema.now.structs) }
+    requires begins { R.depth reader.old ≡ 1 }
+    requires opens { W.depth writer.old ≡ 1 }
+    requires room { length out.old.bytes + R.ahead reader.old ≤ out.old.room }
+    ensures verdict { result ≡ after_body (source_of R.begun R.reads_head R.reads R.reads_end R.value_place R.ahead) told.info
+        (whole (source_of R.begun R.reads_head R.reads R.reads_end R.value_place R.ahead) typed
+        (target_of W.begun W.name_bar W.plain_head W.bar W.plain W.after)
+        (going reader.old (start schema.now told.body) writer.old 1 barred [])) }
+    ensures bytes { Grows result out.old.bytes out.new.bytes (body_bytes
+        (whole (source_of R.begun R.reads_head R.reads R.reads_end R.value_place R.ahead) typed
+        (target_of W.begun W.name_bar W.plain_head W.bar W.plain W.after)
+        (going reader.old (start schema.now told.body) writer.old 1 barred []))) }
+    ensures room { out.new.room ≡ out.old.room }
+    ensures short { length out.new.bytes ≤ length out.old.bytes + R.ahead reader.old }
+{
+    if told.body.is_none() {
+        let mut walk = Undeclared::start(schema);
+        return verdict_on(reader, &mut walk, writer, told.info, barred, out);
+    }
+    verdict_declared(schema, told, reader, writer, barred, out)
+}
+
+/// The same where the body's struct is declared. A walk is large, so only this function has one.
+#[inline(never)]
+fn verdict_declared<'f, R: WireRead<'f>, W: WireWrite>(
+    schema: &Schema,
+    told: Told,
+    reader: &mut R,
+    writer: &mut W,
+    barred: Option<Cause>,
+    out: &mut Out,
+) -> Verdict
+    requires known { IfSome told.body (λ s. s.0 < length schema.now.structs) }
+    requires begins { R.depth reader.old ≡ 1 }
+    requires opens { W.depth writer.old ≡ 1 }
+    requires room { length out.old.bytes + R.ahead reader.old ≤ out.old.room }
+    ensures verdict { result ≡ after_body (source_of R.begun R.reads_head R.reads R.reads_end R.value_place R.ahead) told.info
+        (whole (source_of R.begun R.reads_head R.reads R.reads_end R.value_place R.ahead) typed
+        (target_of W.begun W.name_bar W.plain_head W.bar W.plain W.after)
+        (going reader.old (start schema.now told.body) writer.old 1 barred [])) }
+    ensures bytes { Grows result out.old.bytes out.new.bytes (body_bytes
+        (whole (source_of R.begun R.reads_head R.reads R.reads_end R.value_place R.ahead) typed
+        (target_of W.begun W.name_bar W.plain_head W.bar W.plain W.after)
+        (going reader.old (start schema.now told.body) writer.old 1 barred []))) }
+    ensures room { out.new.room ≡ out.old.room }
+    ensures short { length out.new.bytes ≤ length out.old.bytes + R.ahead reader.old }
+{
+    let mut walk = Walk::start(schema, told.body);
+    verdict_on(reader, &mut walk, writer, told.info, barred, out)
+}
+
+/// Takes the body and the end, and answers the verdict.
+fn verdict_on<'f, R: WireRead<'f>, W: WireWrite, K: Walking>(
+    reader: &mut R,
+    walk: &mut K,
     writer: &mut W,
     info: HeadInfo,
     barred: Option<Cause>,
     out: &mut Out,
 ) -> Verdict
     requires begins { R.depth reader.old ≡ 1 }
+    requires walks { length (K.at walk.old).levels ≡ 1 }
     requires opens { W.depth writer.old ≡ 1 }
     requires room { length out.old.bytes + R.ahead reader.old ≤ out.old.room }
     ensures verdict { result ≡ after_body (source_of R.begun R.reads_head R.reads R.reads_end R.value_place R.ahead) info
-        (whole (source_of R.begun R.reads_head R.reads R.reads_end R.value_place R.ahead) untyped
+        (whole (source_of R.begun R.reads_head R.reads R.reads_end R.value_place R.ahead) typed
         (target_of W.begun W.name_bar W.plain_head W.bar W.plain W.after)
-        (going reader.old (start info.mtype) writer.old 1 barred [])) }
+        (going reader.old (K.at walk.old) writer.old 1 barred [])) }
     ensures bytes { Grows result out.old.bytes out.new.bytes (body_bytes
-        (whole (source_of R.begun R.reads_head R.reads R.reads_end R.value_place R.ahead) untyped
+        (whole (source_of R.begun R.reads_head R.reads R.reads_end R.value_place R.ahead) typed
         (target_of W.begun W.name_bar W.plain_head W.bar W.plain W.after)
-        (going reader.old (start info.mtype) writer.old 1 barred []))) }
+        (going reader.old (K.at walk.old) writer.old 1 barred []))) }
     ensures room { out.new.room ≡ out.old.room }
+    ensures short { length out.new.bytes ≤ length out.old.bytes + R.ahead reader.old }
 {
-    let mut walk = Walk::start(info.mtype);
-    match body(reader, &mut walk, writer, barred, out) {
+    match body(reader, walk, writer, barred, out) {
         Ok(cause) => match reader.finish() {
             Ok(()) => match cause {
                 Some(cause) => Verdict::Refused(info, cause),

@@ -1,6 +1,7 @@
 //! What becomes of a frame.
 use protocol_traits::{Bar, Fault};
 use thrift_value::MessageType;
+use type_tables::MethodInfo;
 
 /// Why a frame whose header was read does not pass.
 #[derive(Clone, Copy, Debug, PartialEq, Eq)]
@@ -17,6 +18,8 @@ pub struct HeadInfo {
     pub mtype: MessageType,
     /// The sequence number.
     pub seq: i32,
+    /// The method that its name means, where one is looked for and is found.
+    pub method: Option<MethodInfo>,
 }
 
 /// The verdict on a frame.
