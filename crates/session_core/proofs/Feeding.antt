@@ -1,5 +1,5 @@
 -- A session that fits takes bytes, has bytes sent and meets an end.
-use Rattle.std.proofs.Common.{◌≡◌, ℕ, zero, suc, ◌+◌, ◌-◌, ◌≤◌, List, [], ◌∷◌, ◌++◌, length, append_assoc, take, drop, min, arith, refl, sym, ◌∙◌, ap, subst, true}
+use Rattle.std.proofs.Common.{◌≡◌, ℕ, zero, suc, ◌+◌, ◌-◌, ◌<◌, ◌≤◌, List, [], ◌∷◌, ◌++◌, length, append_assoc, take, drop, min, arith, refl, sym, ◌∙◌, ap, subst, true}
 use Rattle.std.specs.List.{flat_map}
 use Rattle.std.proofs.lemmas.List.{take-append-drop, take_all, length-drop}
 use Rattle.framed_transport.specs.Frames.{framed}
@@ -135,6 +135,20 @@ pub count_within : (bytes : List ℕ) (taken count room : ℕ) → taken ≤ len
 count_within bytes taken count room within is =
     let whole : take (length bytes - taken) (drop taken bytes) ≡ drop taken bytes = take_all (length bytes - taken) (drop taken bytes) (omega (arith, length-drop taken bytes)) in
     omega (arith, is, ap length whole, length-drop taken bytes)
+
+rest_length : (bytes : List ℕ) (taken : ℕ) → length (take (length bytes - taken) (drop taken bytes)) ≡ length bytes - taken
+rest_length bytes taken =
+    let whole : take (length bytes - taken) (drop taken bytes) ≡ drop taken bytes = take_all (length bytes - taken) (drop taken bytes) (omega (arith, length-drop taken bytes)) in
+    ap length whole ∙ length-drop taken bytes
+
+-- some bytes are fed while some are left and there is room
+pub feeds_some : (bytes : List ℕ) (taken count limit held room : ℕ) → taken < length bytes → room + held ≡ limit + 4 → 0 < room → count ≡ min (length (take (length bytes - taken) (drop taken bytes))) (limit + 4 - held) → 0 < count
+feeds_some bytes taken count limit held room left is some fed = omega (arith, left, is, some, fed, rest_length bytes taken)
+
+-- bytes that there is room for are fed at once
+pub feeds_whole : (bytes : List ℕ) (taken count limit limit' held held' : ℕ) → taken < length bytes → count ≡ min (length (take (length bytes - taken) (drop taken bytes))) (limit' + 4 - held') → limit' ≡ limit → (taken ≡ 0 → held' ≡ held) → (length bytes + held ≤ limit + 4 → 0 < taken → taken ≡ length bytes) → length bytes + held ≤ limit + 4 → taken + count ≡ length bytes
+feeds_whole bytes zero count limit limit' held held' left fed is start whole fits = omega (arith, left, fed, is, start refl, fits, rest_length bytes zero)
+feeds_whole bytes (suc n) count limit limit' held held' left fed is start whole fits = absurd (omega (arith, left, whole fits (omega arith)))
 
 -- ---- a piece is fed, and the session settles
 

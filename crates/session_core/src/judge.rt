@@ -5,12 +5,13 @@ ghost use Rattle.session_core.specs.Rules.{Rules};
 use crate::outcome::Halt;
 use gate_io::Out;
 use translate_core::Cause;
+use type_tables::StructId;
 
 /// What an open call keeps of its method.
 #[derive(Clone, Copy, Debug, PartialEq, Eq)]
 pub struct Call {
-    /// The number of the struct that its reply holds, where the method is known.
-    pub result: Option<u32>,
+    /// The struct of its reply, where the method is known.
+    pub result: Option<StructId>,
 }
 
 /// The verdict on a frame of the client.

@@ -69,6 +69,7 @@ impl<J: Judge> Session<J> {
         ensures fits { (h : History) → Fits (J.rules self.old.judge) self.old.limit self.old.most h self.old.standing →
             Fits (J.rules self.old.judge) self.old.limit self.old.most (record h { from_client = h.from_client ++ take result bytes.now }) self.new.standing }
         ensures fewer { result < length bytes.now → TakesNoMore self.old.limit self.new.standing.client self.old.standing.client_ended self.new.outcome }
+        ensures whole { length bytes.now ≤ room_of self.old.limit self.old.standing (is_some self.old.outcome) Side.Client → result ≡ length bytes.now }
         ensures ended { self.old.standing.client_ended ≡ true → result ≡ 0 }
         ensures over { is_some self.old.outcome ≡ true → result ≡ 0 }
     {
@@ -86,6 +87,7 @@ impl<J: Judge> Session<J> {
         ensures fits { (h : History) → Fits (J.rules self.old.judge) self.old.limit self.old.most h self.old.standing →
             Fits (J.rules self.old.judge) self.old.limit self.old.most (record h { from_upstream = h.from_upstream ++ take result bytes.now }) self.new.standing }
         ensures fewer { result < length bytes.now → TakesNoMore self.old.limit self.new.standing.upstream self.old.standing.upstream_ended self.new.outcome }
+        ensures whole { length bytes.now ≤ room_of self.old.limit self.old.standing (is_some self.old.outcome) Side.Upstream → result ≡ length bytes.now }
         ensures ended { self.old.standing.upstream_ended ≡ true → result ≡ 0 }
         ensures over { is_some self.old.outcome ≡ true → result ≡ 0 }
     {

@@ -391,6 +391,7 @@ impl State {
         ensures fits { (h : History) → Fits (J.rules judge.old) self.old.client.limit self.old.calls.capacity h (standing self.old) →
             Fits (J.rules judge.old) self.old.client.limit self.old.calls.capacity (record h { from_client = h.from_client ++ take result bytes.now }) (standing self.new) }
         ensures fewer { result < length bytes.now → TakesNoMore self.old.client.limit (standing self.new).client self.old.client_ended self.new.outcome }
+        ensures whole { length bytes.now ≤ (if self.old.client_ended || is_some self.old.outcome then 0 else self.old.client.limit + 4 - length self.old.client.held) → result ≡ length bytes.now }
         ensures ended { self.old.client_ended ≡ true → result ≡ 0 }
         ensures over { is_some self.old.outcome ≡ true → result ≡ 0 }
     {
@@ -420,6 +421,7 @@ impl State {
         ensures fits { (h : History) → Fits (J.rules judge.old) self.old.client.limit self.old.calls.capacity h (standing self.old) →
             Fits (J.rules judge.old) self.old.client.limit self.old.calls.capacity (record h { from_upstream = h.from_upstream ++ take result bytes.now }) (standing self.new) }
         ensures fewer { result < length bytes.now → TakesNoMore self.old.client.limit (standing self.new).upstream self.old.upstream_ended self.new.outcome }
+        ensures whole { length bytes.now ≤ (if self.old.upstream_ended || is_some self.old.outcome then 0 else self.old.client.limit + 4 - length self.old.upstream.held) → result ≡ length bytes.now }
         ensures ended { self.old.upstream_ended ≡ true → result ≡ 0 }
         ensures over { is_some self.old.outcome ≡ true → result ≡ 0 }
     {

@@ -4,7 +4,7 @@ use Rattle.session_core.specs.Standing.{Standing}
 use Rattle.session_core.specs.Working.{standing}
 use Rattle.session_core.proofs.Moves.{knows_at}
 use Rattle.session_core.specs.declared.state.State.{State}
-use Rattle.session_core.proofs.Feeding.{count_within, upstream_piece, ready_at, settled_at}
+use Rattle.session_core.proofs.Feeding.{count_within, feeds_some, feeds_whole, upstream_piece, ready_at, settled_at}
 use Rattle.session_core.proofs.state.State.take_upstream.Goals as goal
 
 pub pieces-preserved : goal.pieces-preserved
@@ -23,6 +23,8 @@ pieces-preserved g c =
       known = knows_at rules (g.J.Judge.rules c.pieces.judge) c.settle.new.self judge c.settle.ensures.known;
       settled = settled_at rules (g.J.Judge.rules c.pieces.judge) limit c.pieces.self.client.limit most c.pieces.self.calls.capacity c.settle.new.self judge limits i.ready.calls c.settle.ensures.settled;
       within = omega (arith, fits, i.within);
+      start = λ none. absurd (omega (arith, none, feeds_some c.args.bytes.now c.pieces.taken c.feed-taken.result c.pieces.self.upstream.limit (length c.pieces.self.upstream.held) c.room.result c.pieces-test.true c.room.ensures.room c.if-room-gt0.true c.feed-taken.ensures.count));
+      whole = λ fits some. feeds_whole c.args.bytes.now c.pieces.taken c.feed-taken.result limit c.pieces.self.upstream.limit (length c.args.self.now.upstream.held) (length c.pieces.self.upstream.held) c.pieces-test.true c.feed-taken.ensures.count i.ready.upstream (λ none. ap (λ (s : State). length s.upstream.held) (i.start none)) i.whole fits;
       fits = λ h f. upstream_piece rules (g.J.Judge.rules c.pieces.judge) limit c.pieces.self.client.limit most c.pieces.self.calls.capacity c.pieces.taken c.feed-taken.result h (standing c.pieces.self) (record (standing c.pieces.self) { upstream = c.feed-taken.new.self.held }) (standing c.settle.new.self) c.args.bytes.now judge limits i.ready.calls i.within fits
           (ap (λ (xs : List ℕ). let r : Standing = record (standing c.pieces.self) { upstream = xs } in r) held) c.settle.ensures.fits (i.fits h f);
     }

@@ -1,4 +1,4 @@
-use Rattle.std.proofs.Common.{◌≡◌, ◌≤◌, ◌++◌, ◌-◌, take, length}
+use Rattle.std.proofs.Common.{◌≡◌, ◌+◌, ◌<◌, ◌≤◌, ◌++◌, ◌-◌, take, length}
 use Rattle.session_core.specs.Standing.{History}
 use Rattle.session_core.specs.Fits.{Fits}
 use Rattle.session_core.specs.Working.{IsReady, IsSettled, Knows, standing}
@@ -15,6 +15,8 @@ invariant-pieces g l =
       known : Knows rules l.self;
       settled : IsSettled rules limit most l.self;
       within : l.taken ≤ length l.bytes;
+      start : l.taken ≡ 0 → l.self ≡ l.fn.self;
+      whole : length l.bytes + length l.fn.self.upstream.held ≤ limit + 4 → 0 < l.taken → l.taken ≡ length l.bytes;
       fits : (h : History) → Fits rules limit most h (standing l.fn.self) → Fits rules limit most (record h { from_upstream = h.from_upstream ++ take l.taken l.bytes }) (standing l.self);
     }
 

@@ -1,0 +1,40 @@
+-- What becomes of a frame of the upstream, by the verdict on it.
+use Rattle.std.specs.Prelude.{ℕ, List, [], length, Option, Some, None, nat_lt, if◌then◌else◌}
+use Rattle.thrift_value.specs.declared.kind.MessageType.{MessageType}
+use Rattle.thrift_value.specs.declared.kind.MessageType.TheVariants as types
+use Rattle.type_tables.specs.declared.declared.StructId.{StructId}
+use Rattle.type_tables.specs.Declarations.{Declarations}
+use Rattle.translate_core.specs.declared.verdict.Cause.{Cause}
+use Rattle.translate_core.specs.declared.verdict.Verdict.{Verdict}
+use Rattle.translate_core.specs.declared.verdict.Verdict.TheVariants.{Passed, Refused, Unread}
+use Rattle.session_core.specs.declared.judge.UpstreamJudged.{UpstreamJudged}
+use Rattle.session_core.specs.declared.judge.UpstreamJudged.TheVariants as upstream
+use Rattle.session_core.specs.declared.outcome.Halt.TheVariants as halt
+
+-- the struct that a reply is expected to be: a number that is none of these declarations' says nothing
+abbrev pub expected : Declarations → Option StructId → Option StructId
+expected d None = None
+expected d (Some s) = if nat_lt s.0 (length d.structs) then Some s else None
+
+-- a reply or an exception answers its call; a call is no message of an upstream
+abbrev pub of_type : MessageType → UpstreamJudged
+of_type types.Call = upstream.Halts halt.WrongWay
+of_type types.Oneway = upstream.Halts halt.WrongWay
+of_type types.Reply = upstream.Answers
+of_type types.Exception = upstream.Answers
+
+abbrev pub of_upstream : Verdict → UpstreamJudged
+of_upstream (Passed info) = of_type info.mtype
+of_upstream (Refused info cause) = of_type info.mtype
+of_upstream (Unread fault) = upstream.Halts (halt.Unread fault)
+
+-- what goes to the client for a message of this type
+abbrev pub back : UpstreamJudged → List ℕ → List ℕ
+back upstream.Answers bytes = bytes
+back (upstream.Halts h) bytes = []
+
+-- the reply, or what tells that it is refused
+abbrev pub returned : (Cause → List ℕ) → Verdict → List ℕ → List ℕ
+returned answer (Passed info) bytes = back (of_type info.mtype) bytes
+returned answer (Refused info cause) bytes = back (of_type info.mtype) (answer cause)
+returned answer (Unread fault) bytes = []

@@ -1,0 +1,96 @@
+//! The judge between two protocols.
+ghost use Rattle.std.specs.Prelude.{◌≡◌, ◌^◌, ◌<◌, IfOk, IfSome, length};
+ghost use Rattle.session_judge.specs.Setups.{setting_of};
+
+use crate::judging::judge_client;
+use crate::judging_replies::judge_reply;
+use crate::setup::Setup;
+use gate_io::{Out, OutOfMemory};
+use protocol_pairs::answer;
+use protocol_traits::Proto;
+use session_core::{Call, ClientJudged, Judge, UpstreamJudged};
+use std::alloc::Global;
+use std::marker::Model;
+use translate_core::Cause;
+use type_tables::{Schema, ServiceId};
+
+/// Whoever judges the frames of one session: it reads and writes by two protocols and by what a schema declares.
+#[derive(Drop)]
+pub struct PairJudge<'s> {
+    schema: &'s Schema,
+    service: Option<ServiceId>,
+    client: Proto,
+    upstream: Proto,
+    /// The readers' room.
+    room: Vec<u8>,
+}
+
+/// Clauses see between whom the session goes.
+impl<'s> Model for PairJudge<'s> {
+    ghost use Rattle.std.specs.Prelude.{◌<◌, ◌^◌, IfSome, length};
+    ghost use Rattle.session_judge.specs.Setting.{Setting};
+
+    ghost Value = { Setting };
+
+    ghost view = { λ j. record { declarations = j.schema.now; service = j.service; client = j.client; upstream = j.upstream; longest = length j.room.items } };
+
+    ghost invariant = { λ j. IfSome j.service (λ s. s.0 < length j.schema.now.services) × (length j.room.items < 2 ^ 31) };
+}
+
+impl<'s> PairJudge<'s> {
+    /// Takes the judge's room, as many bytes as the longest frame has.
+    ///
+    /// `OutOfMemory`: it was not found.
+    pub fn open(alloc: Global, setup: &Setup<'s>) -> Result<PairJudge<'s>, OutOfMemory>
+        requires limit { setup.now.limit < 2 ^ 31 }
+        requires service { IfSome setup.now.service (λ s. s.0 < length setup.now.schema.now.services) }
+        ensures { IfOk result (λ j. j ≡ setting_of setup.now) }
+    {
+        Ok(PairJudge {
+            schema: setup.schema,
+            service: setup.service,
+            client: setup.client,
+            upstream: setup.upstream,
+            room: vec![in alloc; 0; setup.limit]?,
+        })
+    }
+}
+
+impl<'s> Judge for PairJudge<'s> {
+    ghost use Rattle.session_judge.specs.Rules.{rules_of};
+
+    ghost rules = { rules_of };
+
+    ghost longest = { λ j. j.longest };
+
+    fn client(&mut self, frame: &[u8], out: &mut Out) -> ClientJudged {
+        let (from, to) = (self.client, self.upstream);
+        judge_client(
+            self.schema,
+            self.service,
+            from,
+            to,
+            frame,
+            &mut self.room,
+            out,
+        )
+    }
+
+    fn answer(&mut self, frame: &[u8], cause: Cause, out: &mut Out) {
+        let own = self.client;
+        answer(own, own, frame, &mut self.room, &cause, out);
+    }
+
+    fn upstream(&mut self, call: Call, frame: &[u8], out: &mut Out) -> UpstreamJudged {
+        let (from, to) = (self.upstream, self.client);
+        judge_reply(
+            self.schema,
+            call.result,
+            from,
+            to,
+            frame,
+            &mut self.room,
+            out,
+        )
+    }
+}
