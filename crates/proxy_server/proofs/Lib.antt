@@ -1,0 +1,6 @@
+-- Lemmas.
+pub mod Places
+pub mod Running
+pub mod Standing
+pub mod Streams
+pub mod Texts

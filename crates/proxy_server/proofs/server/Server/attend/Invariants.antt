@@ -1,0 +1,25 @@
+use Rattle.std.proofs.Common.{◌≡◌, ◌++◌, List, ◌-◌, ◌≤◌}
+use Rattle.std.specs.Io.KnownBytes.{Appends}
+use Rattle.gate_io.specs.Hubs.{Later}
+use Rattle.proxy_server.specs.Serving.{Closing, Keeps, closing_lines}
+use Rattle.proxy_server.specs.Steps.{setting_of, Waits}
+use Rattle.proxy_server.proofs.server.Server.attend.Given as goal
+
+-- every open session is settled, and the lines of those that have ended were written
+abbrev pub invariant-serving : goal.invariant-serving
+invariant-serving g l =
+    let hub = g.H.Hub in
+    let sink = g.O.Sink in
+    let rules = g.J.Judge.rules in
+    let set = setting_of (g.P.Judges.rules l.judges) l.fn.self.limits in
+    record {
+      limits : l.self.limits ≡ l.fn.self.limits;
+      room : l.self.line.room ≡ l.fn.self.line.room;
+      goes : (more : List Closing) × Appends (sink.written l.fn.output) (sink.written l.output) (closing_lines more)
+          × ((ended : List Closing) → Keeps (hub.tells l.fn.hub) (hub.tells l.hub) (Waits _ rules set l.fn.self.held.items ended) (Waits _ rules set l.self.held.items (ended ++ more)));
+      later : Later (hub.counts l.fn.hub) (hub.counts l.hub);
+      output_later : sink.faults l.fn.output ≤ sink.faults l.output;
+    }
+
+abbrev pub decreases-serving : goal.decreases-serving
+decreases-serving g l = l.events - l.self.spent

@@ -1,0 +1,27 @@
+use Rattle.std.proofs.Common.{None, length, subst, refl, ap, ◌∙◌}
+use Rattle.std.specs.List.{slice_get}
+use Rattle.std.proofs.lemmas.Option.{slice_get_read}
+use Rattle.proxy_server.specs.Lines.{line_text}
+use Rattle.proxy_server.specs.Serving.{Entry}
+use Rattle.proxy_server.specs.Steps.{Writes}
+use Rattle.proxy_server.proofs.Places.{some_same}
+use Rattle.proxy_server.proofs.Standing.{leaves_next}
+use Rattle.proxy_server.proofs.server.Server.leave_at.Goals as goal
+
+pub returns-in-All-clause-lines : goal.returns-in-All-clause-lines
+returns-in-All-clause-lines g c =
+    let held = c.args.self.now.held.items in
+    let was = slice_get_read held (length held) c.args.at c.index.result.now refl c.requires.within c.index.ensures in
+    λ _ e got. subst (λ k. Writes c.tell.result (g.O.Sink.written c.args.output.now) (g.O.Sink.written c.tell.new.output) (line_text k None)) (c.number-number.ensures ∙ ap (λ (x : Entry _). x.number) (some_same (slice_get held c.args.at) c.index.result.now e was got)) c.tell.ensures.line
+
+pub returns-in-All-clause-keeps : goal.returns-in-All-clause-keeps
+returns-in-All-clause-keeps g c =
+    let held = c.args.self.now.held.items in
+    let was = slice_get_read held (length held) c.args.at c.index.result.now refl c.requires.within c.index.ensures in
+    λ set ended busy last. leaves_next _ g.J.Judge.rules set held ended c.args.at busy c.number-number.result last c.index.result.now _ _ was c.number-number.ensures c.close.ensures.leads
+
+pub returns-in-Failed-clause-keeps : goal.returns-in-Failed-clause-keeps
+returns-in-Failed-clause-keeps g c =
+    let held = c.args.self.now.held.items in
+    let was = slice_get_read held (length held) c.args.at c.index.result.now refl c.requires.within c.index.ensures in
+    λ set ended busy last. leaves_next _ g.J.Judge.rules set held ended c.args.at busy c.number-number.result last c.index.result.now _ _ was c.number-number.ensures c.close.ensures.leads

@@ -1,0 +1,22 @@
+use Rattle.std.proofs.Common.{◌≡◌, List, ◌-◌, ◌<◌, ◌≤◌, length}
+use Rattle.gate_io.specs.Hubs.{Later}
+use Rattle.proxy_server.specs.Serving.{Setting, Closing, IsBusy, Keeps}
+use Rattle.proxy_server.proofs.server.Server.settle.Given as goal
+
+-- the session at the place was turned some times, and nothing was written
+abbrev pub invariant-turns : goal.invariant-turns
+invariant-turns g l =
+    let hub = g.H.Hub in
+    let rules = g.J.Judge.rules in
+    record {
+      limits : l.self.limits ≡ l.fn.self.limits;
+      room : l.self.line.room ≡ l.fn.self.line.room;
+      within : l.fn.at < length l.self.held.items;
+      output : l.output ≡ l.fn.output;
+      spent : l.fn.self.spent ≤ l.self.spent;
+      keeps : (set : Setting) (ended : List Closing) → Keeps (hub.tells l.fn.hub) (hub.tells l.hub) (IsBusy _ rules set l.fn.at l.fn.self.held.items ended) (IsBusy _ rules set l.fn.at l.self.held.items ended);
+      later : Later (hub.counts l.fn.hub) (hub.counts l.hub);
+    }
+
+abbrev pub decreases-turns : goal.decreases-turns
+decreases-turns g l = l.self.limits.events - l.self.spent

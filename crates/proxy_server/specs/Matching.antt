@@ -1,0 +1,37 @@
+-- A session matches what a hub tells of it.
+use Rattle.std.specs.Prelude.{◌≡◌, ℕ, List, ◌++◌}
+use Rattle.gate_io.specs.Meaning.{Told}
+use Rattle.gate_io.specs.declared.hub.Side.{Side}
+use Rattle.gate_io.specs.declared.hub.Side.TheVariants as side
+use Rattle.session_core.specs.Rules.{Rules}
+use Rattle.session_core.specs.Standing.{History}
+use Rattle.session_core.specs.Fits.{Fits}
+use Rattle.session_core.specs.Ends.{IsAtRest}
+use Rattle.session_core.specs.Session.{Seen}
+
+-- what came and went, as a hub tells it
+abbrev pub history_of : Told → History
+history_of told = record {
+  from_client = told.client.received;
+  from_upstream = told.upstream.received;
+  to_client = told.client.sent;
+  to_upstream = told.upstream.sent;
+  client_ended = told.client.ended;
+  upstream_ended = told.upstream.ended;
+}
+
+-- and so many bytes were received from a side
+abbrev pub and_received : Side → History → List ℕ → History
+and_received side.Client h bytes = record h { from_client = h.from_client ++ bytes }
+and_received side.Upstream h bytes = record h { from_upstream = h.from_upstream ++ bytes }
+
+-- the session fits what came and went, and no step is left to it
+pub record Matches (J : Type 0) (rules : J → Rules) (session : Seen J) (h : History) : Type 0 where
+  pub fits : Fits (rules session.judge) session.limit session.most h session.standing
+  pub rest : IsAtRest (rules session.judge) session.limit session.most session.standing session.outcome
+
+-- the same judge, limit and number of calls
+pub record IsSame (J : Type 0) (a b : Seen J) : Type 0 where
+  pub judge : b.judge ≡ a.judge
+  pub limit : b.limit ≡ a.limit
+  pub most : b.most ≡ a.most

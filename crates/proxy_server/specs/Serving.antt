@@ -1,0 +1,124 @@
+-- What a server stands on while it serves.
+use Rattle.std.specs.Prelude.{◌≡◌, ◌≢◌, ℕ, ◌<◌, ◌≤◌, ◌⊎◌, List, length, true, false, None, Some, slice_get, ⊤}
+use Rattle.std.specs.List.{flat_map}
+use Rattle.gate_io.specs.Meaning.{Told, Meaning, new_session}
+use Rattle.gate_io.specs.Hubs.{HasStarted}
+use Rattle.gate_io.specs.declared.hub.Side.{Side}
+use Rattle.gate_io.specs.declared.hub.HubNext.TheVariants as event
+use Rattle.gate_io.specs.declared.hub.Served.{Served}
+use Rattle.gate_io.specs.declared.hub.Served.TheVariants as served
+use Rattle.session_core.specs.Rules.{Rules}
+use Rattle.session_core.specs.Standing.{Standing, nothing}
+use Rattle.session_core.specs.Fits.{Fits}
+use Rattle.session_core.specs.Steps.{outcome_of}
+use Rattle.session_core.specs.Session.{Seen}
+use Rattle.session_core.specs.declared.outcome.Outcome.{Outcome}
+use Rattle.session_core.specs.declared.outcome.Outcome.TheVariants as outcome
+use Rattle.proxy_server.specs.Lines.{line_text}
+use Rattle.proxy_server.specs.Matching.{history_of, Matches}
+use Rattle.proxy_server.specs.Turning.{IsSettled, HasFailed}
+
+-- the rules of the sessions of a server, the most bytes of a frame and the most open calls
+pub record Setting : Type 0 where
+  pub rules : Rules
+  pub limit : ℕ
+  pub most : ℕ
+
+-- a session that the server has opened, with its number at the hub
+pub record Entry (J : Type 0) : Type 0 where
+  pub number : ℕ
+  pub session : Seen J
+
+-- a session's number, and how it ended
+abbrev pub Closing : Type 0
+Closing = ℕ × Outcome
+
+-- an open session is one of the server's setting, and matches what the hub tells of it
+pub record IsHeld (J : Type 0) (rules : J → Rules) (set : Setting) (session : Seen J) (t : Told) : Type 0 where
+  pub announced : t.announced ≡ true
+  pub judged : rules session.judge ≡ set.rules
+  pub limited : session.limit ≡ set.limit
+  pub calls : session.most ≡ set.most
+  pub matches : Matches J rules session (history_of t)
+
+-- why a session has this outcome: it was not opened, and nothing was received or sent; a call on a side failed; or it is
+-- the outcome of a session that fits what came and went
+pub data IsOutcome (set : Setting) (o : Outcome) (t : Told) : Type 0 where
+  NotOpened : (o ≡ outcome.Full) ⊎ (o ≡ outcome.NoMemory) → history_of t ≡ nothing → IsOutcome set o t
+  LinkFailed : (x : Side) (s : Standing) → o ≡ outcome.LinkFault x → HasFailed x t → Fits set.rules set.limit set.most (history_of t) s → IsOutcome set o t
+  OfItself : (s : Standing) → outcome_of set.rules set.limit set.most s ≡ Some o → Fits set.rules set.limit set.most (history_of t) s → IsOutcome set o t
+
+-- a session that has ended, and was closed
+pub record HasClosed (set : Setting) (o : Outcome) (t : Told) : Type 0 where
+  pub announced : t.announced ≡ true
+  pub closed : t.closed ≡ true
+  pub why : IsOutcome set o t
+
+-- the session is one of the open ones, or of those that have ended
+pub data IsAmong (J : Type 0) (k : ℕ) (open_ones : List (Entry J)) (ended : List Closing) : Type 0 where
+  IsOpenOne : (i : ℕ) (e : Entry J) → slice_get open_ones i ≡ Some e → e.number ≡ k → IsAmong J k open_ones ended
+  IsEndedOne : (i : ℕ) (c : Closing) → slice_get ended i ≡ Some c → c.0 ≡ k → IsAmong J k open_ones ended
+
+abbrev pub IsRising : {J : Type 0} → List (Entry J) → Type 0
+IsRising {J} held = (i j : ℕ) (d e : Entry J) → i < j → slice_get held i ≡ Some d → slice_get held j ≡ Some e → d.number < e.number
+
+-- the server holds these sessions, of which the first so many are closed, all but that at `busy` are settled and no call of
+-- theirs failed, and these have ended, in order of closing; each announced session is one of them, but for `More`
+pub record Stands (J : Type 0) (rules : J → Rules) (set : Setting) (More : ℕ → Type 0) (held : List (Entry J)) (past : List Closing) (busy gone : ℕ) (m : Meaning) : Type 0 where
+  pub started : HasStarted m
+  pub rising : IsRising held
+  pub each : (i : ℕ) (e : Entry J) → slice_get held i ≡ Some e → IsHeld J rules set e.session (m.session e.number)
+  pub closed : (i : ℕ) (e : Entry J) → slice_get held i ≡ Some e → i < gone → (m.session e.number).closed ≡ true
+  pub is_open : (i : ℕ) (e : Entry J) → slice_get held i ≡ Some e → gone ≤ i → (m.session e.number).closed ≡ false
+  pub settled : (i : ℕ) (e : Entry J) → slice_get held i ≡ Some e → i ≢ busy → IsSettled J rules e.session (m.session e.number)
+  pub unfailed : (i : ℕ) (e : Entry J) → slice_get held i ≡ Some e → i ≢ busy → (x : Side) → HasFailed x (m.session e.number) → ⊥
+  pub ended : (i : ℕ) (c : Closing) → slice_get past i ≡ Some c → HasClosed set c.1 (m.session c.0)
+  pub once : (i j : ℕ) (c d : Closing) → i < j → slice_get past i ≡ Some c → slice_get past j ≡ Some d → c.0 ≢ d.0
+  pub covers : (k : ℕ) → (m.session k).announced ≡ true → More k ⊎ IsAmong J k held past
+
+abbrev pub no_more : ℕ → Type 0
+no_more k = ⊥
+
+-- the session at this place is being turned, and no call of it has failed
+pub record IsBusy (J : Type 0) (rules : J → Rules) (set : Setting) (at : ℕ) (held : List (Entry J)) (past : List Closing) (m : Meaning) : Type 0 where
+  pub stands : Stands J rules set no_more held past at 0 m
+  pub unfailed : (e : Entry J) → slice_get held at ≡ Some e → (x : Side) → HasFailed x (m.session e.number) → ⊥
+
+-- a new session was announced, which is neither held nor ended yet
+pub record Awaits (J : Type 0) (rules : J → Rules) (set : Setting) (k : ℕ) (held : List (Entry J)) (past : List Closing) (m : Meaning) : Type 0 where
+  pub stands : Stands J rules set (λ j. j ≡ k) held past (length held) 0 m
+  pub new : m.session k ≡ new_session
+  pub above : (i : ℕ) (e : Entry J) → slice_get held i ≡ Some e → e.number < k
+
+-- each meaning that was told and that is so leads to one that is told and is so
+abbrev pub Keeps : (Meaning → Type 0) → (Meaning → Type 0) → (Meaning → Type 0) → (Meaning → Type 0) → Type 0
+Keeps told told' Before After = (m : Meaning) → told m → Before m → ((n : Meaning) × told' n × After n)
+
+-- ---- the lines
+
+abbrev pub closing_line : Closing → List ℕ
+closing_line c = line_text c.0 (Some c.1)
+
+abbrev pub closing_lines : List Closing → List ℕ
+closing_lines ended = flat_map closing_line ended
+
+abbrev pub left_line : {J : Type 0} → Entry J → List ℕ
+left_line e = line_text e.number None
+
+abbrev pub left_lines : {J : Type 0} → List (Entry J) → List ℕ
+left_lines held = flat_map left_line held
+
+-- ---- the whole
+
+-- the hub was started, no event was asked for and no session announced
+pub record IsFresh (m : Meaning) : Type 0 where
+  pub started : HasStarted m
+  pub none : (k : ℕ) → (m.session k).announced ≡ true → ⊥
+
+-- the last answer of `next` that goes with how the server ended
+abbrev pub EndsOn : Served → Meaning → Type 0
+EndsOn served.Stopped m = m.last_event ≡ Some event.Stopped
+EndsOn served.HubFault m = m.last_event ≡ Some event.Failed
+EndsOn served.WriteFault m = ⊤
+EndsOn served.Budget m = ⊤
+EndsOn served.OutOfMemory m = ⊤

@@ -1,0 +1,143 @@
+-- A turn of a session.
+use Rattle.std.specs.Prelude.{◌≡◌, ℕ, ◌+◌, ◌≤◌, ◌⊎◌, List, [], ◌++◌, length, Bool, true, false, if◌then◌else◌, Option, None, Some, is_some, Result, Ok, Err}
+use Rattle.gate_io.specs.Meaning.{Told, Link, Meaning, link_of, IsOpen}
+use Rattle.gate_io.specs.Hubs.{Changes}
+use Rattle.gate_io.specs.declared.hub.Side.{Side}
+use Rattle.gate_io.specs.declared.hub.Side.TheVariants as side
+use Rattle.gate_io.specs.declared.hub.LinkGot.TheVariants as got
+use Rattle.gate_io.specs.declared.hub.LinkPut.TheVariants as put
+use Rattle.framed_transport.specs.Front.{front, is_part}
+use Rattle.session_core.specs.Rules.{Rules}
+use Rattle.session_core.specs.Standing.{Standing, History}
+use Rattle.session_core.specs.Steps.{IsStill}
+use Rattle.session_core.specs.Session.{Seen, due_to, room_of}
+use Rattle.session_core.specs.declared.outcome.Outcome.{Outcome}
+use Rattle.session_core.specs.declared.outcome.Outcome.TheVariants as outcome
+use Rattle.proxy_server.specs.Matching.{history_of}
+use Rattle.proxy_server.specs.declared.waiting.Waits.{Waits}
+use Rattle.proxy_server.specs.declared.ending.Turn.{Turn}
+use Rattle.proxy_server.specs.declared.ending.Turn.TheVariants as turn
+
+-- ---- what a turn does
+
+-- bytes were added behind, and an end stays
+pub record Grows (a b : Link) : Type 0 where
+  pub received : (more : List ℕ) × (b.received ≡ a.received ++ more)
+  pub sent : (more : List ℕ) × (b.sent ≡ a.sent ++ more)
+  pub ended : a.ended ≡ true → b.ended ≡ true
+
+-- each side has grown, and no more of it is open or closed
+pub record AllGrow (s t : Told) : Type 0 where
+  pub announced : t.announced ≡ s.announced
+  pub closed : t.closed ≡ s.closed
+  pub sides : (x : Side) → Grows (link_of s x) (link_of t x)
+
+-- a last answer that says that its call failed was there before
+pub record NoneFailed (s t : Told) : Type 0 where
+  pub reads : (x : Side) → (link_of t x).last_read ≡ Some got.Failed → (link_of s x).last_read ≡ Some got.Failed
+  pub writes : (x : Side) → (link_of t x).last_write ≡ Some put.Failed → (link_of s x).last_write ≡ Some put.Failed
+
+-- the last read or the last write of the side failed
+abbrev pub HasFailed : Side → Told → Type 0
+HasFailed x t = ((link_of t x).last_read ≡ Some got.Failed) ⊎ ((link_of t x).last_write ≡ Some put.Failed)
+
+-- how much was received and sent, with the ends
+abbrev pub link_amount : Link → ℕ
+link_amount l = (length l.received + length l.sent) + (if l.ended then 1 else 0)
+
+abbrev pub amount : Told → ℕ
+amount t = link_amount t.client + link_amount t.upstream
+
+-- the bytes of a side that are held
+abbrev pub held_of_side : Side → Standing → List ℕ
+held_of_side side.Client s = s.client
+held_of_side side.Upstream s = s.upstream
+
+-- why no more of a side is read: it has ended, its last read was not ready, or a whole or too large frame of it is held
+pub data ReadsNoMore (limit : ℕ) (held : List ℕ) (link : Link) : Type 0 where
+  HasEnded : link.ended ≡ true → ReadsNoMore limit held link
+  IsNotReady : link.last_read ≡ Some got.NotReady → ReadsNoMore limit held link
+  HoldsFrame : is_part (front limit held) ≡ false → ReadsNoMore limit held link
+
+-- a settled session: it has no outcome and no step is left to it, and for each side nothing is due or its last write was
+-- not ready, and no more can be read
+pub record IsSettled (J : Type 0) (rules : J → Rules) (session : Seen J) (t : Told) : Type 0 where
+  pub going : session.outcome ≡ None
+  pub still : IsStill (rules session.judge) session.limit session.most session.standing
+  pub writes : (x : Side) → (due_to x session.standing ≡ []) ⊎ ((link_of t x).last_write ≡ Some put.NotReady)
+  pub reads : (x : Side) → ReadsNoMore session.limit (held_of_side x session.standing) (link_of t x)
+
+-- a call on a side failed, or else the session ended
+pub data EndsBy (ending : Option Outcome) (o : Outcome) (s t : Told) : Type 0 where
+  ByLink : (x : Side) → o ≡ outcome.LinkFault x → HasFailed x t → EndsBy ending o s t
+  BySession : ending ≡ Some o → NoneFailed s t → EndsBy ending o s t
+
+abbrev pub TurnDoes : (J : Type 0) → (J → Rules) → Seen J → Turn → Told → Told → Type 0
+TurnDoes J rules session turn.Settled s t = AllGrow s t × NoneFailed s t × IsSettled J rules session t
+TurnDoes J rules session turn.More s t = AllGrow s t × NoneFailed s t × (amount s + 16 ≤ amount t) × (session.outcome ≡ None)
+TurnDoes J rules session (turn.Ended o) s t = AllGrow s t × EndsBy session.outcome o s t
+
+-- each meaning at which the session is open, and which it matches, leads to such a one
+abbrev pub Goes : (Meaning → Type 0) → (Meaning → Type 0) → (History → Type 0) → (History → Type 0) → ℕ → (Told → Told → Type 0) → Type 0
+Goes told told' matches matches' k Step =
+    (m : Meaning) → told m → IsOpen k m → matches (history_of (m.session k)) → ((n : Meaning) × told' n × matches' (history_of (n.session k)) × Changes k Step m n)
+
+-- how the answer of a turn goes with the session's outcome, whatever is told
+pub data EndsAs (ending : Option Outcome) : Turn → Type 0 where
+  Settles : ending ≡ None → EndsAs ending turn.Settled
+  GoesOn : ending ≡ None → EndsAs ending turn.More
+  Fails : (x : Side) → EndsAs ending (turn.Ended (outcome.LinkFault x))
+  Ends : (o : Outcome) → ending ≡ Some o → EndsAs ending (turn.Ended o)
+
+-- ---- on the way
+
+abbrev pub no_waits : Waits
+no_waits = record { client_write = false; client_read = false; upstream_write = false; upstream_read = false }
+
+abbrev pub write_waits : Waits → Side → Bool
+write_waits w side.Client = w.client_write
+write_waits w side.Upstream = w.upstream_write
+
+abbrev pub read_waits : Waits → Side → Bool
+read_waits w side.Client = w.client_read
+read_waits w side.Upstream = w.upstream_read
+
+abbrev pub with_write : Side → Waits → Waits
+with_write side.Client w = record w { client_write = true }
+with_write side.Upstream w = record w { upstream_write = true }
+
+abbrev pub with_read : Side → Waits → Waits
+with_read side.Client w = record w { client_read = true }
+with_read side.Upstream w = record w { upstream_read = true }
+
+-- a call that is marked answered in this turn that it isn't ready, and was not made again
+pub record IsMarked (w : Waits) (t : Told) : Type 0 where
+  pub writes : (x : Side) → write_waits w x ≡ true → (link_of t x).last_write ≡ Some put.NotReady
+  pub reads : (x : Side) → read_waits w x ≡ true → (link_of t x).last_read ≡ Some got.NotReady
+
+-- from one moment of a turn to a later one, with so many calls that moved something
+pub record Runs (moved : ℕ) (v w : Waits) (s t : Told) : Type 0 where
+  pub grows : AllGrow s t
+  pub none_failed : NoneFailed s t
+  pub amount_is : amount s + moved ≤ amount t
+  pub marked : IsMarked v s → IsMarked w t
+
+-- the same up to a call that failed
+pub record Breaks (x : Side) (s t : Told) : Type 0 where
+  pub grows : AllGrow s t
+  pub failed : HasFailed x t
+
+-- what reads and writes of a turn do
+abbrev pub CallDoes : Result ℕ Side → Waits → Waits → Told → Told → Type 0
+CallDoes (Ok n) v w s t = Runs n v w s t
+CallDoes (Err x) v w s t = Breaks x s t
+
+-- nothing is due to the side, or it isn't ready; there is no room for it, or it isn't ready
+abbrev pub IsQuiet : ℕ → Standing → Option Outcome → Waits → Type 0
+IsQuiet limit s ending w =
+    (x : Side) → ((due_to x s ≡ []) ⊎ (write_waits w x ≡ true)) × ((room_of limit s (is_some ending) x ≡ 0) ⊎ (read_waits w x ≡ true))
+
+-- a call that waits once is left out from then on
+pub record KeepsMarks (v w : Waits) : Type 0 where
+  pub writes : (x : Side) → write_waits v x ≡ true → write_waits w x ≡ true
+  pub reads : (x : Side) → read_waits v x ≡ true → read_waits w x ≡ true

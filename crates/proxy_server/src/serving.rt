@@ -1,0 +1,88 @@
+//! The service of all sessions until the hub stops.
+ghost use Rattle.std.specs.Prelude.{◌≡◌, ◌⊎◌, ◌≤◌, [], IfSome};
+ghost use Rattle.gate_io.specs.Causes.{Rose};
+ghost use Rattle.gate_io.specs.Hubs.{Later};
+ghost use Rattle.proxy_server.specs.Steps.{AreGood, Serves, setting_of, served_by, first_wrote};
+
+use crate::judges::Judges;
+use crate::limits::Limits;
+use crate::lines::LINE_ROOM;
+use crate::server::{Attended, Server};
+use crate::writing::Wrote;
+use gate_io::{Hub, Out, Served, Sink};
+use session_core::Judge;
+use std::alloc::Global;
+
+/// Serves until the hub stops or fails, a line can't be written or the budget of `limits.events` is spent.
+///
+/// The hub was started and `next` was not called. `next` is called only when every open session is settled. A session
+/// above the number of `limits.sessions` is closed as full, one whose memory is not found as having none; each other one
+/// is turned until it is settled or has ended. One line is written for each session as soon as it ends, and at the end one
+/// for each that is still open, by rising number. Nothing is written after a write that failed; where the hub had failed
+/// or the budget was spent before it, the answer stays so.
+///
+/// `OutOfMemory`: the memory for the server was not found, before the first event.
+pub fn serve<J: Judge, P: Judges<J>, H: Hub, O: Sink>(
+    alloc: Global,
+    judges: &P,
+    limits: Limits,
+    hub: &mut H,
+    output: &mut O,
+) -> Served
+    requires good { AreGood limits (P.longest judges.now) }
+    ensures serves { Serves J J.rules (H.tells hub.old) (H.tells hub.new) (O.written output.old) (O.written output.new) (O.faults output.old) (O.faults output.new) (setting_of (P.rules judges.now) limits) result }
+    ensures later { Later (H.counts hub.old) (H.counts hub.new) }
+    ensures output_later { O.faults output.old ≤ O.faults output.new }
+    ensures hub_fault { result ≡ Served.HubFault → Rose (H.counts hub.old).faults (H.counts hub.new).faults }
+    ensures write_fault { result ≡ Served.WriteFault → Rose (O.faults output.old) (O.faults output.new) }
+{
+    let Some(mut server) = open_server::<J>(alloc, limits) else {
+        return Served::OutOfMemory;
+    };
+    let attended = server.attend(alloc, judges, hub, output);
+    let wrote = server.leave(written_so_far(attended), hub, output);
+    served(attended, wrote)
+}
+
+/// A server that holds no session.
+fn open_server<J: Judge>(alloc: Global, limits: Limits) -> Option<Server<J>>
+    ensures { IfSome result (λ s. (s.limits ≡ limits) × (s.held.items ≡ []) × (LINE_ROOM ≤ s.line.room)) }
+{
+    let Ok(held) = Vec::with_capacity(alloc, limits.sessions) else {
+        return None;
+    };
+    match Out::open(alloc, LINE_ROOM) {
+        Ok(line) => Some(Server {
+            limits,
+            held,
+            line,
+            spent: 0,
+        }),
+        Err(_) => None,
+    }
+}
+
+/// Whether each line so far was written.
+fn written_so_far(attended: Attended) -> Wrote
+    ensures { result ≡ first_wrote attended }
+{
+    match attended {
+        Attended::WriteFault => Wrote::Failed,
+        Attended::Stopped | Attended::HubFault | Attended::Budget(_) => Wrote::All,
+    }
+}
+
+/// What is answered: a write that failed is told where nothing else was met before.
+fn served(attended: Attended, wrote: Wrote) -> Served
+    ensures { result ≡ served_by attended wrote }
+{
+    match attended {
+        Attended::HubFault => Served::HubFault,
+        Attended::Budget(_) => Served::Budget,
+        Attended::WriteFault => Served::WriteFault,
+        Attended::Stopped => match wrote {
+            Wrote::All => Served::Stopped,
+            Wrote::Failed => Served::WriteFault,
+        },
+    }
+}

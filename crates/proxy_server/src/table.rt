@@ -1,0 +1,95 @@
+//! The sessions that are open, in the order of their numbers.
+ghost use Rattle.std.specs.Prelude.{◌≡◌, ◌⊎◌, ◌<◌, ◌≤◌, length, Some, None, IfSome, IfOk, slice_get, ℕ, ◌^◌};
+ghost use Rattle.gate_io.specs.Causes.{Rose};
+ghost use Rattle.gate_io.specs.Hubs.{Later};
+ghost use Rattle.session_core.specs.Standing.{nothing};
+ghost use Rattle.proxy_server.specs.Matching.{Matches, IsSame};
+ghost use Rattle.proxy_server.specs.Turning.{Goes, TurnDoes, EndsAs};
+ghost use Rattle.proxy_server.specs.Serving.{Entry, IsRising};
+ghost use Rattle.proxy_server.specs.Steps.{AreGood};
+
+use crate::Turn;
+use crate::judges::Judges;
+use crate::limits::Limits;
+use crate::turning::turn;
+use gate_io::{Hub, OutOfMemory};
+use session_core::{Judge, Outcome, Session};
+use std::alloc::Global;
+use std::marker::Model;
+
+/// A session that was announced and has not ended, with its number at the hub.
+#[derive(Drop)]
+pub struct Open<J: Judge> {
+    number: u64,
+    session: Session<J>,
+}
+
+impl<J: Judge> Model for Open<J> {
+    ghost use Rattle.proxy_server.specs.Serving.{Entry};
+
+    ghost Value = { Entry J };
+
+    ghost view = { λ o. record { number = o.number; session = o.session } };
+}
+
+impl<J: Judge> Open<J> {
+    pub fn new(number: u64, session: Session<J>) -> Open<J>
+        ensures { result ≡ record { number = number; session = session } }
+    {
+        Open { number, session }
+    }
+
+    pub fn number(&self) -> u64
+        ensures { result ≡ self.now.number }
+    {
+        self.number
+    }
+
+    /// One turn of the session.
+    pub fn turn<H: Hub>(&mut self, hub: &mut H) -> Turn
+        ensures turned { Goes (H.tells hub.old) (H.tells hub.new) (Matches J J.rules self.old.session) (Matches J J.rules self.new.session) self.old.number (TurnDoes J J.rules self.new.session result) }
+        ensures number { self.new.number ≡ self.old.number }
+        ensures ending { EndsAs self.new.session.outcome result }
+        ensures same { IsSame J self.old.session self.new.session }
+        ensures later { Later (H.counts hub.old) (H.counts hub.new) }
+    {
+        turn(&mut self.session, hub, self.number)
+    }
+}
+
+/// Opens a session. Want of memory is the one error.
+pub fn open_session<J: Judge, P: Judges<J>>(
+    alloc: Global,
+    judges: &P,
+    limits: Limits,
+) -> Result<Session<J>, OutOfMemory>
+    requires { AreGood limits (P.longest judges.now) }
+    ensures given { IfOk result (λ s. (J.rules s.judge ≡ P.rules judges.now) × (s.limit ≡ limits.frame) × (s.most ≡ limits.calls)) }
+    ensures matches { IfOk result (λ s. Matches J J.rules s nothing) }
+{
+    let judge = judges.open(alloc)?;
+    Session::open(alloc, judge, limits.frame, limits.calls)
+}
+
+/// The place of session `number`.
+pub fn find<J: Judge>(held: &[Open<J>], number: u64) -> Option<usize>
+    ensures within { IfSome result (λ at. at < length held.now) }
+    ensures found { IfSome result (λ at. (e : Entry J) × (slice_get held.now at ≡ Some e) × (e.number ≡ number)) }
+    ensures none { result ≡ None → IsRising held.now → (i : ℕ) (e : Entry J) → slice_get held.now i ≡ Some e → e.number ≡ number → ⊥ }
+{
+    let mut low = 0;
+    let mut high = held.len();
+    while low < high {
+        let middle = low + (high - low) / 2;
+        let at = held[middle].number();
+        if at == number {
+            return Some(middle);
+        }
+        if at < number {
+            low = middle + 1;
+        } else {
+            high = middle;
+        }
+    }
+    None
+}

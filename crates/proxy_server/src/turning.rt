@@ -1,0 +1,154 @@
+//! One turn of a session: rounds of writes and reads, until nothing moves.
+ghost use Rattle.std.specs.Prelude.{◌≡◌, ◌<◌, ◌≤◌, ◌⊎◌, [], length, true, is_some, Some, Ok, IfOk, IfErr};
+ghost use Rattle.gate_io.specs.Causes.{Rose};
+ghost use Rattle.gate_io.specs.Hubs.{Later};
+ghost use Rattle.session_core.specs.Session.{due_to, room_of};
+ghost use Rattle.proxy_server.specs.Matching.{Matches, IsSame};
+ghost use Rattle.proxy_server.specs.Turning.{Goes, IsQuiet, TurnDoes, CallDoes, EndsAs, KeepsMarks, write_waits, read_waits};
+
+use crate::Turn;
+use crate::moving::{finish, give, pass_on};
+use crate::waiting::Waits;
+use gate_io::{Hub, LinkGot, LinkPut, Side};
+use session_core::{Judge, Outcome, Session};
+
+/// At most so many bytes are read or written by a call.
+const PIECE: usize = 4096;
+
+/// After so many calls that moved bytes or brought an end, the turn is over.
+const MOST_MOVES: u32 = 16;
+
+/// One turn of session k, which is open and matches what the hub tells of it.
+///
+/// It goes in rounds: a write to the client, one to the upstream, a read of the upstream and one of the client, each of
+/// at most 4,096 bytes. A write is left out where nothing is due, a read where there is no room or the side has ended,
+/// and either once it answered in this turn that it isn't ready. A call that fails ends the turn with
+/// `Outcome::LinkFault`. It takes no memory.
+pub fn turn<H: Hub, J: Judge>(session: &mut Session<J>, hub: &mut H, k: u64) -> Turn
+    ensures turned { Goes (H.tells hub.old) (H.tells hub.new) (Matches J J.rules session.old) (Matches J J.rules session.new) k (TurnDoes J J.rules session.new result) }
+    ensures ending { EndsAs session.new.outcome result }
+    ensures same { IsSame J session.old session.new }
+    ensures later { Later (H.counts hub.old) (H.counts hub.new) }
+    ensures cause { (side : Side) → result ≡ Turn.Ended (Outcome.LinkFault side) → (session.new.outcome ≡ Some (Outcome.LinkFault side)) ⊎ Rose ((H.counts hub.old).link_faults k side) ((H.counts hub.new).link_faults k side) }
+{
+    let mut waits = Waits {
+        client_write: false,
+        client_read: false,
+        upstream_write: false,
+        upstream_read: false,
+    };
+    let mut piece = [0; PIECE];
+    let mut moved = 0;
+    while moved < MOST_MOVES {
+        if let Some(outcome) = session.outcome() {
+            return Turn::Ended(outcome);
+        }
+        match round(session, hub, k, &mut waits, &mut piece) {
+            Err(side) => return Turn::Ended(Outcome::LinkFault(side)),
+            Ok(0) => return Turn::Settled,
+            Ok(count) => moved += count,
+        }
+    }
+    match session.outcome() {
+        Some(outcome) => Turn::Ended(outcome),
+        None => Turn::More,
+    }
+}
+
+/// Writes to both sides and reads both, and answers how many calls moved something, or the side whose call failed.
+fn round<H: Hub, J: Judge>(
+    session: &mut Session<J>,
+    hub: &mut H,
+    k: u64,
+    waits: &mut Waits,
+    piece: &mut [u8],
+) -> Result<u32, Side>
+    requires { 0 < length piece.old }
+    ensures goes { Goes (H.tells hub.old) (H.tells hub.new) (Matches J J.rules session.old) (Matches J J.rules session.new) k (CallDoes result waits.old waits.new) }
+    ensures same { IsSame J session.old session.new }
+    ensures later { Later (H.counts hub.old) (H.counts hub.new) }
+    ensures cause { IfErr result (λ x. Rose ((H.counts hub.old).link_faults k x) ((H.counts hub.new).link_faults k x)) }
+    ensures quiet { result ≡ Ok 0 → (session.new ≡ session.old) × IsQuiet session.new.limit session.new.standing session.new.outcome waits.new }
+    ensures few { IfOk result (λ n. n ≤ 4) }
+    ensures piece { length piece.new ≡ length piece.old }
+{
+    let written = write(session, hub, k, Side::Client, waits)?;
+    let passed_on = write(session, hub, k, Side::Upstream, waits)?;
+    let answered = read(session, hub, k, Side::Upstream, waits, piece)?;
+    let taken = read(session, hub, k, Side::Client, waits, piece)?;
+    Ok(written + passed_on + answered + taken)
+}
+
+/// Writes what is due to a side.
+fn write<H: Hub, J: Judge>(
+    session: &mut Session<J>,
+    hub: &mut H,
+    k: u64,
+    side: Side,
+    waits: &mut Waits,
+) -> Result<u32, Side>
+    ensures goes { Goes (H.tells hub.old) (H.tells hub.new) (Matches J J.rules session.old) (Matches J J.rules session.new) k (CallDoes result waits.old waits.new) }
+    ensures same { IsSame J session.old session.new }
+    ensures later { Later (H.counts hub.old) (H.counts hub.new) }
+    ensures cause { IfErr result (λ x. Rose ((H.counts hub.old).link_faults k x) ((H.counts hub.new).link_faults k x)) }
+    ensures quiet { result ≡ Ok 0 → (session.new ≡ session.old) × ((due_to side session.new.standing ≡ []) ⊎ (write_waits waits.new side ≡ true)) }
+    ensures marks { KeepsMarks waits.old waits.new }
+    ensures few { IfOk result (λ n. n ≤ 1) }
+{
+    let due = session.due(side);
+    if due.is_empty() || waits.write(side) {
+        return Ok(0);
+    }
+    let count = due.len().min(PIECE);
+    match hub.write(k, side, &due[..count]) {
+        LinkPut::Took(count) => {
+            pass_on(session, side, count);
+            Ok(1)
+        }
+        LinkPut::NotReady => {
+            waits.mark_write(side);
+            Ok(0)
+        }
+        LinkPut::Failed => Err(side),
+    }
+}
+
+/// Reads what the session has room for.
+fn read<H: Hub, J: Judge>(
+    session: &mut Session<J>,
+    hub: &mut H,
+    k: u64,
+    side: Side,
+    waits: &mut Waits,
+    piece: &mut [u8],
+) -> Result<u32, Side>
+    requires { 0 < length piece.old }
+    ensures goes { Goes (H.tells hub.old) (H.tells hub.new) (Matches J J.rules session.old) (Matches J J.rules session.new) k (CallDoes result waits.old waits.new) }
+    ensures same { IsSame J session.old session.new }
+    ensures later { Later (H.counts hub.old) (H.counts hub.new) }
+    ensures cause { IfErr result (λ x. Rose ((H.counts hub.old).link_faults k x) ((H.counts hub.new).link_faults k x)) }
+    ensures quiet { result ≡ Ok 0 → (session.new ≡ session.old) × ((room_of session.new.limit session.new.standing (is_some session.new.outcome) side ≡ 0) ⊎ (read_waits waits.new side ≡ true)) }
+    ensures marks { KeepsMarks waits.old waits.new }
+    ensures few { IfOk result (λ n. n ≤ 1) }
+    ensures piece { length piece.new ≡ length piece.old }
+{
+    let room = session.room(side).min(piece.len());
+    if room == 0 || waits.read(side) {
+        return Ok(0);
+    }
+    match hub.read(k, side, &mut piece[..room]) {
+        LinkGot::Bytes(count) => {
+            give(session, side, &piece[..count]);
+            Ok(1)
+        }
+        LinkGot::End => {
+            finish(session, side);
+            Ok(1)
+        }
+        LinkGot::NotReady => {
+            waits.mark_read(side);
+            Ok(0)
+        }
+        LinkGot::Failed => Err(side),
+    }
+}
