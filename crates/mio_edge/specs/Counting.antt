@@ -1,0 +1,17 @@
+-- The counts of the hub over sockets: those of a side are of all sessions together.
+use Rattle.std.specs.Prelude.{ℕ}
+use Rattle.gate_io.specs.Hubs.{Counts}
+use Rattle.gate_io.specs.declared.hub.Side.{Side}
+use Rattle.gate_io.specs.declared.hub.Side.TheVariants as side
+use Rattle.mio_edge.specs.declared.hub.SideCounts.{SideCounts}
+
+abbrev pub side_counts : SideCounts → SideCounts → Side → SideCounts
+side_counts client upstream side.Client = client
+side_counts client upstream side.Upstream = upstream
+
+abbrev pub counts_of : ℕ → SideCounts → SideCounts → Counts
+counts_of faults client upstream = record {
+  faults = faults;
+  link_faults = λ k s. (side_counts client upstream s).faults;
+  waits = λ k s. (side_counts client upstream s).waits;
+}

@@ -1,0 +1,4 @@
+-- What the edge counts, numbers and moves.
+pub mod Counting
+pub mod Moving
+pub mod Numbers

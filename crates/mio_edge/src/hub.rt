@@ -1,0 +1,129 @@
+//! The hub of sessions with one upstream. It tells no content, and counts what failed and what
+//! wasn't ready.
+ghost use Rattle.std.specs.Prelude.{◌≡◌, ◌<◌, ◌-◌, ◌^◌, ◌≤◌};
+ghost use Rattle.gate_io.specs.Causes.{Rose};
+ghost use Rattle.gate_io.specs.Hubs.{Later};
+ghost use Rattle.mio_edge.specs.Counting.{counts_of, side_counts};
+
+use crate::Sockets;
+use gate_io::{Began, Hub, HubNext, LinkGot, LinkPut, Side, Text};
+use std::alloc::Global;
+use std::net::Net;
+
+/// What was counted of a side, over all sessions: calls that failed, and answers that it isn't
+/// ready. Each stands still at 2^64 - 1.
+#[derive(Clone, Copy)]
+pub struct SideCounts {
+    faults: u64,
+    waits: u64,
+}
+
+/// A hub over real sockets.
+///
+/// It reserves `sessions + 1` places in `start`, each of 131,072 bytes for the buffers of its
+/// two ports and some hundreds, and takes no memory after it.
+#[derive(Drop)]
+pub struct MioHub<'n, N> {
+    sockets: Sockets<'n, N>,
+    client: SideCounts,
+    upstream: SideCounts,
+}
+
+impl<'n, N: Net> MioHub<'n, N> {
+    /// A hub that hasn't started. Its counts are 0.
+    pub fn new(net: &'n N) -> MioHub<'n, N>
+        ensures faults { result.sockets.faults ≡ 0 }
+        ensures client { result.client ≡ record { faults = 0; waits = 0 } }
+        ensures upstream { result.upstream ≡ record { faults = 0; waits = 0 } }
+    {
+        let none = SideCounts {
+            faults: 0,
+            waits: 0,
+        };
+        MioHub {
+            sockets: Sockets::new(net),
+            client: none,
+            upstream: none,
+        }
+    }
+
+    // Counts a fault of a side.
+    fn count_fault(&mut self, side: Side)
+        ensures later { Later (counts_of self.old.sockets.faults self.old.client self.old.upstream) (counts_of self.new.sockets.faults self.new.client self.new.upstream) }
+        ensures cause { Rose (side_counts self.old.client self.old.upstream side).faults (side_counts self.new.client self.new.upstream side).faults }
+    {
+        match side {
+            Side::Client => self.client.faults = self.client.faults.saturating_add(1),
+            Side::Upstream => self.upstream.faults = self.upstream.faults.saturating_add(1),
+        }
+    }
+
+    // Counts an answer of a side that it isn't ready.
+    fn count_wait(&mut self, side: Side)
+        ensures later { Later (counts_of self.old.sockets.faults self.old.client self.old.upstream) (counts_of self.new.sockets.faults self.new.client self.new.upstream) }
+        ensures cause { Rose (side_counts self.old.client self.old.upstream side).waits (side_counts self.new.client self.new.upstream side).waits }
+    {
+        match side {
+            Side::Client => self.client.waits = self.client.waits.saturating_add(1),
+            Side::Upstream => self.upstream.waits = self.upstream.waits.saturating_add(1),
+        }
+    }
+}
+
+impl<N: Net> Hub for MioHub<'_, N> {
+    ghost tells = { λ _ _. ⊥ };
+
+    ghost counts = { λ h. counts_of h.sockets.faults h.client h.upstream };
+
+    fn start(
+        &mut self,
+        alloc: Global,
+        listen: &[u8],
+        upstream: &[u8],
+        accept: u64,
+        sessions: usize,
+    ) -> Began {
+        match Text::new(alloc, upstream) {
+            Ok(upstream) => self
+                .sockets
+                .start(alloc, listen, &[upstream], accept, sessions),
+            Err(_) => Began::OutOfMemory,
+        }
+    }
+
+    fn next(&mut self) -> HubNext {
+        self.sockets.next()
+    }
+
+    fn read(&mut self, k: u64, side: Side, into: &mut [u8]) -> LinkGot {
+        let got = self.sockets.read(k, port_of(side), into);
+        match got {
+            LinkGot::Failed => self.count_fault(side),
+            LinkGot::NotReady => self.count_wait(side),
+            LinkGot::Bytes(_) | LinkGot::End => (),
+        }
+        got
+    }
+
+    fn write(&mut self, k: u64, side: Side, from: &[u8]) -> LinkPut {
+        let put = self.sockets.write(k, port_of(side), from);
+        match put {
+            LinkPut::Failed => self.count_fault(side),
+            LinkPut::NotReady => self.count_wait(side),
+            LinkPut::Took(_) => (),
+        }
+        put
+    }
+
+    fn close(&mut self, k: u64) {
+        self.sockets.close(k);
+    }
+}
+
+// The port of a side.
+fn port_of(side: Side) -> usize {
+    match side {
+        Side::Client => 0,
+        Side::Upstream => 1,
+    }
+}

@@ -1,0 +1,29 @@
+//! The hub over real sockets: one thread, which waits for the readiness of all of them at once.
+//!
+//! `Sockets` listens at an address. Each connection that it accepts is a session, whose port 0 is
+//! the client and whose further ports are connections to the upstreams, one address a port. `MioHub`
+//! is the hub of sessions with one upstream.
+//!
+//! All sockets are non-blocking. Each port has a buffer each way, taken in `start`, of 32 KiB where a
+//! session has one upstream: bytes are read from a socket in pieces as large as the buffer and handed
+//! out as they are asked for, and what is written is gathered and sent in one system call before the
+//! hub goes on to the next event.
+//! A session that moved 64 KiB since it was last named waits until the others that are ready had
+//! their turn.
+//!
+//! What peers sent, and when a socket is ready, is the system's word: the hub tells no content. What
+//! is proved is safety, the counts, the numbers of the sessions, and that no byte is lost, doubled or
+//! put out of order between a socket's calls and the hub's.
+#![tactic(auto)]
+
+mod hub;
+mod listening;
+mod port;
+mod queue;
+mod session;
+mod sockets;
+mod stream;
+mod table;
+
+pub use hub::{MioHub, SideCounts};
+pub use sockets::Sockets;

@@ -1,0 +1,219 @@
+//! The listener of a server, its poll and its sessions.
+use crate::port::Sending;
+use crate::table::Table;
+use mio::net::{TcpListener, TcpStream};
+use mio::{Events, Interest, Poll, Token};
+use std::alloc::Global;
+use std::io;
+use std::io::ErrorKind;
+use std::net::{Net, SocketAddr};
+use std::time::Duration;
+
+const LISTENER: Token = Token(usize::MAX);
+
+/// At most so many events are taken at a time.
+const MOST_EVENTS: usize = 1024;
+
+/// At most so many connections are accepted between two waits, so that a crowd of them doesn't hold
+/// up the sessions.
+const MOST_ACCEPTS: u32 = 16;
+
+/// After so many milliseconds an accept that failed is tried again.
+const RETRY_MILLIS: u64 = 100;
+
+/// What a server that has sent everything may spend on waits for its peers' ends before it stops: a
+/// wait costs 1, and one that brings nothing in `RETRY_MILLIS` costs `IDLE_COST`. So a peer that
+/// stays holds it up for a second, and one that sends without a pause no longer than that many waits.
+const PATIENCE: u32 = 100_000;
+
+const IDLE_COST: u32 = 10_000;
+
+/// Why no listener could be opened.
+#[derive(Clone, Copy)]
+pub(crate) enum OpenError {
+    OutOfMemory,
+    Failed,
+}
+
+impl From<gate_io::OutOfMemory> for OpenError {
+    fn from(_: gate_io::OutOfMemory) -> Self {
+        OpenError::OutOfMemory
+    }
+}
+
+impl From<std::alloc::AllocError> for OpenError {
+    fn from(_: std::alloc::AllocError) -> Self {
+        OpenError::OutOfMemory
+    }
+}
+
+// Whether a connection may wait: none so far, one may, or the last accept failed, for want of
+// descriptors, say, and is to be tried again later.
+#[derive(Clone, Copy, PartialEq, Eq)]
+enum Accepting {
+    Idle,
+    Ready,
+    Short,
+}
+
+/// What a server listens and waits with.
+#[derive(Drop)]
+pub(crate) struct Listening {
+    poll: Poll,
+    events: Events<Global>,
+    /// Absent once no more connections are to be accepted.
+    listener: Option<TcpListener>,
+    accepting: Accepting,
+    accepts_left: u32,
+    patience: u32,
+    targets: Vec<SocketAddr>,
+    pub(crate) table: Table,
+}
+
+impl Listening {
+    /// Listens at an address, for sessions that are led to these targets.
+    pub(crate) fn open<N: Net>(
+        net: &N,
+        alloc: Global,
+        listen: SocketAddr,
+        targets: Vec<SocketAddr>,
+        table: Table,
+    ) -> Result<Listening, OpenError> {
+        let events = Events::with_capacity(alloc, MOST_EVENTS)?;
+        let (Ok(poll), Ok(mut listener)) = (Poll::new(net), TcpListener::bind(net, listen)) else {
+            return Err(OpenError::Failed);
+        };
+        let registered = poll
+            .registry()
+            .register(&mut listener, LISTENER, Interest::READABLE);
+        if registered.is_err() {
+            return Err(OpenError::Failed);
+        }
+        Ok(Listening {
+            poll,
+            events,
+            listener: Some(listener),
+            accepting: Accepting::Idle,
+            accepts_left: MOST_ACCEPTS,
+            patience: PATIENCE,
+            targets,
+            table,
+        })
+    }
+
+    /// Lets the listener go: later connections are refused.
+    pub(crate) fn stop_accepting(&mut self) {
+        self.listener = None;
+    }
+
+    /// Whether all sessions are closed and everything is sent, and the peers have ended too or were
+    /// waited for long enough.
+    pub(crate) fn is_over(&self) -> bool {
+        self.table.is_done() && (self.patience == 0 || self.table.is_empty())
+    }
+
+    /// Accepts the next connection that waits, as this session, and begins one to each target. It
+    /// says whether there is a new session. An accept that fails is passed over.
+    pub(crate) fn accept<N: Net>(&mut self, net: &N, number: u64) -> bool {
+        let Some(listener) = &self.listener else {
+            return false;
+        };
+        if self.accepting != Accepting::Ready || self.accepts_left == 0 || !self.table.has_place() {
+            return false;
+        }
+        self.accepts_left = self.accepts_left.saturating_sub(1);
+        match listener.accept() {
+            Ok((client, _)) => self.admit(net, number, client),
+            Err(error) => {
+                self.accepting = after_failure(error.kind());
+                false
+            }
+        }
+    }
+
+    // Makes a session of a connection.
+    fn admit<N: Net>(&mut self, net: &N, number: u64, client: TcpStream) -> bool {
+        let Some(place) = self.table.begin(number) else {
+            return false;
+        };
+        let is_whole = self
+            .table
+            .attach(self.poll.registry(), place, 0, client, Sending::Ready)
+            && self.table.announce(number, place);
+        if !is_whole {
+            self.table.release(place);
+            return false;
+        }
+        self.connect(net, place);
+        true
+    }
+
+    // Begins a connection to each target. A port whose connection can't be begun stays without one.
+    fn connect<N: Net>(&mut self, net: &N, place: usize) {
+        for (at, target) in self.targets.iter().enumerate() {
+            if let Ok(stream) = TcpStream::connect(net, *target) {
+                let registry = self.poll.registry();
+                self.table
+                    .attach(registry, place, at + 1, stream, Sending::Blocked);
+            }
+        }
+    }
+
+    /// Waits until something is reported. It doesn't wait where a session is to have a turn, or a
+    /// connection may be accepted.
+    pub(crate) fn wait(&mut self) -> io::Result<()> {
+        let timeout = self.timeout();
+        self.poll.poll(&mut self.events, timeout)?;
+        if self.accepting == Accepting::Short {
+            self.accepting = Accepting::Ready;
+        }
+        self.accepts_left = MOST_ACCEPTS;
+        self.spend_patience();
+        for event in &self.events {
+            if event.token() == LISTENER {
+                self.accepting = Accepting::Ready;
+            } else {
+                self.table.report(*event);
+            }
+        }
+        self.table.recall();
+        Ok(())
+    }
+
+    // Counts a wait, where only peers' ends are waited for.
+    fn spend_patience(&mut self) {
+        if self.listener.is_some() || !self.table.is_done() {
+            return;
+        }
+        let cost = if self.events.is_empty() { IDLE_COST } else { 1 };
+        self.patience = self.patience.saturating_sub(cost);
+    }
+
+    // The longest time to wait: none for as long as it takes.
+    fn timeout(&self) -> Option<Duration> {
+        if self.table.has_behind() {
+            return Some(Duration::ZERO);
+        }
+        if self.listener.is_none() && self.table.is_done() {
+            return Some(Duration::from_millis(RETRY_MILLIS));
+        }
+        if self.listener.is_none() || !self.table.has_place() {
+            return None;
+        }
+        match self.accepting {
+            Accepting::Idle => None,
+            Accepting::Ready => Some(Duration::ZERO),
+            Accepting::Short => Some(Duration::from_millis(RETRY_MILLIS)),
+        }
+    }
+}
+
+// Where no connection waits, the listener is to be reported again; one that is gone already is
+// passed over. Whatever else fails is tried again later.
+fn after_failure(kind: ErrorKind) -> Accepting {
+    match kind {
+        ErrorKind::WouldBlock => Accepting::Idle,
+        ErrorKind::ConnectionAborted | ErrorKind::Interrupted => Accepting::Ready,
+        _ => Accepting::Short,
+    }
+}
