@@ -1,0 +1,3 @@
+-- Lemmas.
+pub mod Numerals
+pub mod Reading

@@ -1,0 +1,16 @@
+//! The words of a command: what they name, by a table.
+//!
+//! A command is its name, its positional words, and then its options in any order, each at most once and each as the two
+//! words `--name` and its value. Whatever else stands there is no command.
+#![tactic(auto)]
+
+mod address;
+mod command;
+mod numeral;
+mod options;
+mod serving;
+
+pub use command::{Command, Conversion, Drilling, Showing, read_command};
+pub use numeral::number;
+pub use options::Declared;
+pub use serving::Serving;
