@@ -1,0 +1,3 @@
+-- What an IDL declares, and how it is refused.
+pub mod Refusals
+pub mod Opening

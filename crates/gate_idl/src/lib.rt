@@ -1,0 +1,8 @@
+//! The IDL of a command: its files loaded and its constants checked, or the first refusal with the line that tells it.
+#![tactic(auto)]
+
+mod opening;
+mod refusal;
+
+pub use opening::{Stop, check_consts, open};
+pub use refusal::{Refusal, Row};
