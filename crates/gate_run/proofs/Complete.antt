@@ -9,7 +9,7 @@ use Rattle.framed_transport.specs.Frames.{framed, Splits}
 use Rattle.framed_transport.specs.Front.{front, is_whole, Part, Large}
 use Rattle.framed_transport.proofs.Cutting.{large_stays}
 use Rattle.framed_transport.proofs.Splitting.{one_splitting}
-use Rattle.gate_run.specs.declared.command.Conversion.{Conversion}
+use Rattle.gate_run.specs.Terms.{Terms}
 use Rattle.gate_run.specs.Conversion.{any_refused}
 use Rattle.gate_run.specs.Progress.{IsStreamLine}
 use Rattle.gate_run.specs.Outcome.{Streams, ConvertsAll, EndsWithinAFrame, StopsWith, WriteFailed, Converted}
@@ -32,7 +32,7 @@ front_read None b bytes read e p = absurd (cc)
 front_read (Some x) None bytes read e p = absurd p
 front_read (Some x) (Some y) bytes read e p = (let same : x ≡ bytes = cc in (y, sym same ∙ p))
 
-none_refused : (k : Conversion) (a b : Streams) (bytes : List ℕ) (frames : List (List ℕ)) → k.limit < 2 ^ 31 → a.left ≡ Some bytes → Splits k.limit bytes frames [] → any_refused k frames ≡ false → ConvertsAll k a b true → ⊥
+none_refused : (k : Terms) (a b : Streams) (bytes : List ℕ) (frames : List (List ℕ)) → k.limit < 2 ^ 31 → a.left ≡ Some bytes → Splits k.limit bytes frames [] → any_refused k frames ≡ false → ConvertsAll k a b true → ⊥
 none_refused k a b bytes frames small told splits passed c =
     let same : c.0 ≡ bytes = all_read a.left b.left bytes c.0 told c.2.consumed c.4 in
     let one = one_splitting k.limit bytes c.1 frames [] [] small (subst (λ (xs : List ℕ). Splits k.limit xs c.1 []) same c.2.splits) splits in
@@ -52,7 +52,7 @@ nothing_left : (rest left : List ℕ) → rest ++ left ≡ [] → rest ≡ []
 nothing_left [] left e = refl
 nothing_left (x ∷ rest) left e = absurd (cc)
 
-ends_at_a_frame : (k : Conversion) (a b : Streams) (bytes : List ℕ) (frames : List (List ℕ)) → k.limit < 2 ^ 31 → a.left ≡ Some bytes → Splits k.limit bytes frames [] → EndsWithinAFrame k a b → ⊥
+ends_at_a_frame : (k : Terms) (a b : Streams) (bytes : List ℕ) (frames : List (List ℕ)) → k.limit < 2 ^ 31 → a.left ≡ Some bytes → Splits k.limit bytes frames [] → EndsWithinAFrame k a b → ⊥
 ends_at_a_frame k a b bytes frames small told splits (read, others, rest, line, c, is, inr at_end) =
     let same : read ≡ bytes = all_read a.left b.left bytes read told c.consumed at_end in
     let one = one_splitting k.limit bytes others frames rest [] small (subst (λ (xs : List ℕ). Splits k.limit xs others rest) same c.splits) splits in
@@ -67,12 +67,12 @@ ends_at_a_frame k a b bytes frames small told splits (read, others, rest, line, 
     let one = one_splitting k.limit bytes others frames (rest ++ more.0) [] small longer splits in
     not_large k.limit rest large.0 (nothing_left rest more.0 one.1) large.1
 
-too_few : (k : Conversion) (a b : Streams) (text bytes : List ℕ) → a.left ≡ Some bytes → length bytes < 2 ^ 63 - 1 → StopsWith k a b text (λ n. n ≡ 2 ^ 63 - 1) → ⊥
+too_few : (k : Terms) (a b : Streams) (text bytes : List ℕ) → a.left ≡ Some bytes → length bytes < 2 ^ 63 - 1 → StopsWith k a b text (λ n. n ≡ 2 ^ 63 - 1) → ⊥
 too_few k a b text bytes told few s =
     let more = front_read a.left b.left bytes s.0 told s.4.consumed in
     omega (arith, s.6, few, ap length more.1, length-append s.0 more.0)
 
-pub good_stream : (k : Conversion) (a b : Streams) (code : ℕ) (bytes : List ℕ) (frames : List (List ℕ)) → k.limit < 2 ^ 31 → Converted k a b code → a.left ≡ Some bytes → length bytes < 2 ^ 63 - 1 → Splits k.limit bytes frames [] → any_refused k frames ≡ false → (Rose a.input_faults b.input_faults → ⊥) → (WriteFailed a b → ⊥) → (code ≡ 0) ⊎ (code ≡ 9)
+pub good_stream : (k : Terms) (a b : Streams) (code : ℕ) (bytes : List ℕ) (frames : List (List ℕ)) → k.limit < 2 ^ 31 → Converted k a b code → a.left ≡ Some bytes → length bytes < 2 ^ 63 - 1 → Splits k.limit bytes frames [] → any_refused k frames ≡ false → (Rose a.input_faults b.input_faults → ⊥) → (WriteFailed a b → ⊥) → (code ≡ 0) ⊎ (code ≡ 9)
 good_stream k a b code bytes frames small c told few splits passed no_read_fault no_write_fault =
     no_other code c.known
     (λ e. none_refused k a b bytes frames small told splits passed (c.refused e))

@@ -7,7 +7,7 @@ use Rattle.std.proofs.lemmas.List.Elements.{All-append, All-nil, All-cons}
 use Rattle.std.proofs.lemmas.Grind.{flat_map-append}
 use Rattle.framed_transport.specs.Frames.{framed, IsCut}
 use Rattle.framed_transport.specs.Front.{front, Part, Large}
-use Rattle.gate_run.specs.declared.command.Conversion.{Conversion}
+use Rattle.gate_run.specs.Terms.{Terms}
 use Rattle.gate_run.specs.Lines.{too_large_text, left_text}
 use Rattle.gate_run.specs.Working.{EndsInRest, Ends, Waits}
 use Rattle.gate_run.specs.declared.work.End.{End}
@@ -17,7 +17,7 @@ use Rattle.gate_run.specs.Conversion.{passes, output_of, line_of, lines, any_ref
 use Rattle.gate_run.specs.Progress.{Moment, Goes, Breaks, IsStreamLine}
 use Rattle.gate_run.proofs.Streams.{appends_on, appends_none, consumes_on, consumes_none, then_front, front_of_more, keeps_consumes, some_wait, flush_kept, front_of_gathered, all_written, one_waits}
 
-pub lines_on : (k : Conversion) (before : ℕ) (xs ys : List (List ℕ)) → lines k before (xs ++ ys) ≡ lines k before xs ++ lines k (before + length xs) ys
+pub lines_on : (k : Terms) (before : ℕ) (xs ys : List (List ℕ)) → lines k before (xs ++ ys) ≡ lines k before xs ++ lines k (before + length xs) ys
 lines_on k before [] ys = ap (λ n. lines k n ys) (sym (add-zero before))
 lines_on k before (x ∷ xs) ys =
     let e : (before + 1) + length xs ≡ before + suc (length xs) = omega arith in
@@ -27,7 +27,7 @@ or_assoc : (a b c : Bool) → (a || b || c) ≡ (a || (b || c))
 or_assoc true b c = refl
 or_assoc false b c = refl
 
-pub any_refused_on : (k : Conversion) (xs ys : List (List ℕ)) → any_refused k (xs ++ ys) ≡ (any_refused k xs || any_refused k ys)
+pub any_refused_on : (k : Terms) (xs ys : List (List ℕ)) → any_refused k (xs ++ ys) ≡ (any_refused k xs || any_refused k ys)
 any_refused_on k [] ys = refl
 any_refused_on k (x ∷ xs) ys = ap (λ b. not (passes k x) || b) (any_refused_on k xs ys) ∙ sym (or_assoc (not (passes k x)) (any_refused k xs) (any_refused k ys))
 
@@ -40,7 +40,7 @@ split_on : (held read f mid read' g rest : List ℕ) → held ++ read ≡ f ++ m
 split_on held read f mid read' g rest p q =
     sym (append_assoc held read read') ∙ (ap (λ t. t ++ read') p ∙ (append_assoc f mid read' ∙ (ap (λ t. f ++ t) q ∙ sym (append_assoc f g rest))))
 
-pub goes_nowhere : (k : Conversion) (a : Moment) → Goes k a a
+pub goes_nowhere : (k : Terms) (a : Moment) → Goes k a a
 goes_nowhere k a = record {
   read = [];
   frames = [];
@@ -54,7 +54,7 @@ goes_nowhere k a = record {
   refused = or_false a.refused;
 }
 
-pub goes_on : (k : Conversion) (a b c : Moment) → Goes k a b → Goes k b c → Goes k a c
+pub goes_on : (k : Terms) (a b c : Moment) → Goes k a b → Goes k b c → Goes k a c
 goes_on k a b c p q = record {
   read = p.read ++ q.read;
   frames = p.frames ++ q.frames;
@@ -68,7 +68,7 @@ goes_on k a b c p q = record {
   refused = q.refused ∙ (ap (λ t. t || any_refused k q.frames) p.refused ∙ (or_assoc a.refused (any_refused k p.frames) (any_refused k q.frames) ∙ ap (λ t. a.refused || t) (sym (any_refused_on k p.frames q.frames))));
 }
 
-pub goes_and_breaks : (k : Conversion) (a b c : Moment) → Goes k a b → Breaks k b c → Breaks k a c
+pub goes_and_breaks : (k : Terms) (a b c : Moment) → Goes k a b → Breaks k b c → Breaks k a c
 goes_and_breaks k a b c p q = record {
   read = p.read ++ q.read;
   frames = p.frames ++ q.frames;
@@ -91,7 +91,7 @@ same_consumes : (a b : Option (List ℕ)) → b ≡ a → Consumes a b []
 same_consumes a b e = subst (λ (x : Option (List ℕ)). Consumes a x []) (sym e) (consumes_none a)
 
 -- bytes were read and are held
-pub fed : (k : Conversion) (a b : Moment) (piece : List ℕ) → Consumes a.left b.left piece → b.held ≡ a.held ++ piece → b.taken ≡ a.taken + length piece → b.written ≡ a.written → b.reported ≡ a.reported → b.frames ≡ a.frames → b.refused ≡ a.refused → Goes k a b
+pub fed : (k : Terms) (a b : Moment) (piece : List ℕ) → Consumes a.left b.left piece → b.held ≡ a.held ++ piece → b.taken ≡ a.taken + length piece → b.written ≡ a.written → b.reported ≡ a.reported → b.frames ≡ a.frames → b.refused ≡ a.refused → Goes k a b
 fed k a b piece consumed held taken written reported frames refused = record {
   read = piece;
   frames = [];
@@ -106,12 +106,12 @@ fed k a b piece consumed held taken written reported frames refused = record {
 }
 
 -- nothing but the source's state changed
-pub waited : (k : Conversion) (a b : Moment) → Keeps a.left b.left → b.held ≡ a.held → b.taken ≡ a.taken → b.written ≡ a.written → b.reported ≡ a.reported → b.frames ≡ a.frames → b.refused ≡ a.refused → Goes k a b
+pub waited : (k : Terms) (a b : Moment) → Keeps a.left b.left → b.held ≡ a.held → b.taken ≡ a.taken → b.written ≡ a.written → b.reported ≡ a.reported → b.frames ≡ a.frames → b.refused ≡ a.refused → Goes k a b
 waited k a b kept held taken written reported frames refused =
     fed k a b [] (keeps_consumes a.left b.left kept) (held ∙ sym (append-nil a.held)) (omega (arith, taken)) written reported frames refused
 
 -- the frame at the front was handled and let go
-handled_one : (k : Conversion) (a b : Moment) (frame : List ℕ) → length frame ≤ k.limit → a.held ≡ framed frame ++ b.held → b.left ≡ a.left → Appends a.written b.written (output_of k frame) → Appends a.reported b.reported (line_of k (a.frames + 1) frame) → b.frames ≡ a.frames + 1 → b.taken ≡ a.taken → b.refused ≡ (a.refused || not (passes k frame)) → Goes k a b
+handled_one : (k : Terms) (a b : Moment) (frame : List ℕ) → length frame ≤ k.limit → a.held ≡ framed frame ++ b.held → b.left ≡ a.left → Appends a.written b.written (output_of k frame) → Appends a.reported b.reported (line_of k (a.frames + 1) frame) → b.frames ≡ a.frames + 1 → b.taken ≡ a.taken → b.refused ≡ (a.refused || not (passes k frame)) → Goes k a b
 handled_one k a b frame within split left written reported frames taken refused = record {
   read = [];
   frames = frame ∷ [];
@@ -126,7 +126,7 @@ handled_one k a b frame within split left written reported frames taken refused 
 }
 
 -- of the line of the rest a front was written
-pub broken_line : (k : Conversion) (a b : Moment) (line : List ℕ) → IsStreamLine k.limit a.frames a.held line → b.left ≡ a.left → b.written ≡ a.written → AppendsFront a.reported b.reported line → Breaks k a b
+pub broken_line : (k : Terms) (a b : Moment) (line : List ℕ) → IsStreamLine k.limit a.frames a.held line → b.left ≡ a.left → b.written ≡ a.written → AppendsFront a.reported b.reported line → Breaks k a b
 broken_line k a b line is left written reported = record {
   read = [];
   frames = [];
@@ -156,17 +156,17 @@ pub large_line : (limit frames : ℕ) (held line : List ℕ) (n : ℤ) → front
 unfolding IsStreamLine
 large_line limit frames held line n large text = inl (n, large, text)
 
-pub rest_left : (k : Conversion) (a b mid : Moment) (line : List ℕ) → Goes k a mid → IsStreamLine k.limit mid.frames mid.held line → b.written ≡ mid.written → Appends mid.reported b.reported line → b.left ≡ mid.left → IsAtEnd mid.left → EndsInRest k a b
+pub rest_left : (k : Terms) (a b mid : Moment) (line : List ℕ) → Goes k a mid → IsStreamLine k.limit mid.frames mid.held line → b.written ≡ mid.written → Appends mid.reported b.reported line → b.left ≡ mid.left → IsAtEnd mid.left → EndsInRest k a b
 rest_left k a b mid line goes is written reported left at_end =
     record { mid = mid; line = line; goes = goes; line_is = is; written = written; reported = reported; left = left; at_end = inr at_end }
 
-pub rest_large : (k : Conversion) (a b mid : Moment) (line : List ℕ) → Goes k a mid → IsStreamLine k.limit mid.frames mid.held line → b.written ≡ mid.written → Appends mid.reported b.reported line → b.left ≡ mid.left → (n : ℤ) → front k.limit mid.held ≡ Large n → EndsInRest k a b
+pub rest_large : (k : Terms) (a b mid : Moment) (line : List ℕ) → Goes k a mid → IsStreamLine k.limit mid.frames mid.held line → b.written ≡ mid.written → Appends mid.reported b.reported line → b.left ≡ mid.left → (n : ℤ) → front k.limit mid.held ≡ Large n → EndsInRest k a b
 rest_large k a b mid line goes is written reported left n large =
     record { mid = mid; line = line; goes = goes; line_is = is; written = written; reported = reported; left = left; at_end = inl (n, large) }
 
 -- ---- how the work ends
 
-pub ends_on : (k : Conversion) (a b c : Moment) (end : End) → Goes k a b → Ends k b c end → Ends k a c end
+pub ends_on : (k : Terms) (a b c : Moment) (end : End) → Goes k a b → Ends k b c end → Ends k a c end
 ends_on k a b c ends.Done p q = (goes_on k a b c p q.0, q.1, q.2, q.3)
 ends_on k a b c ends.Refused p q = (goes_on k a b c p q.0, q.1, q.2, q.3)
 ends_on k a b c ends.StreamFault p q =
@@ -177,7 +177,7 @@ ends_on k a b c ends.BudgetSpent p q = (goes_on k a b c p q.0, q.1, q.2)
 
 -- ---- what is gathered before it is written
 
-rewritten : (k : Conversion) (a b c : Moment) → Goes k a b → c.left ≡ b.left → c.held ≡ b.held → c.frames ≡ b.frames → c.taken ≡ b.taken → c.refused ≡ b.refused → ((xs : List ℕ) → Appends a.written b.written xs → Appends a.written c.written xs) → ((xs : List ℕ) → Appends a.reported b.reported xs → Appends a.reported c.reported xs) → Goes k a c
+rewritten : (k : Terms) (a b c : Moment) → Goes k a b → c.left ≡ b.left → c.held ≡ b.held → c.frames ≡ b.frames → c.taken ≡ b.taken → c.refused ≡ b.refused → ((xs : List ℕ) → Appends a.written b.written xs → Appends a.written c.written xs) → ((xs : List ℕ) → Appends a.reported b.reported xs → Appends a.reported c.reported xs) → Goes k a c
 rewritten k a b c g left held frames taken refused f r = record {
   read = g.read;
   frames = g.frames;
@@ -192,7 +192,7 @@ rewritten k a b c g left held frames taken refused f r = record {
 }
 
 -- at first nothing waits
-pub waits_nowhere : (k : Conversion) (a : Moment) (out more : List ℕ) → out ≡ [] → more ≡ [] → Waits k a a out more
+pub waits_nowhere : (k : Terms) (a : Moment) (out more : List ℕ) → out ≡ [] → more ≡ [] → Waits k a a out more
 waits_nowhere k a out more none none_too = record {
   goes = rewritten k a a (record a { written = append_known a.written out; reported = append_known a.reported more }) (goes_nowhere k a) refl refl refl refl refl
       (λ xs h. some_wait a.written a.written out xs none h) (λ xs h. some_wait a.reported a.reported more xs none_too h);
@@ -201,7 +201,7 @@ waits_nowhere k a out more none none_too = record {
 }
 
 -- the first of what waited was written
-pub waits_flushed : (k : Conversion) (a b c : Moment) (out more out' more' : List ℕ) → Waits k a b out more → c.left ≡ b.left → c.held ≡ b.held → c.frames ≡ b.frames → c.taken ≡ b.taken → c.refused ≡ b.refused → Flushed b.written out c.written out' → Flushed b.reported more c.reported more' → Waits k a c out' more'
+pub waits_flushed : (k : Terms) (a b c : Moment) (out more out' more' : List ℕ) → Waits k a b out more → c.left ≡ b.left → c.held ≡ b.held → c.frames ≡ b.frames → c.taken ≡ b.taken → c.refused ≡ b.refused → Flushed b.written out c.written out' → Flushed b.reported more c.reported more' → Waits k a c out' more'
 waits_flushed k a b c out more out' more' w left held frames taken refused f r = record {
   goes = rewritten k a (record b { written = append_known b.written out; reported = append_known b.reported more }) (record c { written = append_known c.written out'; reported = append_known c.reported more' }) w.goes left held frames taken refused
       (λ xs h. flush_kept a.written b.written c.written out out' xs h f) (λ xs h. flush_kept a.reported b.reported c.reported more more' xs h r);
@@ -210,13 +210,13 @@ waits_flushed k a b c out more out' more' w left held frames taken refused f r =
 }
 
 -- all that waited was written
-pub waits_done : (k : Conversion) (a b c : Moment) (out more : List ℕ) → Waits k a b out more → c.left ≡ b.left → c.held ≡ b.held → c.frames ≡ b.frames → c.taken ≡ b.taken → c.refused ≡ b.refused → Appends b.written c.written out → Appends b.reported c.reported more → Goes k a c
+pub waits_done : (k : Terms) (a b c : Moment) (out more : List ℕ) → Waits k a b out more → c.left ≡ b.left → c.held ≡ b.held → c.frames ≡ b.frames → c.taken ≡ b.taken → c.refused ≡ b.refused → Appends b.written c.written out → Appends b.reported c.reported more → Goes k a c
 waits_done k a b c out more w left held frames taken refused f r =
     rewritten k a (record b { written = append_known b.written out; reported = append_known b.reported more }) c w.goes left held frames taken refused
     (λ xs h. all_written a.written b.written c.written out xs h f) (λ xs h. all_written a.reported b.reported c.reported more xs h r)
 
 -- a front of what waited was written
-pub waits_broken : (k : Conversion) (a b c : Moment) (out more : List ℕ) → Waits k a b out more → c.left ≡ b.left → AppendsFront b.written c.written out → AppendsFront b.reported c.reported more → Breaks k a c
+pub waits_broken : (k : Terms) (a b c : Moment) (out more : List ℕ) → Waits k a b out more → c.left ≡ b.left → AppendsFront b.written c.written out → AppendsFront b.reported c.reported more → Breaks k a c
 waits_broken k a b c out more w left f r = record {
   read = w.goes.read;
   frames = w.goes.frames;
@@ -231,7 +231,7 @@ waits_broken k a b c out more w left f r = record {
 }
 
 -- one frame more was handled, and what is to be written of it waits
-pub waits_one : (k : Conversion) (a b c : Moment) (out more out' more' frame rest : List ℕ) → Waits k a b out more → IsCut k.limit b.held frame rest → c.held ≡ rest → c.left ≡ b.left → c.written ≡ b.written → c.reported ≡ b.reported → c.frames ≡ b.frames + 1 → c.taken ≡ b.taken → c.refused ≡ (b.refused || not (passes k frame)) → out' ≡ out ++ output_of k frame → more' ≡ more ++ line_of k (b.frames + 1) frame → Waits k a c out' more'
+pub waits_one : (k : Terms) (a b c : Moment) (out more out' more' frame rest : List ℕ) → Waits k a b out more → IsCut k.limit b.held frame rest → c.held ≡ rest → c.left ≡ b.left → c.written ≡ b.written → c.reported ≡ b.reported → c.frames ≡ b.frames + 1 → c.taken ≡ b.taken → c.refused ≡ (b.refused || not (passes k frame)) → out' ≡ out ++ output_of k frame → more' ≡ more ++ line_of k (b.frames + 1) frame → Waits k a c out' more'
 waits_one k a b c out more out' more' frame rest w cut held left written reported frames taken refused o m = record {
   goes = goes_on k a (record b { written = append_known b.written out; reported = append_known b.reported more }) (record c { written = append_known c.written out'; reported = append_known c.reported more' }) w.goes
       (handled_one k (record b { written = append_known b.written out; reported = append_known b.reported more }) (record c { written = append_known c.written out'; reported = append_known c.reported more' }) frame cut.within (cut.whole ∙ ap (λ t. framed frame ++ t) (sym held)) left

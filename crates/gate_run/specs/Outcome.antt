@@ -5,11 +5,9 @@ use Rattle.std.specs.Io.KnownBytes.{Appends, Consumes, IsAtEnd}
 use Rattle.gate_io.specs.Causes.{Rose}
 use Rattle.framed_transport.specs.Frames.{Splits}
 use Rattle.framed_transport.specs.Front.{front, Large}
-use Rattle.gate_run.specs.Fronts.{AppendsFront}
-use Rattle.gate_run.specs.Lines.{usage_text}
 use Rattle.gate_run.specs.Conversion.{output_of, lines, any_refused}
 use Rattle.gate_run.specs.Progress.{Moment, Breaks, IsStreamLine}
-use Rattle.gate_run.specs.declared.command.Conversion.{Conversion}
+use Rattle.gate_run.specs.Terms.{Terms}
 
 -- the three streams: what is left of the input, what was written and reported, where they tell it, and their faults
 pub record Streams : Type 0 where
@@ -26,7 +24,7 @@ streams left written reported input_faults output_faults report_faults =
 
 -- these bytes were read, they are these frames and this rest, and what is to be written and reported of the frames
 -- was, with this line at the end
-pub record Converts (k : Conversion) (a b : Streams) (read : List ℕ) (frames : List (List ℕ)) (rest line : List ℕ) : Type 0 where
+pub record Converts (k : Terms) (a b : Streams) (read : List ℕ) (frames : List (List ℕ)) (rest line : List ℕ) : Type 0 where
   pub consumed : Consumes a.left b.left read
   pub splits : Splits k.limit read frames rest
   pub written : Appends a.written b.written (flat_map (output_of k) frames)
@@ -38,7 +36,7 @@ pub record IsLastLine (text line : List ℕ) (before now : ℕ) : Type 0 where
   pub whole : (line ≡ text) ⊎ Rose before now
 
 -- the input was read to its end and is whole frames
-abbrev pub ConvertsAll : Conversion → Streams → Streams → Bool → Type 0
+abbrev pub ConvertsAll : Terms → Streams → Streams → Bool → Type 0
 ConvertsAll k a b refused =
     (read : List ℕ) × (frames : List (List ℕ)) × Converts k a b read frames [] [] × (any_refused k frames ≡ refused) × IsAtEnd b.left
 
@@ -46,13 +44,13 @@ abbrev pub IsTooLargeOrAtEnd : ℕ → List ℕ → Option (List ℕ) → Type 0
 IsTooLargeOrAtEnd limit rest left = ((n : ℤ) × (front limit rest ≡ Large n)) ⊎ IsAtEnd left
 
 -- the next length is too large, or the input ended within a frame
-abbrev pub EndsWithinAFrame : Conversion → Streams → Streams → Type 0
+abbrev pub EndsWithinAFrame : Terms → Streams → Streams → Type 0
 EndsWithinAFrame k a b =
     (read : List ℕ) × (frames : List (List ℕ)) × (rest : List ℕ) × (line : List ℕ) × Converts k a b read frames rest line
     × IsStreamLine k.limit (length frames) rest line × IsTooLargeOrAtEnd k.limit rest b.left
 
 -- the whole frames that were read were handled, and this last line was written, or a front of it; so many bytes were read
-abbrev pub StopsWith : Conversion → Streams → Streams → List ℕ → (ℕ → Type 0) → Type 0
+abbrev pub StopsWith : Terms → Streams → Streams → List ℕ → (ℕ → Type 0) → Type 0
 StopsWith k a b text Many =
     (read : List ℕ) × (frames : List (List ℕ)) × (rest : List ℕ) × (line : List ℕ) × Converts k a b read frames rest line
     × IsLastLine text line a.report_faults b.report_faults × Many (length read)
@@ -63,7 +61,7 @@ beginning left written reported =
     record { left = left; written = written; reported = reported; held = []; frames = 0; taken = 0; refused = false }
 
 -- a front of what is to be written was written
-abbrev pub BreaksOff : Conversion → Streams → Streams → Type 0
+abbrev pub BreaksOff : Terms → Streams → Streams → Type 0
 BreaksOff k a b = Breaks k (beginning a.left a.written a.reported) (beginning b.left b.written b.reported)
 
 -- the output or the report failed
@@ -71,7 +69,7 @@ abbrev pub WriteFailed : Streams → Streams → Type 0
 WriteFailed a b = Rose a.output_faults b.output_faults ⊎ Rose a.report_faults b.report_faults
 
 -- what a conversion did, by its code
-pub record Converted (k : Conversion) (a b : Streams) (code : ℕ) : Type 0 where
+pub record Converted (k : Terms) (a b : Streams) (code : ℕ) : Type 0 where
   pub known : IsTrue (list_any (λ c. c == code) (0 ∷ 1 ∷ 3 ∷ 4 ∷ 5 ∷ 8 ∷ 9 ∷ []))
   -- every frame passed
   pub done : code ≡ 0 → ConvertsAll k a b false
@@ -83,10 +81,3 @@ pub record Converted (k : Conversion) (a b : Streams) (code : ℕ) : Type 0 wher
   pub budget : code ≡ 8 → StopsWith k a b (codes "budget spent\n") (λ n. n ≡ 2 ^ 63 - 1)
   -- nothing was read
   pub memory : code ≡ 9 → StopsWith k a b (codes "no memory\n") (λ n. n ≡ 0)
-
--- the words are no command: nothing was read or written, and the usage was reported, or a front of it where the report failed
-pub record Refuses (a b : Streams) (code : ℕ) : Type 0 where
-  pub left : b.left ≡ a.left
-  pub written : b.written ≡ a.written
-  pub front : AppendsFront a.reported b.reported usage_text
-  pub ends : ((code ≡ 2) × Appends a.reported b.reported usage_text) ⊎ ((code ≡ 5) × Rose a.report_faults b.report_faults)

@@ -7,7 +7,7 @@ use Rattle.framed_transport.specs.Front.{front, Part, Large}
 use Rattle.gate_run.specs.Fronts.{AppendsFront}
 use Rattle.gate_run.specs.Lines.{too_large_text, left_text}
 use Rattle.gate_run.specs.Conversion.{output_of, lines, any_refused}
-use Rattle.gate_run.specs.declared.command.Conversion.{Conversion}
+use Rattle.gate_run.specs.Terms.{Terms}
 
 -- a moment: what the source has left and the sinks hold, the bytes held, and how many frames and bytes there were
 pub record Moment : Type 0 where
@@ -20,7 +20,7 @@ pub record Moment : Type 0 where
   pub refused : Bool
 
 -- between the moments these bytes were read and these frames handled, all that is to be written of them was written
-pub record Goes (c : Conversion) (a b : Moment) : Type 0 where
+pub record Goes (c : Terms) (a b : Moment) : Type 0 where
   pub read : List ℕ
   pub frames : List (List ℕ)
   pub consumed : Consumes a.left b.left read
@@ -39,7 +39,7 @@ IsStreamLine limit frames rest line =
     ⊎ ((front limit rest ≡ Part) × (rest ≡ [] → ⊥) × (line ≡ left_text frames (length rest)))
 
 -- a front of what is to be written was written
-pub record Breaks (c : Conversion) (a b : Moment) : Type 0 where
+pub record Breaks (c : Terms) (a b : Moment) : Type 0 where
   pub read : List ℕ
   pub frames : List (List ℕ)
   pub more : List ℕ

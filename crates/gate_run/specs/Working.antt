@@ -3,7 +3,7 @@ use Rattle.std.specs.Prelude.{◌≡◌, ℕ, ◌+◌, ◌*◌, ◌-◌, ◌^◌
 use Rattle.std.specs.Io.KnownBytes.{Appends, IsAtEnd, append_known}
 use Rattle.framed_transport.specs.Front.{front, Part, Large}
 use Rattle.gate_run.specs.Progress.{Moment, Goes, Breaks, IsStreamLine}
-use Rattle.gate_run.specs.declared.command.Conversion.{Conversion}
+use Rattle.gate_run.specs.Terms.{Terms}
 use Rattle.gate_run.specs.declared.work.Work.{Work}
 use Rattle.gate_run.specs.declared.work.Drained.{Drained}
 use Rattle.gate_run.specs.declared.work.Drained.TheVariants as drained
@@ -13,7 +13,7 @@ use Rattle.gate_run.specs.declared.work.End.{End}
 use Rattle.gate_run.specs.declared.work.End.TheVariants as ends
 
 -- its rooms serve for frames of the limit, and its counts are at most the bytes taken
-pub record IsReady (k : Conversion) (work : Work) : Type 0 where
+pub record IsReady (k : Terms) (work : Work) : Type 0 where
   pub limit_is : work.frames.limit ≡ k.limit
   pub out : work.out.room ≡ 24 * k.limit + 260
   pub lines : work.lines.room ≡ 4096
@@ -33,7 +33,7 @@ pub record IsStart (work : Work) : Type 0 where
   pub flushed : IsFlushed work
 
 -- less than a frame is held, and there is room for more
-pub record IsWaiting (k : Conversion) (held : List ℕ) : Type 0 where
+pub record IsWaiting (k : Terms) (held : List ℕ) : Type 0 where
   pub part : front k.limit held ≡ Part
   pub room : length held < k.limit + 4
 
@@ -42,28 +42,28 @@ moment work left written reported =
     record { left = left; written = written; reported = reported; held = work.frames.held; frames = work.number; taken = work.taken; refused = work.refused }
 
 -- from one moment to a later one, in which these bytes wait for the output and for the report
-pub record Waits (k : Conversion) (a b : Moment) (out lines : List ℕ) : Type 0 where
+pub record Waits (k : Terms) (a b : Moment) (out lines : List ℕ) : Type 0 where
   pub goes : Goes k a (record b { written = append_known b.written out; reported = append_known b.reported lines })
   pub sent : (bytes : List ℕ) × Appends a.written b.written bytes
   pub told : (bytes : List ℕ) × Appends a.reported b.reported bytes
 
-abbrev pub Handles : Conversion → Moment → Moment → List ℕ → List ℕ → Drained → Type 0
+abbrev pub Handles : Terms → Moment → Moment → List ℕ → List ℕ → Drained → Type 0
 Handles k a b out lines drained.NeedMore = Waits k a b out lines × IsWaiting k b.held
 Handles k a b out lines (drained.TooLarge n) = Waits k a b out lines × (front k.limit b.held ≡ Large n)
 Handles k a b out lines drained.WriteFault = Breaks k a b
 
-abbrev pub Drains : Conversion → Moment → Moment → Drained → Type 0
+abbrev pub Drains : Terms → Moment → Moment → Drained → Type 0
 Drains k a b drained.NeedMore = Goes k a b × IsWaiting k b.held
 Drains k a b (drained.TooLarge n) = Goes k a b × (front k.limit b.held ≡ Large n)
 Drains k a b drained.WriteFault = Breaks k a b
 
-abbrev pub Takes : Conversion → Moment → Moment → Taken → Type 0
+abbrev pub Takes : Terms → Moment → Moment → Taken → Type 0
 Takes k a b taken.More = Goes k a b × (a.taken < b.taken)
 Takes k a b taken.End = Goes k a b × IsWaiting k b.held × IsAtEnd b.left
 Takes k a b taken.Failed = Goes k a b × IsWaiting k b.held
 
 -- the line of the rest was written after all the others
-pub record EndsInRest (k : Conversion) (a b : Moment) : Type 0 where
+pub record EndsInRest (k : Terms) (a b : Moment) : Type 0 where
   pub mid : Moment
   pub line : List ℕ
   pub goes : Goes k a mid
@@ -73,7 +73,7 @@ pub record EndsInRest (k : Conversion) (a b : Moment) : Type 0 where
   pub left : b.left ≡ mid.left
   pub at_end : ((n : ℤ) × (front k.limit mid.held ≡ Large n)) ⊎ IsAtEnd mid.left
 
-abbrev pub Ends : Conversion → Moment → Moment → End → Type 0
+abbrev pub Ends : Terms → Moment → Moment → End → Type 0
 Ends k a b ends.Done = Goes k a b × (b.held ≡ []) × (b.refused ≡ false) × IsAtEnd b.left
 Ends k a b ends.Refused = Goes k a b × (b.held ≡ []) × (b.refused ≡ true) × IsAtEnd b.left
 Ends k a b ends.StreamFault = EndsInRest k a b

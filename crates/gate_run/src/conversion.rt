@@ -2,8 +2,8 @@
 ghost use Rattle.std.specs.Prelude.{◌≤◌};
 ghost use Rattle.gate_run.specs.Outcome.{Converted, streams};
 
-use crate::command::Conversion;
 use crate::status::{Status, end_with};
+use crate::task::Task;
 use crate::work::{End, Work};
 use gate_io::{Sink, Source};
 use std::alloc::Global;
@@ -11,26 +11,26 @@ use std::alloc::Global;
 /// Converts the frames of the input to the output, and reports each that isn't converted.
 pub fn convert<I: Source, O: Sink, E: Sink>(
     alloc: Global,
-    conversion: Conversion,
+    task: &Task<'_>,
     input: &mut I,
     output: &mut O,
     report: &mut E,
 ) -> Status
-    requires { conversion.limit ≤ 16384000 }
-    ensures converted { Converted conversion
+    requires { task.now.limit ≤ 16384000 }
+    ensures converted { Converted task.now
         (streams (I.left input.old) (O.written output.old) (E.written report.old) (I.faults input.old) (O.faults output.old) (E.faults report.old))
         (streams (I.left input.new) (O.written output.new) (E.written report.new) (I.faults input.new) (O.faults output.new) (E.faults report.new)) result.code }
     ensures input_later { I.faults input.old ≤ I.faults input.new }
     ensures output_later { O.faults output.old ≤ O.faults output.new }
     ensures report_later { E.faults report.old ≤ E.faults report.new }
 {
-    let Ok(mut room) = vec![in alloc; 0; conversion.limit] else {
+    let Ok(mut room) = vec![in alloc; 0; task.limit()] else {
         return end_with(report, b"no memory\n", 9);
     };
-    let Ok(mut work) = Work::open(alloc, conversion) else {
+    let Ok(mut work) = Work::open(alloc, task) else {
         return end_with(report, b"no memory\n", 9);
     };
-    match work.convert(conversion, &mut room, input, output, report) {
+    match work.convert(task, &mut room, input, output, report) {
         End::Done => Status { code: 0 },
         End::Refused => Status { code: 1 },
         End::StreamFault => Status { code: 3 },

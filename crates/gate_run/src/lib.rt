@@ -3,14 +3,17 @@
 //! at each status.
 #![tactic(auto)]
 
-mod command;
+mod checking;
 mod conversion;
 mod handling;
+mod judging;
 mod laws;
 mod lines;
-mod number;
 mod running;
+mod serving;
+mod starting;
 mod status;
+mod task;
 mod work;
 mod writing;
 

@@ -8,8 +8,8 @@ use itoa::{Buffer, Integer};
 /// The room for each line.
 pub const LINE_ROOM: usize = 128;
 
-// Appends a number in digits.
-fn push_number<I: Integer>(line: &mut Out, number: I)
+/// Appends a number in digits.
+pub fn push_number<I: Integer>(line: &mut Out, number: I)
     requires { length line.old.bytes + 40 ≤ line.old.room }
     ensures text { line.new ≡ record line.old { bytes = line.old.bytes ++ I.text number } }
     ensures short { length line.new.bytes ≤ length line.old.bytes + 40 }

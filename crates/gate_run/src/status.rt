@@ -3,8 +3,9 @@ ghost use Rattle.std.specs.Prelude.{◌≡◌, ◌⊎◌, ◌≤◌};
 ghost use Rattle.std.specs.Io.KnownBytes.{Appends};
 ghost use Rattle.gate_io.specs.Causes.{Rose};
 ghost use Rattle.gate_run.specs.Fronts.{AppendsFront};
+ghost use Rattle.gate_run.specs.Lines.{usage_text};
 
-use crate::writing::write_all;
+use crate::writing::{Wrote, write_all};
 use gate_io::Sink;
 
 /// How a command ended, as the exit code of the program: 0 done, 1 refused, 2 usage, 3 stream fault,
@@ -23,4 +24,30 @@ pub fn end_with<E: Sink>(report: &mut E, line: &[u8], code: u8) -> Status
 {
     let _ = write_all(report, line);
     Status { code }
+}
+
+/// Writes a line, and gives this status, or that of a write fault where it wasn't written.
+pub fn say<S: Sink>(sink: &mut S, line: &[u8], code: u8) -> Status
+    ensures front { AppendsFront (S.written sink.old) (S.written sink.new) line.now }
+    ensures ends { ((result.code ≡ code) × Appends (S.written sink.old) (S.written sink.new) line.now) ⊎ ((result.code ≡ 5) × Rose (S.faults sink.old) (S.faults sink.new)) }
+    ensures later { S.faults sink.old ≤ S.faults sink.new }
+{
+    match write_all(sink, line) {
+        Wrote::All => Status { code },
+        Wrote::Failed => Status { code: 5 },
+    }
+}
+
+/// Reports that the words are no command.
+#[tactic(auto, unfolding(crate::specs::Lines::usage_text))]
+pub fn usage<E: Sink>(report: &mut E) -> Status
+    ensures front { AppendsFront (E.written report.old) (E.written report.new) usage_text }
+    ensures ends { ((result.code ≡ 2) × Appends (E.written report.old) (E.written report.new) usage_text) ⊎ ((result.code ≡ 5) × Rose (E.faults report.old) (E.faults report.new)) }
+    ensures later { E.faults report.old ≤ E.faults report.new }
+{
+    say(
+        report,
+        b"usage: thrift_gate check|convert|show|serve|drill|help\n",
+        2,
+    )
 }

@@ -7,9 +7,9 @@ ghost use Rattle.gate_run.specs.Fronts.{AppendsFront, Flushed};
 ghost use Rattle.gate_run.specs.Progress.{Goes};
 ghost use Rattle.gate_run.specs.Working.{IsReady, IsFlushed, IsStart, IsWaiting, moment, Handles, Drains, Takes, Ends};
 
-use crate::command::Conversion;
 use crate::handling::handle;
 use crate::lines::{self, LINE_ROOM};
+use crate::task::Task;
 use crate::writing::{Wrote, flush, write_all};
 use framed_transport::{FrameBuf, Next};
 use gate_io::{Got, Out, OutOfMemory, Sink, Source};
@@ -70,14 +70,14 @@ impl Work {
     /// Takes all the memory of the work but the readers' room, below 25 times the limit and 5,000 bytes.
     ///
     /// `OutOfMemory`: it was not found.
-    pub fn open(alloc: Global, conversion: Conversion) -> Result<Work, OutOfMemory>
-        requires { conversion.limit ≤ 16384000 }
-        ensures ready { IfOk result (λ work. IsReady conversion work) }
+    pub fn open(alloc: Global, task: &Task<'_>) -> Result<Work, OutOfMemory>
+        requires { task.now.limit ≤ 16384000 }
+        ensures ready { IfOk result (λ work. IsReady task.now work) }
         ensures start { IfOk result (λ work. IsStart work) }
     {
         Ok(Work {
-            frames: FrameBuf::open(alloc, conversion.limit)?,
-            out: Out::open(alloc, 24 * conversion.limit + 260)?,
+            frames: FrameBuf::open(alloc, task.limit())?,
+            out: Out::open(alloc, 24 * task.limit() + 260)?,
             lines: Out::open(alloc, LINES_ROOM)?,
             taken: 0,
             number: 0,
@@ -88,18 +88,18 @@ impl Work {
     /// Reads to the end or to a fault, and handles each frame. `room` is the readers'.
     pub fn convert<I: Source, O: Sink, E: Sink>(
         &mut self,
-        conversion: Conversion,
+        task: &Task<'_>,
         room: &mut [u8],
         input: &mut I,
         output: &mut O,
         report: &mut E,
     ) -> End
-        requires limit { conversion.limit ≤ 16384000 }
-        requires room { conversion.limit ≤ length room.old }
-        requires ready { IsReady conversion self.old }
+        requires limit { task.now.limit ≤ 16384000 }
+        requires room { task.now.limit ≤ length room.old }
+        requires ready { IsReady task.now self.old }
         requires flushed { IsFlushed self.old }
-        requires waiting { IsWaiting conversion self.old.frames.held }
-        ensures ended { Ends conversion
+        requires waiting { IsWaiting task.now self.old.frames.held }
+        ensures ended { Ends task.now
             (moment self.old (I.left input.old) (O.written output.old) (E.written report.old))
             (moment self.new (I.left input.new) (O.written output.new) (E.written report.new)) result }
         ensures input_later { I.faults input.old ≤ I.faults input.new }
@@ -109,12 +109,12 @@ impl Work {
         ensures write_fault { result ≡ End.WriteFault → Rose (O.faults output.old) (O.faults output.new) ⊎ Rose (E.faults report.old) (E.faults report.new) }
     {
         'pieces: while self.taken < MOST_BYTES {
-            match self.take(conversion, input) {
+            match self.take(task, input) {
                 Taken::Failed => return End::ReadFault,
-                Taken::End => return self.finish(conversion, report),
-                Taken::More => match self.drain(conversion, room, output, report) {
+                Taken::End => return self.finish(task, report),
+                Taken::More => match self.drain(task, room, output, report) {
                     Drained::NeedMore => (),
-                    Drained::TooLarge(length) => return self.too_large(conversion, length, report),
+                    Drained::TooLarge(length) => return self.too_large(task, length, report),
                     Drained::WriteFault => return End::WriteFault,
                 },
             }
@@ -123,14 +123,14 @@ impl Work {
     }
 
     // Reads once, and holds what came.
-    fn take<I: Source>(&mut self, conversion: Conversion, input: &mut I) -> Taken
-        requires ready { IsReady conversion self.old }
-        requires waiting { IsWaiting conversion self.old.frames.held }
+    fn take<I: Source>(&mut self, task: &Task<'_>, input: &mut I) -> Taken
+        requires ready { IsReady task.now self.old }
+        requires waiting { IsWaiting task.now self.old.frames.held }
         requires budget { self.old.taken < MOST_BYTES }
-        ensures ready { IsReady conversion self.new }
+        ensures ready { IsReady task.now self.new }
         ensures out { self.new.out ≡ self.old.out }
         ensures lines { self.new.lines ≡ self.old.lines }
-        ensures taken { (written reported : Option (List ℕ)) → Takes conversion
+        ensures taken { (written reported : Option (List ℕ)) → Takes task.now
             (moment self.old (I.left input.old) written reported)
             (moment self.new (I.left input.new) written reported) result }
         ensures later { I.faults input.old ≤ I.faults input.new }
@@ -150,25 +150,25 @@ impl Work {
     // Handles each whole frame that is held, and writes what was gathered of them.
     fn drain<O: Sink, E: Sink>(
         &mut self,
-        conversion: Conversion,
+        task: &Task<'_>,
         room: &mut [u8],
         output: &mut O,
         report: &mut E,
     ) -> Drained
-        requires limit { conversion.limit ≤ 16384000 }
-        requires room { conversion.limit ≤ length room.old }
-        requires ready { IsReady conversion self.old }
+        requires limit { task.now.limit ≤ 16384000 }
+        requires room { task.now.limit ≤ length room.old }
+        requires ready { IsReady task.now self.old }
         requires flushed { IsFlushed self.old }
-        ensures ready { IsReady conversion self.new }
+        ensures ready { IsReady task.now self.new }
         ensures flushed { (result ≡ Drained.WriteFault → ⊥) → IsFlushed self.new }
-        ensures drained { (left : Option (List ℕ)) → Drains conversion
+        ensures drained { (left : Option (List ℕ)) → Drains task.now
             (moment self.old left (O.written output.old) (E.written report.old))
             (moment self.new left (O.written output.new) (E.written report.new)) result }
         ensures later { O.faults output.old ≤ O.faults output.new }
         ensures report_later { E.faults report.old ≤ E.faults report.new }
         ensures cause { result ≡ Drained.WriteFault → Rose (O.faults output.old) (O.faults output.new) ⊎ Rose (E.faults report.old) (E.faults report.new) }
     {
-        let drained = self.handle_frames(conversion, room, output, report);
+        let drained = self.handle_frames(task, room, output, report);
         if let Drained::WriteFault = drained {
             return Drained::WriteFault;
         }
@@ -181,17 +181,17 @@ impl Work {
     // Handles each whole frame that is held. What there is room for is gathered.
     fn handle_frames<O: Sink, E: Sink>(
         &mut self,
-        conversion: Conversion,
+        task: &Task<'_>,
         room: &mut [u8],
         output: &mut O,
         report: &mut E,
     ) -> Drained
-        requires limit { conversion.limit ≤ 16384000 }
-        requires room { conversion.limit ≤ length room.old }
-        requires ready { IsReady conversion self.old }
+        requires limit { task.now.limit ≤ 16384000 }
+        requires room { task.now.limit ≤ length room.old }
+        requires ready { IsReady task.now self.old }
         requires flushed { IsFlushed self.old }
-        ensures ready { IsReady conversion self.new }
-        ensures handled { (left : Option (List ℕ)) → Handles conversion
+        ensures ready { IsReady task.now self.new }
+        ensures handled { (left : Option (List ℕ)) → Handles task.now
             (moment self.old left (O.written output.old) (E.written report.old))
             (moment self.new left (O.written output.new) (E.written report.new)) self.new.out.bytes self.new.lines.bytes result }
         ensures later { O.faults output.old ≤ O.faults output.new }
@@ -210,14 +210,7 @@ impl Work {
                 Wrote::Failed => return Drained::WriteFault,
             }
             let number = self.number + 1;
-            let passed = handle(
-                conversion,
-                frame,
-                number,
-                room,
-                &mut self.out,
-                &mut self.lines,
-            );
+            let passed = handle(task, frame, number, room, &mut self.out, &mut self.lines);
             self.number = number;
             self.refused |= !passed;
             self.frames.drop_frame();
@@ -225,10 +218,10 @@ impl Work {
     }
 
     // Ends the work at the end of the input.
-    fn finish<E: Sink>(&mut self, conversion: Conversion, report: &mut E) -> End
-        requires ready { IsReady conversion self.old }
-        requires waiting { IsWaiting conversion self.old.frames.held }
-        ensures ended { (left written : Option (List ℕ)) → IsAtEnd left → Ends conversion
+    fn finish<E: Sink>(&mut self, task: &Task<'_>, report: &mut E) -> End
+        requires ready { IsReady task.now self.old }
+        requires waiting { IsWaiting task.now self.old.frames.held }
+        ensures ended { (left written : Option (List ℕ)) → IsAtEnd left → Ends task.now
             (moment self.old left written (E.written report.old))
             (moment self.new left written (E.written report.new)) result }
         ensures later { E.faults report.old ≤ E.faults report.new }
@@ -251,10 +244,10 @@ impl Work {
     }
 
     // Ends the work at a length that is too large.
-    fn too_large<E: Sink>(&mut self, conversion: Conversion, length: i32, report: &mut E) -> End
-        requires ready { IsReady conversion self.old }
-        requires large { front conversion.limit self.old.frames.held ≡ Large length }
-        ensures ended { (left written : Option (List ℕ)) → Ends conversion
+    fn too_large<E: Sink>(&mut self, task: &Task<'_>, length: i32, report: &mut E) -> End
+        requires ready { IsReady task.now self.old }
+        requires large { front task.now.limit self.old.frames.held ≡ Large length }
+        ensures ended { (left written : Option (List ℕ)) → Ends task.now
             (moment self.old left written (E.written report.old))
             (moment self.new left written (E.written report.new)) result }
         ensures later { E.faults report.old ≤ E.faults report.new }

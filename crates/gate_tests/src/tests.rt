@@ -1,6 +1,8 @@
-//! The command `convert` on its smallest input and on streams that fail, and a body there and back.
-use gate_io::{Fails, HubSteps, MemFiles, MemHub, MemSink, MemSource, OutOfMemory, Word};
-use gate_run::run;
+//! The commands `check` and `convert` on small inputs and on an outside that fails, and a body there and back.
+ghost use Rattle.std.specs.Prelude.{◌≤◌, length};
+
+use crate::outside::{Outside, Ran, first, run_line, with_input};
+use gate_io::{MemFiles, OutOfMemory};
 use std::alloc::Global;
 use std::test::*;
 use thrift_value::{Event, GatherFault, Kind, events_of, gather};
@@ -11,61 +13,39 @@ const CALL: [u8; 21] = *b"\0\0\0\x11\x80\x01\0\x01\0\0\0\x04ping\0\0\0\x01\0";
 /// The same in Compact.
 const COMPACT: [u8; 13] = *b"\0\0\0\x09\x82\x21\x01\x04ping\0";
 
-/// What a command left behind.
-#[derive(Drop)]
-struct Ran {
-    code: u8,
-    output: MemSink,
-    report: MemSink,
-}
-
-fn none(alloc: Global) -> Fails {
-    Fails::new(alloc)
-}
-
-fn first(alloc: Global) -> Result<Fails, OutOfMemory> {
-    let mut fails = Fails::new(alloc);
-    fails.push(0)?;
-    Ok(fails)
-}
+/// A call `ping` with the bytes `AB` in field 1, framed.
+const BYTES: [u8; 30] =
+    *b"\0\0\0\x1a\x80\x01\0\x01\0\0\0\x04ping\0\0\0\x01\x0b\0\x01\0\0\0\x02AB\0";
 
 /// Runs `convert binary compact` on the call.
-fn converted(alloc: Global, reads: Fails, writes: Fails) -> Result<Ran, OutOfMemory> {
-    let mut words = Vec::new(alloc);
-    for word in [
-        b"convert".as_slice(),
-        b"binary".as_slice(),
-        b"compact".as_slice(),
-    ] {
-        words.push(Word::new(alloc, word)?)?;
+fn converted(alloc: Global, failing_read: bool, failing_write: bool) -> Result<Ran, OutOfMemory> {
+    let mut outside = with_input(alloc, &CALL)?;
+    if failing_read {
+        outside.reads = first(alloc)?;
     }
-    let mut files = MemFiles::new(alloc, none(alloc))?;
-    let mut hub = MemHub::new(alloc, HubSteps::new(alloc), 1)?;
-    let mut input = MemSource::new(alloc, &CALL, 7, reads)?;
-    let mut output = MemSink::new(alloc, 5, writes)?;
-    let mut report = MemSink::new(alloc, 100, none(alloc))?;
-    let status = run(
-        alloc,
-        &words,
-        &mut files,
-        &mut input,
-        &mut output,
-        &mut report,
-        &mut hub,
-    );
-    Ok(Ran {
-        code: status.code,
-        output,
-        report,
-    })
+    if failing_write {
+        outside.writes = first(alloc)?;
+    }
+    run_line(alloc, b"convert binary compact", outside)
+}
+
+/// Runs a command where `a.thrift` holds this text.
+fn with_idl<'i>(
+    alloc: Global,
+    line: &[u8],
+    text: &[u8],
+    input: &'i [u8],
+) -> Result<Ran, OutOfMemory>
+    requires { length text.now ≤ 16777216 }
+{
+    let mut outside: Outside<'i> = with_input(alloc, input)?;
+    outside.files.put(b"a.thrift", text)?;
+    run_line(alloc, line, outside)
 }
 
 #[test]
 fn the_smallest_call_is_converted(rt: HostRuntime) -> Result<(), Fail> {
-    let alloc = rt.alloc();
-    let ran = converted(alloc, none(alloc), none(alloc))
-        .ok()
-        .ok_or("memory")?;
+    let ran = converted(rt.alloc(), false, false).ok().ok_or("memory")?;
     assert_eq!(rt; ran.code, 0);
     assert_eq!(rt; ran.output.bytes(), COMPACT.as_slice());
     assert_eq!(rt; ran.report.bytes(), b"".as_slice());
@@ -74,9 +54,7 @@ fn the_smallest_call_is_converted(rt: HostRuntime) -> Result<(), Fail> {
 
 #[test]
 fn a_failed_read_is_told(rt: HostRuntime) -> Result<(), Fail> {
-    let alloc = rt.alloc();
-    let fails = first(alloc).ok().ok_or("memory")?;
-    let ran = converted(alloc, fails, none(alloc)).ok().ok_or("memory")?;
+    let ran = converted(rt.alloc(), true, false).ok().ok_or("memory")?;
     assert_eq!(rt; ran.code, 4);
     assert_eq!(rt; ran.output.bytes(), b"".as_slice());
     assert_eq!(rt; ran.report.bytes(), b"read fault\n".as_slice());
@@ -85,12 +63,57 @@ fn a_failed_read_is_told(rt: HostRuntime) -> Result<(), Fail> {
 
 #[test]
 fn a_failed_write_ends_the_run(rt: HostRuntime) -> Result<(), Fail> {
-    let alloc = rt.alloc();
-    let fails = first(alloc).ok().ok_or("memory")?;
-    let ran = converted(alloc, none(alloc), fails).ok().ok_or("memory")?;
+    let ran = converted(rt.alloc(), false, true).ok().ok_or("memory")?;
     assert_eq!(rt; ran.code, 5);
     assert_eq!(rt; ran.output.bytes(), b"".as_slice());
     assert_eq!(rt; ran.output.refused(), 0);
+    assert_eq!(rt; ran.report.bytes(), b"".as_slice());
+    Ok(())
+}
+
+/// Runs `check a.thrift` over files whose first fetch fails.
+fn unfetched(alloc: Global) -> Result<Ran, OutOfMemory> {
+    let mut outside = with_input(alloc, b"")?;
+    outside.files = MemFiles::new(alloc, first(alloc)?)?;
+    run_line(alloc, b"check a.thrift", outside)
+}
+
+#[test]
+fn a_failed_fetch_is_told(rt: HostRuntime) -> Result<(), Fail> {
+    let ran = unfetched(rt.alloc()).ok().ok_or("memory")?;
+    assert_eq!(rt; ran.code, 6);
+    assert_eq!(rt; ran.output.bytes(), b"".as_slice());
+    assert_eq!(rt; ran.report.bytes(), b"file fault\n".as_slice());
+    Ok(())
+}
+
+#[test]
+fn a_refused_idl_is_told(rt: HostRuntime) -> Result<(), Fail> {
+    let text = b"struct S { 1: i32 a, 1: i32 b }";
+    let ran = with_idl(rt.alloc(), b"check a.thrift", text, b"")
+        .ok()
+        .ok_or("memory")?;
+    assert_eq!(rt; ran.code, 1);
+    assert_eq!(rt; ran.output.bytes(), b"".as_slice());
+    assert_eq!(rt;
+        ran.report.bytes(),
+        b"a.thrift:21: I12 duplicate field id\n".as_slice()
+    );
+    Ok(())
+}
+
+#[test]
+fn bytes_go_to_json_as_they_are_declared(rt: HostRuntime) -> Result<(), Fail> {
+    let text = b"service S { void ping(1: binary b) }";
+    let line = b"convert binary json --idl a.thrift";
+    let ran = with_idl(rt.alloc(), line, text, &BYTES)
+        .ok()
+        .ok_or("memory")?;
+    assert_eq!(rt; ran.code, 0);
+    assert_eq!(rt;
+        ran.output.bytes(),
+        b"\0\0\0\x22[1,\"ping\",1,1,{\"1\":{\"str\":\"QUI\"}}]".as_slice()
+    );
     assert_eq!(rt; ran.report.bytes(), b"".as_slice());
     Ok(())
 }

@@ -2,8 +2,9 @@
 //! that `run` answers.
 #![tactic(auto)]
 
-use gate_io::{Fails, HubSteps, MemFiles, MemHub, OutOfMemory, Sink, StdSink, StdSource, Word};
+use gate_io::{DiskFiles, OutOfMemory, Sink, StdSink, StdSource, Word};
 use gate_run::run;
+use mio_edge::MioHub;
 use std::alloc::Global;
 use std::env::Env;
 use std::process::ExitCode;
@@ -24,12 +25,12 @@ fn main(rt: HostRuntime) -> ExitCode {
     }
 }
 
-// Runs the command. So far none reads a file or serves, so the files and the hub are empty.
+// Runs the command over the files of the disk and the real sockets.
 fn run_words(rt: &HostRuntime) -> Result<u8, OutOfMemory> {
     let alloc = rt.alloc();
     let words = read_words(rt, alloc)?;
-    let mut files = MemFiles::new(alloc, Fails::new(alloc))?;
-    let mut hub = MemHub::new(alloc, HubSteps::new(alloc), 1)?;
+    let mut files = DiskFiles::new(rt);
+    let mut hub = MioHub::new(rt);
     let mut input = StdSource::new(rt.stdin());
     let mut output = StdSink::new(rt.stdout());
     let mut report = StdSink::new(rt.stderr());

@@ -5,26 +5,26 @@ use Rattle.gate_run.proofs.Outcome.{nothing_waits, converts_all, converts_rest, 
 use Rattle.gate_run.proofs.conversion.convert.Goals as goal
 
 pub convert-requires-clause-waiting : goal.convert-requires-clause-waiting
-convert-requires-clause-waiting g c = nothing_waits c.args.conversion c.in-Ok-open.work.frames.held c.in-Ok-open.ensures.start.held
+convert-requires-clause-waiting g c = nothing_waits c.args.task.now c.in-Ok-open.work.frames.held c.in-Ok-open.ensures.start.held
 
 pub returns-in_default-clause-converted : goal.returns-in_default-clause-converted
 returns-in_default-clause-converted g c =
-    at_memory c.args.conversion _ _ _ c.end_with.ensures.code
-    (stops_at_once c.args.conversion (g.I.Source.left c.args.input.now) (g.O.Sink.written c.args.output.now) (g.E.Sink.written c.args.report.now) (g.E.Sink.written c.end_with.new.report)
+    at_memory c.args.task.now _ _ _ c.end_with.ensures.code
+    (stops_at_once c.args.task.now (g.I.Source.left c.args.input.now) (g.O.Sink.written c.args.output.now) (g.E.Sink.written c.args.report.now) (g.E.Sink.written c.end_with.new.report)
     (g.I.Source.faults c.args.input.now) (g.O.Sink.faults c.args.output.now) (g.E.Sink.faults c.args.report.now) (g.E.Sink.faults c.end_with.new.report) _ c.end_with.ensures.front c.end_with.ensures.whole)
 
 pub returns-in_default-open-clause-converted : goal.returns-in_default-open-clause-converted
 returns-in_default-open-clause-converted g c =
     let e = c.end_with-in_default-open in
-    at_memory c.args.conversion _ _ _ e.ensures.code
-    (stops_at_once c.args.conversion (g.I.Source.left c.args.input.now) (g.O.Sink.written c.args.output.now) (g.E.Sink.written c.args.report.now) (g.E.Sink.written c.end_with-in_default-open.new.report)
+    at_memory c.args.task.now _ _ _ e.ensures.code
+    (stops_at_once c.args.task.now (g.I.Source.left c.args.input.now) (g.O.Sink.written c.args.output.now) (g.E.Sink.written c.args.report.now) (g.E.Sink.written c.end_with-in_default-open.new.report)
     (g.I.Source.faults c.args.input.now) (g.O.Sink.faults c.args.output.now) (g.E.Sink.faults c.args.report.now) (g.E.Sink.faults c.end_with-in_default-open.new.report) _ e.ensures.front e.ensures.whole)
 
 pub returns-in-Done-clause-converted : goal.returns-in-Done-clause-converted
 returns-in-Done-clause-converted g c =
     let start = c.in-Ok-open.ensures.start in
     let ended = c.in-Done.ensures.ended in
-    at_done c.args.conversion _ _ (converts_all c.args.conversion
+    at_done c.args.task.now _ _ (converts_all c.args.task.now
     (moment c.in-Ok-open.work (g.I.Source.left c.args.input.now) (g.O.Sink.written c.args.output.now) (g.E.Sink.written c.args.report.now))
     (moment c.convert.new.self (g.I.Source.left c.convert.new.input) (g.O.Sink.written c.convert.new.output) (g.E.Sink.written c.convert.new.report))
     _ _ _ _ _ _ _ start.held start.number start.refused ended.0 ended.1 ended.2 ended.3)
@@ -33,7 +33,7 @@ pub returns-in-Refused-clause-converted : goal.returns-in-Refused-clause-convert
 returns-in-Refused-clause-converted g c =
     let start = c.in-Ok-open.ensures.start in
     let ended = c.in-Refused.ensures.ended in
-    at_refused c.args.conversion _ _ (converts_all c.args.conversion
+    at_refused c.args.task.now _ _ (converts_all c.args.task.now
     (moment c.in-Ok-open.work (g.I.Source.left c.args.input.now) (g.O.Sink.written c.args.output.now) (g.E.Sink.written c.args.report.now))
     (moment c.convert.new.self (g.I.Source.left c.convert.new.input) (g.O.Sink.written c.convert.new.output) (g.E.Sink.written c.convert.new.report))
     _ _ _ _ _ _ _ start.held start.number start.refused ended.0 ended.1 ended.2 ended.3)
@@ -41,7 +41,7 @@ returns-in-Refused-clause-converted g c =
 pub returns-in-StreamFault-clause-converted : goal.returns-in-StreamFault-clause-converted
 returns-in-StreamFault-clause-converted g c =
     let start = c.in-Ok-open.ensures.start in
-    at_stream_fault c.args.conversion _ _ (converts_rest c.args.conversion
+    at_stream_fault c.args.task.now _ _ (converts_rest c.args.task.now
     (moment c.in-Ok-open.work (g.I.Source.left c.args.input.now) (g.O.Sink.written c.args.output.now) (g.E.Sink.written c.args.report.now))
     (moment c.convert.new.self (g.I.Source.left c.convert.new.input) (g.O.Sink.written c.convert.new.output) (g.E.Sink.written c.convert.new.report))
     _ _ _ _ _ _ start.held start.number c.in-StreamFault.ensures.ended)
@@ -49,7 +49,7 @@ returns-in-StreamFault-clause-converted g c =
 pub returns-in-WriteFault-clause-converted : goal.returns-in-WriteFault-clause-converted
 returns-in-WriteFault-clause-converted g c =
     let start = c.in-Ok-open.ensures.start in
-    at_write_fault c.args.conversion _ _ (c.in-WriteFault.ensures.write_fault refl) (breaks_off c.args.conversion
+    at_write_fault c.args.task.now _ _ (c.in-WriteFault.ensures.write_fault refl) (breaks_off c.args.task.now
     (moment c.in-Ok-open.work (g.I.Source.left c.args.input.now) (g.O.Sink.written c.args.output.now) (g.E.Sink.written c.args.report.now))
     (moment c.convert.new.self (g.I.Source.left c.convert.new.input) (g.O.Sink.written c.convert.new.output) (g.E.Sink.written c.convert.new.report))
     0 0 0 0 0 0 start.held start.number c.in-WriteFault.ensures.ended)
@@ -59,8 +59,8 @@ returns-in-ReadFault-clause-converted g c =
     let start = c.in-Ok-open.ensures.start in
     let ended = c.in-ReadFault.ensures.ended in
     let e = c.end_with-in-ReadFault in
-    at_read_fault c.args.conversion _ _ _ e.ensures.code (c.in-ReadFault.ensures.read_fault refl)
-    (stops_with c.args.conversion
+    at_read_fault c.args.task.now _ _ _ e.ensures.code (c.in-ReadFault.ensures.read_fault refl)
+    (stops_with c.args.task.now
     (moment c.in-Ok-open.work (g.I.Source.left c.args.input.now) (g.O.Sink.written c.args.output.now) (g.E.Sink.written c.args.report.now))
     (moment c.convert.new.self (g.I.Source.left c.convert.new.input) (g.O.Sink.written c.convert.new.output) (g.E.Sink.written c.convert.new.report))
     (g.I.Source.faults c.args.input.now) (g.O.Sink.faults c.args.output.now) (g.E.Sink.faults c.args.report.now)
@@ -72,8 +72,8 @@ returns-clause-converted g c =
     let start = c.in-Ok-open.ensures.start in
     let ended = c.in-BudgetSpent.ensures.ended in
     let e = c.end_with-in-BudgetSpent in
-    at_budget c.args.conversion _ _ _ e.ensures.code
-    (stops_with c.args.conversion
+    at_budget c.args.task.now _ _ _ e.ensures.code
+    (stops_with c.args.task.now
     (moment c.in-Ok-open.work (g.I.Source.left c.args.input.now) (g.O.Sink.written c.args.output.now) (g.E.Sink.written c.args.report.now))
     (moment c.convert.new.self (g.I.Source.left c.convert.new.input) (g.O.Sink.written c.convert.new.output) (g.E.Sink.written c.convert.new.report))
     (g.I.Source.faults c.args.input.now) (g.O.Sink.faults c.args.output.now) (g.E.Sink.faults c.args.report.now)

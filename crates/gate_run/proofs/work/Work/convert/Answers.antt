@@ -28,8 +28,8 @@ returns-in-End-clause-ended g c =
     let took = c.in-End.ensures.taken (g.O.Sink.written c.pieces.output) (g.E.Sink.written c.pieces.report) in
     let mid = moment c.take.new.self (g.I.Source.left c.take.new.input) (g.O.Sink.written c.pieces.output) (g.E.Sink.written c.pieces.report) in
     let last = moment c.finish.new.self (g.I.Source.left c.take.new.input) (g.O.Sink.written c.pieces.output) (g.E.Sink.written c.finish.new.report) in
-    ends_on c.args.conversion _ mid last c.finish.result
-    (goes_on c.args.conversion _ _ _ c.pieces.invariant.goes took.0)
+    ends_on c.args.task.now _ mid last c.finish.result
+    (goes_on c.args.task.now _ _ _ c.pieces.invariant.goes took.0)
     (c.finish.ensures.ended (g.I.Source.left c.take.new.input) (g.O.Sink.written c.pieces.output) took.2)
 
 pub pieces-smaller : goal.pieces-smaller
@@ -46,7 +46,7 @@ pieces-preserved g c =
     record {
       ready = c.drain.ensures.ready;
       flushed = c.drain.ensures.flushed (λ e. in_need_more c.drain.result c.in-NeedMore.is e);
-      goes = goes_on c.args.conversion _ _ _ i.goes (goes_on c.args.conversion _ _ _ took.0 went.0);
+      goes = goes_on c.args.task.now _ _ _ i.goes (goes_on c.args.task.now _ _ _ took.0 went.0);
       waiting = went.1;
       input_later = omega (arith, i.input_later, c.take.ensures.later);
       later = omega (arith, i.later, c.drain.ensures.later);
@@ -65,8 +65,8 @@ returns-in-TooLarge-clause-ended g c =
     let went = c.in-TooLarge.ensures.drained (g.I.Source.left c.take.new.input) in
     let mid = moment c.drain.new.self (g.I.Source.left c.take.new.input) (g.O.Sink.written c.drain.new.output) (g.E.Sink.written c.drain.new.report) in
     let last = moment c.too_large.new.self (g.I.Source.left c.take.new.input) (g.O.Sink.written c.drain.new.output) (g.E.Sink.written c.too_large.new.report) in
-    ends_on c.args.conversion _ mid last c.too_large.result
-    (goes_on c.args.conversion _ _ _ c.pieces.invariant.goes (goes_on c.args.conversion _ _ _ took.0 went.0))
+    ends_on c.args.task.now _ mid last c.too_large.result
+    (goes_on c.args.task.now _ _ _ c.pieces.invariant.goes (goes_on c.args.task.now _ _ _ took.0 went.0))
     (c.too_large.ensures.ended (g.I.Source.left c.take.new.input) (g.O.Sink.written c.drain.new.output))
 
 pub returns-in-WriteFault-clause-ended : goal.returns-in-WriteFault-clause-ended
@@ -74,6 +74,6 @@ returns-in-WriteFault-clause-ended g c =
     let took = c.in-More.ensures.taken (g.O.Sink.written c.pieces.output) (g.E.Sink.written c.pieces.report) in
     let mid = moment c.take.new.self (g.I.Source.left c.take.new.input) (g.O.Sink.written c.pieces.output) (g.E.Sink.written c.pieces.report) in
     let last = moment c.drain.new.self (g.I.Source.left c.take.new.input) (g.O.Sink.written c.drain.new.output) (g.E.Sink.written c.drain.new.report) in
-    goes_and_breaks c.args.conversion _ mid last
-    (goes_on c.args.conversion _ _ _ c.pieces.invariant.goes took.0)
+    goes_and_breaks c.args.task.now _ mid last
+    (goes_on c.args.task.now _ _ _ c.pieces.invariant.goes took.0)
     (c.in-WriteFault.ensures.drained (g.I.Source.left c.take.new.input))

@@ -10,10 +10,10 @@ invariant-pieces g l =
     let output = g.O.Sink in
     let report = g.E.Sink in
     record {
-      ready : IsReady l.conversion l.self;
+      ready : IsReady l.task l.self;
       flushed : IsFlushed l.self;
-      goes : Goes l.conversion (moment l.fn.self (input.left l.fn.input) (output.written l.fn.output) (report.written l.fn.report)) (moment l.self (input.left l.input) (output.written l.output) (report.written l.report));
-      waiting : IsWaiting l.conversion l.self.frames.held;
+      goes : Goes l.task (moment l.fn.self (input.left l.fn.input) (output.written l.fn.output) (report.written l.fn.report)) (moment l.self (input.left l.input) (output.written l.output) (report.written l.report));
+      waiting : IsWaiting l.task l.self.frames.held;
       input_later : input.faults l.fn.input ≤ input.faults l.input;
       later : output.faults l.fn.output ≤ output.faults l.output;
       report_later : report.faults l.fn.report ≤ report.faults l.report;

@@ -16,7 +16,7 @@ returns-in-All g c =
         taken = ready.taken;
       };
       flushed = λ _. record { out = (c.in-All.ensures.all refl).0; lines = (c.in-All.ensures.all refl).1 };
-      drained = λ left. all_drained c.args.conversion _ (moment c.handle_frames-drained.new.self left (g.O.Sink.written c.handle_frames-drained.new.output) (g.E.Sink.written c.handle_frames-drained.new.report)) _ c.handle_frames-drained.new.self.out.bytes c.handle_frames-drained.new.self.lines.bytes c.handle_frames-drained.result c.in_default.not-WriteFault (h.ensures.handled left) refl refl refl refl refl (c.in-All.ensures.out refl) (c.in-All.ensures.lines refl);
+      drained = λ left. all_drained c.args.task.now _ (moment c.handle_frames-drained.new.self left (g.O.Sink.written c.handle_frames-drained.new.output) (g.E.Sink.written c.handle_frames-drained.new.report)) _ c.handle_frames-drained.new.self.out.bytes c.handle_frames-drained.new.self.lines.bytes c.handle_frames-drained.result c.in_default.not-WriteFault (h.ensures.handled left) refl refl refl refl refl (c.in-All.ensures.out refl) (c.in-All.ensures.lines refl);
       later = omega (arith, h.ensures.later, c.flush_both.ensures.later);
       report_later = omega (arith, h.ensures.report_later, c.flush_both.ensures.report_later);
       cause = λ e. absurd (c.in_default.not-WriteFault e);
@@ -25,7 +25,7 @@ returns-in-All g c =
 pub returns-in-Failed-clause-drained : goal.returns-in-Failed-clause-drained
 returns-in-Failed-clause-drained g c = λ left.
     let h = c.handle_frames-drained in
-    drain_broke c.args.conversion _ (moment c.handle_frames-drained.new.self left (g.O.Sink.written c.handle_frames-drained.new.output) (g.E.Sink.written c.handle_frames-drained.new.report)) _ c.handle_frames-drained.new.self.out.bytes c.handle_frames-drained.new.self.lines.bytes c.handle_frames-drained.result c.in_default.not-WriteFault (h.ensures.handled left) refl c.flush_both.ensures.front c.flush_both.ensures.lines_front
+    drain_broke c.args.task.now _ (moment c.handle_frames-drained.new.self left (g.O.Sink.written c.handle_frames-drained.new.output) (g.E.Sink.written c.handle_frames-drained.new.report)) _ c.handle_frames-drained.new.self.out.bytes c.handle_frames-drained.new.self.lines.bytes c.handle_frames-drained.result c.in_default.not-WriteFault (h.ensures.handled left) refl c.flush_both.ensures.front c.flush_both.ensures.lines_front
 
 pub returns-in-Failed-clause-ready : goal.returns-in-Failed-clause-ready
 returns-in-Failed-clause-ready g c =

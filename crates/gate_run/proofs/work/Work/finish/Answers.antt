@@ -8,12 +8,12 @@ pub returns-in-All-clause-ended : goal.returns-in-All-clause-ended
 returns-in-All-clause-ended g c = λ left written at_end.
     let text : c.bytes.result.now ≡ left_text c.args.self.now.number c.held-count.result = c.bytes.ensures.bytes ∙ ap (λ (b : Buffer). b.bytes) c.left.ensures in
     rest_left _ _ _ _ _ (goes_nowhere _ _)
-    (left_line c.args.conversion.limit c.args.self.now.number c.args.self.now.frames.held c.bytes.result.now c.held-count.result c.requires.waiting.part (omega (arith, c.if-count-gt0.true, c.held-count.ensures.count)) c.held-count.ensures.count text)
+    (left_line c.args.task.now.limit c.args.self.now.number c.args.self.now.frames.held c.bytes.result.now c.held-count.result c.requires.waiting.part (omega (arith, c.if-count-gt0.true, c.held-count.ensures.count)) c.held-count.ensures.count text)
     refl (c.in-All.ensures.all refl) refl at_end
 
 pub returns-in-Failed-clause-ended : goal.returns-in-Failed-clause-ended
 returns-in-Failed-clause-ended g c = λ left written at_end.
     let text : c.bytes.result.now ≡ left_text c.args.self.now.number c.held-count.result = c.bytes.ensures.bytes ∙ ap (λ (b : Buffer). b.bytes) c.left.ensures in
     broken_line _ _ _ c.bytes.result.now
-    (left_line c.args.conversion.limit c.args.self.now.number c.args.self.now.frames.held c.bytes.result.now c.held-count.result c.requires.waiting.part (omega (arith, c.if-count-gt0.true, c.held-count.ensures.count)) c.held-count.ensures.count text)
+    (left_line c.args.task.now.limit c.args.self.now.number c.args.self.now.frames.held c.bytes.result.now c.held-count.result c.requires.waiting.part (omega (arith, c.if-count-gt0.true, c.held-count.ensures.count)) c.held-count.ensures.count text)
     refl refl c.in-Failed.ensures.front

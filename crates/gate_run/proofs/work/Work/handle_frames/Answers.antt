@@ -6,12 +6,12 @@ use Rattle.gate_io.specs.Buffer.{Buffer}
 use Rattle.framed_transport.specs.Held.{Held}
 use Rattle.framed_transport.specs.Frames.{IsCut}
 use Rattle.framed_transport.specs.Front.{front, behind, Part, Whole}
-use Rattle.gate_run.specs.declared.command.Conversion.{Conversion}
+use Rattle.gate_run.specs.Terms.{Terms}
 use Rattle.gate_run.specs.Working.{IsWaiting, moment}
 use Rattle.gate_run.proofs.Progress.{waits_nowhere, waits_flushed, waits_broken, waits_one, framed_longer}
 use Rattle.gate_run.proofs.work.Work.handle_frames.Goals as goal
 
-waiting : (k : Conversion) (limit : ℕ) (held : List ℕ) → limit ≡ k.limit → front limit held ≡ Part → (front limit held ≡ Part → length held < limit + 4) → IsWaiting k held
+waiting : (k : Terms) (limit : ℕ) (held : List ℕ) → limit ≡ k.limit → front limit held ≡ Part → (front limit held ≡ Part → length held < limit + 4) → IsWaiting k held
 waiting k limit held e part room = record {
   part = ap (λ n. front n held) (sym e) ∙ part;
   room = (let more : length held < limit + 4 = room part in omega (arith, more, e));
@@ -26,7 +26,7 @@ gone a b frame rest e whole = ap (λ (h : Held). h.held) e ∙ ap (behind a.held
 pub frames-init : goal.frames-init
 frames-init g c = record {
   ready = c.requires.ready;
-  waits = λ left. waits_nowhere c.args.conversion (moment c.args.self.now left (g.O.Sink.written c.args.output.now) (g.E.Sink.written c.args.report.now)) c.args.self.now.out.bytes c.args.self.now.lines.bytes c.requires.flushed.out c.requires.flushed.lines;
+  waits = λ left. waits_nowhere c.args.task.now (moment c.args.self.now left (g.O.Sink.written c.args.output.now) (g.E.Sink.written c.args.report.now)) c.args.self.now.out.bytes c.args.self.now.lines.bytes c.requires.flushed.out c.requires.flushed.lines;
   later = omega arith;
   report_later = omega arith;
 }
@@ -34,7 +34,7 @@ frames-init g c = record {
 pub returns-in-NeedMore-clause-handled : goal.returns-in-NeedMore-clause-handled
 returns-in-NeedMore-clause-handled g c = λ left.
     let i = c.frames.invariant in
-    (i.waits left, waiting c.args.conversion c.frames.self.frames.limit c.frames.self.frames.held i.ready.limit_is c.in-NeedMore.ensures.exact c.in-NeedMore.ensures.room)
+    (i.waits left, waiting c.args.task.now c.frames.self.frames.limit c.frames.self.frames.held i.ready.limit_is c.in-NeedMore.ensures.exact c.in-NeedMore.ensures.room)
 
 pub returns-in-TooLarge-clause-handled : goal.returns-in-TooLarge-clause-handled
 returns-in-TooLarge-clause-handled g c = λ left.
@@ -46,47 +46,47 @@ returns-in-TooLarge-clause-handled g c = λ left.
 pub overflow_mul-wanted : goal.overflow_mul-wanted
 overflow_mul-wanted g c =
     let i = c.frames.invariant in
-    let cut = cut_at c.args.conversion.limit c.frames.self.frames.limit c.frames.self.frames.held c.in-Frame.frame.now c.in-Frame.ensures.exact.0 i.ready.limit_is c.in-Frame.ensures.exact.1 c.in-Frame.ensures.cut in
+    let cut = cut_at c.args.task.now.limit c.frames.self.frames.limit c.frames.self.frames.held c.in-Frame.frame.now c.in-Frame.ensures.exact.0 i.ready.limit_is c.in-Frame.ensures.exact.1 c.in-Frame.ensures.cut in
     omega (arith, cut.within, c.requires.limit)
 
 pub overflow_add-wanted : goal.overflow_add-wanted
 overflow_add-wanted g c =
     let i = c.frames.invariant in
-    let cut = cut_at c.args.conversion.limit c.frames.self.frames.limit c.frames.self.frames.held c.in-Frame.frame.now c.in-Frame.ensures.exact.0 i.ready.limit_is c.in-Frame.ensures.exact.1 c.in-Frame.ensures.cut in
+    let cut = cut_at c.args.task.now.limit c.frames.self.frames.limit c.frames.self.frames.held c.in-Frame.frame.now c.in-Frame.ensures.exact.0 i.ready.limit_is c.in-Frame.ensures.exact.1 c.in-Frame.ensures.cut in
     omega (arith, cut.within, c.requires.limit)
 
 pub make_room-requires-clause-out : goal.make_room-requires-clause-out
 make_room-requires-clause-out g c =
     let i = c.frames.invariant in
-    let cut = cut_at c.args.conversion.limit c.frames.self.frames.limit c.frames.self.frames.held c.in-Frame.frame.now c.in-Frame.ensures.exact.0 i.ready.limit_is c.in-Frame.ensures.exact.1 c.in-Frame.ensures.cut in
+    let cut = cut_at c.args.task.now.limit c.frames.self.frames.limit c.frames.self.frames.held c.in-Frame.frame.now c.in-Frame.ensures.exact.0 i.ready.limit_is c.in-Frame.ensures.exact.1 c.in-Frame.ensures.cut in
     omega (arith, cut.within, i.ready.out)
 
 pub returns-in-Failed-clause-handled : goal.returns-in-Failed-clause-handled
 returns-in-Failed-clause-handled g c = λ left.
     let i = c.frames.invariant in
-    waits_broken c.args.conversion _ _ _ c.frames.self.out.bytes c.frames.self.lines.bytes (i.waits left) refl c.make_room.ensures.front c.make_room.ensures.lines_front
+    waits_broken c.args.task.now _ _ _ c.frames.self.out.bytes c.frames.self.lines.bytes (i.waits left) refl c.make_room.ensures.front c.make_room.ensures.lines_front
 
 pub frames-smaller : goal.frames-smaller
 frames-smaller g c =
     let i = c.frames.invariant in
-    let cut = cut_at c.args.conversion.limit c.frames.self.frames.limit c.frames.self.frames.held c.in-Frame.frame.now c.in-Frame.ensures.exact.0 i.ready.limit_is c.in-Frame.ensures.exact.1 c.in-Frame.ensures.cut in
+    let cut = cut_at c.args.task.now.limit c.frames.self.frames.limit c.frames.self.frames.held c.in-Frame.frame.now c.in-Frame.ensures.exact.0 i.ready.limit_is c.in-Frame.ensures.exact.1 c.in-Frame.ensures.cut in
     let e : c.drop_frame.new.self.held ≡ c.in-Frame.ensures.exact.0 = gone c.frames.self.frames c.drop_frame.new.self c.in-Frame.frame.now c.in-Frame.ensures.exact.0 c.drop_frame.ensures c.in-Frame.ensures.exact.1 in
-    omega (arith, ap length e, framed_longer c.args.conversion.limit c.in-Frame.frame.now c.in-Frame.ensures.exact.0 c.frames.self.frames.held cut)
+    omega (arith, ap length e, framed_longer c.args.task.now.limit c.in-Frame.frame.now c.in-Frame.ensures.exact.0 c.frames.self.frames.held cut)
 
 pub frames-preserved : goal.frames-preserved
 frames-preserved g c =
     let i = c.frames.invariant in
-    let k = c.args.conversion in
+    let k = c.args.task.now in
     let frame = c.in-Frame.frame.now in
     let rest = c.in-Frame.ensures.exact.0 in
-    let cut = cut_at c.args.conversion.limit c.frames.self.frames.limit c.frames.self.frames.held c.in-Frame.frame.now c.in-Frame.ensures.exact.0 i.ready.limit_is c.in-Frame.ensures.exact.1 c.in-Frame.ensures.cut in
+    let cut = cut_at c.args.task.now.limit c.frames.self.frames.limit c.frames.self.frames.held c.in-Frame.frame.now c.in-Frame.ensures.exact.0 i.ready.limit_is c.in-Frame.ensures.exact.1 c.in-Frame.ensures.cut in
     let e : c.drop_frame.new.self.held ≡ c.in-Frame.ensures.exact.0 = gone c.frames.self.frames c.drop_frame.new.self c.in-Frame.frame.now c.in-Frame.ensures.exact.0 c.drop_frame.ensures c.in-Frame.ensures.exact.1 in
     record {
       ready = record {
         limit_is = ap (λ (h : Held). h.limit) c.drop_frame.ensures ∙ i.ready.limit_is;
         out = ap (λ (b : Buffer). b.room) c.handle-passed.ensures.appended ∙ (c.make_room.ensures.room ∙ i.ready.out);
         lines = ap (λ (b : Buffer). b.room) c.handle-passed.ensures.reported ∙ (c.make_room.ensures.lines_room ∙ i.ready.lines);
-        counted = omega (arith, i.ready.counted, ap length e, framed_longer c.args.conversion.limit c.in-Frame.frame.now c.in-Frame.ensures.exact.0 c.frames.self.frames.held cut);
+        counted = omega (arith, i.ready.counted, ap length e, framed_longer c.args.task.now.limit c.in-Frame.frame.now c.in-Frame.ensures.exact.0 c.frames.self.frames.held cut);
         taken = i.ready.taken;
       };
       waits = λ left.

@@ -1,0 +1,31 @@
+-- What the check of an IDL says.
+use Rattle.std.specs.Prelude.{◌≡◌, ◌⊎◌, ℕ, List, Option, Some, Result, Ok, Err, ◌++◌, length, codes, decimal}
+use Rattle.std.specs.Io.KnownBytes.{Appends}
+use Rattle.gate_io.specs.Causes.{Rose}
+use Rattle.type_tables.specs.Declarations.{Declarations}
+use Rattle.type_tables.specs.Structs.{declared_structs}
+use Rattle.gate_run.specs.Fronts.{AppendsFront}
+use Rattle.gate_run.specs.Outcome.{Streams}
+use Rattle.gate_run.specs.Starting.{Holds, IsRead, HasCause, Halts}
+use Rattle.gate_run.specs.declared.starting.NoStart.{NoStart}
+
+-- ok files=N structs=N services=N
+unfoldable pub ok_text : ℕ → ℕ → ℕ → List ℕ
+ok_text files structs services = codes "ok files=" ++ decimal files ++ codes " structs=" ++ decimal structs ++ codes " services=" ++ decimal services ++ codes "\n"
+
+-- the files, the structs, unions and exceptions, and the services that are declared
+abbrev pub declared_text : Declarations → List ℕ
+declared_text d = ok_text d.files (declared_structs d.structs) (length d.services)
+
+-- nothing was read or reported, and this line was written; where the output failed a front of it was, and the code is 5
+pub record Tells (line : List ℕ) (a b : Streams) (code : ℕ) : Type 0 where
+  pub left : b.left ≡ a.left
+  pub reported : b.reported ≡ a.reported
+  pub front : AppendsFront a.written b.written line
+  pub ends : ((code ≡ 0) × Appends a.written b.written line) ⊎ ((code ≡ 5) × Rose a.output_faults b.output_faults)
+
+-- the IDL of this root file is good, and how much it declares was written; or it is refused, or can't be read
+pub data Checks (told : Option Holds) (file : List ℕ) (before now : ℕ) (a b : Streams) (code : ℕ) : Type 0 where
+  Good : (d : Declarations) → ((holds : Holds) → told ≡ Some holds → IsRead holds file (Ok d)) → Tells (declared_text d) a b code → Checks told file before now a b code
+  Bad : (stop : NoStart) → ((holds : Holds) → told ≡ Some holds → IsRead holds file (Err stop)) → HasCause {X = Declarations} (Err stop) before now → Halts stop a b code →
+      Checks told file before now a b code

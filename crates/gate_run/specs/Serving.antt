@@ -1,0 +1,55 @@
+-- What a server does, from its start to its last line.
+use Rattle.std.specs.Prelude.{◌≡◌, ◌⊎◌, ℕ, List, Option, codes}
+use Rattle.std.specs.Io.KnownBytes.{Appends}
+use Rattle.gate_io.specs.Causes.{Rose}
+use Rattle.gate_io.specs.Meaning.{Meaning, Started}
+use Rattle.gate_io.specs.Hubs.{Counts, Leads, NotStarted, StartLeads}
+use Rattle.gate_io.specs.declared.hub.Began.TheVariants as began
+use Rattle.gate_io.specs.declared.hub.Served.{Served}
+use Rattle.gate_io.specs.declared.hub.Served.TheVariants as served
+use Rattle.type_tables.specs.declared.declared.ServiceId.{ServiceId}
+use Rattle.type_tables.specs.Declarations.{Declarations}
+use Rattle.session_judge.specs.Setting.{Setting}
+use Rattle.session_judge.specs.Rules.{rules_of}
+use Rattle.proxy_server.specs.Serving.{Setting as Sessions}
+use Rattle.proxy_server.specs.Steps.{Serves}
+use Rattle.gate_words.specs.declared.serving.Serving.{Serving}
+use Rattle.gate_run.specs.Fronts.{AppendsFront}
+use Rattle.gate_run.specs.Outcome.{Streams}
+use Rattle.gate_run.specs.Starting.{SaysLast}
+
+-- what the hub is started with
+abbrev pub started_by : Serving → Started
+started_by s = record { listen = s.listen; upstream = s.target; accept = s.accept; sessions = s.sessions }
+
+-- between whom the sessions go
+abbrev pub setting_by : Serving → Declarations → Option ServiceId → Setting
+setting_by s d service = record { declarations = d; service = service; client = s.client; upstream = s.upstream; longest = s.limit }
+
+-- the rules, the most bytes of a frame and the most open calls of each session
+abbrev pub settings : Serving → Declarations → Option ServiceId → Sessions
+settings s d service = record { rules = rules_of (setting_by s d service); limit = s.limit; most = s.calls }
+
+-- this last line was reported, or a front of it where the report failed
+pub record Reports (line : List ℕ) (a b : Streams) : Type 0 where
+  pub front : AppendsFront a.reported b.reported line
+  pub whole : Appends a.reported b.reported line ⊎ Rose a.report_faults b.report_faults
+
+-- how the server ended, by its code and its last line
+abbrev pub EndsBy : Served → ℕ → ℕ → Streams → Streams → ℕ → Type 0
+EndsBy served.Stopped before now a b code = (code ≡ 0) × (b.reported ≡ a.reported)
+EndsBy served.HubFault before now a b code = (code ≡ 7) × Rose before now × Reports (codes "hub fault\n") a b
+EndsBy served.WriteFault before now a b code = (code ≡ 5) × (b.reported ≡ a.reported)
+EndsBy served.Budget before now a b code = (code ≡ 8) × Reports (codes "budget spent\n") a b
+EndsBy served.OutOfMemory before now a b code = (code ≡ 9) × Reports (codes "no memory\n") a b
+
+-- the hub was started with what the words say, and from there it and the output are as a server of this setting leaves
+-- them; or it could not be started, and nothing was written
+pub data ServesAll {H : Type 0} (tells : H → Meaning → Type 0) (counts : H → Counts) (s : Serving) (d : Declarations) (service : Option ServiceId) (h h' : H) (a b : Streams) (code : ℕ) : Type 0 where
+  Began : (mid : H) (result : Served) → b.left ≡ a.left → Leads (tells h) (tells mid) NotStarted (StartLeads (started_by s) began.Done)
+      → Serves Setting rules_of (tells mid) (tells h') a.written b.written a.output_faults b.output_faults (settings s d service) result
+      → EndsBy result (counts mid).faults (counts h').faults a b code → ServesAll tells counts s d service h h' a b code
+  NotBegun : Leads (tells h) (tells h') NotStarted (StartLeads (started_by s) began.Failed) → Rose (counts h).faults (counts h').faults → SaysLast (codes "hub fault\n") 7 a b code
+      → ServesAll tells counts s d service h h' a b code
+  NoMemory : Leads (tells h) (tells h') NotStarted (StartLeads (started_by s) began.OutOfMemory) → SaysLast (codes "no memory\n") 9 a b code
+      → ServesAll tells counts s d service h h' a b code

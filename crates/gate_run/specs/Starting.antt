@@ -1,0 +1,105 @@
+-- What a command starts from, and how it ends where it doesn't start.
+use Rattle.std.specs.Prelude.{◌≡◌, ◌⊎◌, ℕ, List, Option, Some, None, Result, Ok, Err, codes, ⊤}
+use Rattle.std.specs.Io.KnownBytes.{Appends}
+use Rattle.gate_io.specs.Causes.{Rose}
+use Rattle.type_tables.specs.declared.declared.ServiceId.{ServiceId}
+use Rattle.type_tables.specs.Declarations.{Declarations}
+use Rattle.type_tables.specs.Known.{built_in}
+use Rattle.type_tables.specs.Names.{value_of}
+use Rattle.type_tables.specs.Roots.{only, rooted}
+use Rattle.gate_words.specs.declared.options.Declared.{Declared}
+use Rattle.gate_idl.specs.Refusals.{refusal_text}
+use Rattle.gate_idl.specs.Opening.{IsOpened}
+use Rattle.gate_run.specs.Fronts.{AppendsFront}
+use Rattle.gate_run.specs.Lines.{usage_text}
+use Rattle.gate_run.specs.Outcome.{Streams}
+use Rattle.gate_run.specs.declared.starting.Start.{Start}
+use Rattle.gate_run.specs.declared.starting.NoStart.{NoStart}
+use Rattle.gate_run.specs.declared.starting.NoStart.TheVariants as stops
+
+-- what the files hold under each name
+abbrev pub Holds : Type 0
+Holds = List ℕ → Option (List ℕ)
+
+-- ---- what a command starts from
+
+-- what this file declares with all that it includes, or why it is refused, a file fault and want of memory aside
+abbrev pub IsRead : Holds → List ℕ → Result Declarations NoStart → Type 0
+IsRead holds name (Ok d) = IsOpened holds name (Ok d)
+IsRead holds name (Err (stops.Refused refusal)) = IsOpened holds name (Err refusal)
+IsRead holds name (Err stops.UnknownService) = ⊥
+IsRead holds name (Err stops.FileFault) = ⊤
+IsRead holds name (Err stops.OutOfMemory) = ⊤
+
+-- nothing but the built-in failure is declared
+abbrev pub IsBuiltIn : Result Declarations NoStart → Type 0
+IsBuiltIn (Ok d) = d ≡ built_in
+IsBuiltIn (Err stops.OutOfMemory) = ⊤
+IsBuiltIn (Err stop) = ⊥
+
+-- what the IDL declares, or without one nothing
+abbrev pub IsDeclared : Holds → Option (List ℕ) → Result Declarations NoStart → Type 0
+IsDeclared holds None result = IsBuiltIn result
+IsDeclared holds (Some name) result = IsRead holds name result
+
+-- the service of this name, or without a name the only one of the root file
+abbrev pub IsService : Option (List ℕ) → Declarations → Option ServiceId → Type 0
+IsService None d service = service ≡ only (rooted d.names)
+IsService (Some name) d service = (found : ServiceId) × (value_of name d.names ≡ Some found) × (service ≡ Some found)
+
+-- no service has this name
+abbrev pub IsNoService : Option (List ℕ) → Declarations → Type 0
+IsNoService None d = ⊥
+IsNoService (Some name) d = value_of name d.names ≡ None
+
+-- what a command starts from, or why it doesn't start
+abbrev pub IsStart : Holds → Declared → Result Start NoStart → Type 0
+IsStart holds words (Ok s) = IsDeclared holds words.idl (Ok s.schema) × IsService words.service s.schema s.service
+IsStart holds words (Err stops.UnknownService) = (d : Declarations) × IsDeclared holds words.idl (Ok d) × IsNoService words.service d
+IsStart holds words (Err (stops.Refused refusal)) = IsDeclared holds words.idl (Err (stops.Refused refusal))
+IsStart holds words (Err stops.FileFault) = ⊤
+IsStart holds words (Err stops.OutOfMemory) = ⊤
+
+-- the files tell what they hold, or no file is named
+abbrev pub IsToldBy : Option Holds → Option (List ℕ) → Holds → Type 0
+IsToldBy told idl holds = (told ≡ Some holds) ⊎ (idl ≡ None)
+
+-- a file fault comes only where the count of the files' faults rose
+abbrev pub HasCause : {X : Type 0} → Result X NoStart → ℕ → ℕ → Type 0
+HasCause (Ok x) before now = ⊤
+HasCause (Err (stops.Refused refusal)) before now = ⊤
+HasCause (Err stops.UnknownService) before now = ⊤
+HasCause (Err stops.FileFault) before now = Rose before now
+HasCause (Err stops.OutOfMemory) before now = ⊤
+
+-- ---- what is said where a command doesn't start
+
+-- nothing was read, nothing was written to the output, and this line was reported; where the report failed a front of it was
+-- written, and the code is 5
+pub record Says (line : List ℕ) (wanted : ℕ) (a b : Streams) (code : ℕ) : Type 0 where
+  pub left : b.left ≡ a.left
+  pub written : b.written ≡ a.written
+  pub front : AppendsFront a.reported b.reported line
+  pub ends : ((code ≡ wanted) × Appends a.reported b.reported line) ⊎ ((code ≡ 5) × Rose a.report_faults b.report_faults)
+
+-- the same with a last line, which leaves the code as it is where it isn't written
+pub record SaysLast (line : List ℕ) (wanted : ℕ) (a b : Streams) (code : ℕ) : Type 0 where
+  pub left : b.left ≡ a.left
+  pub written : b.written ≡ a.written
+  pub front : AppendsFront a.reported b.reported line
+  pub whole : Appends a.reported b.reported line ⊎ Rose a.report_faults b.report_faults
+  pub code_is : code ≡ wanted
+
+-- how a command ends that doesn't start; the line of a refusal may want memory
+abbrev pub Halts : NoStart → Streams → Streams → ℕ → Type 0
+Halts (stops.Refused refusal) a b code = Says (refusal_text refusal) 1 a b code ⊎ SaysLast (codes "no memory\n") 9 a b code
+Halts stops.UnknownService a b code = Says usage_text 2 a b code
+Halts stops.FileFault a b code = SaysLast (codes "file fault\n") 6 a b code
+Halts stops.OutOfMemory a b code = SaysLast (codes "no memory\n") 9 a b code
+
+-- the command started, and did this from there; or it did not start
+pub data Starting (told : Option Holds) (words : Declared) (before now : ℕ) (a b : Streams) (code : ℕ) (Then : Declarations → Option ServiceId → Type 0) : Type 0 where
+  Goes : (s : Start) → ((holds : Holds) → IsToldBy told words.idl holds → IsStart holds words (Ok s)) → Then s.schema s.service →
+      Starting told words before now a b code Then
+  Stops : (stop : NoStart) → ((holds : Holds) → IsToldBy told words.idl holds → IsStart holds words (Err stop)) → HasCause {X = Start} (Err stop) before now → Halts stop a b code →
+      Starting told words before now a b code Then

@@ -1,0 +1,84 @@
+//! A command over an outside in memory, and what it left behind.
+use gate_io::{Fails, HubSteps, MemFiles, MemHub, MemSink, MemSource, OutOfMemory, Word};
+use gate_run::run;
+use std::alloc::Global;
+
+/// What a command left behind.
+#[derive(Drop)]
+pub struct Ran {
+    pub code: u8,
+    pub output: MemSink,
+    pub report: MemSink,
+    pub hub: MemHub,
+}
+
+/// What a command works on: the files, the bytes of its input, which reads and writes fail, and the hub.
+#[derive(Drop)]
+pub struct Outside<'i> {
+    pub files: MemFiles,
+    pub input: &'i [u8],
+    pub reads: Fails,
+    pub writes: Fails,
+    pub hub: MemHub,
+}
+
+/// No call fails.
+pub fn none(alloc: Global) -> Fails {
+    Fails::new(alloc)
+}
+
+/// The first call fails.
+pub fn first(alloc: Global) -> Result<Fails, OutOfMemory> {
+    let mut fails = Fails::new(alloc);
+    fails.push(0)?;
+    Ok(fails)
+}
+
+/// An outside with this input, and nothing else.
+pub fn with_input(alloc: Global, input: &[u8]) -> Result<Outside<'_>, OutOfMemory> {
+    Ok(Outside {
+        files: MemFiles::new(alloc, none(alloc))?,
+        input,
+        reads: none(alloc),
+        writes: none(alloc),
+        hub: MemHub::new(alloc, HubSteps::new(alloc), 1)?,
+    })
+}
+
+fn words_of(alloc: Global, line: &[u8]) -> Result<Vec<Word>, OutOfMemory> {
+    let mut words = Vec::new(alloc);
+    for word in line.split(|byte| *byte == b' ') {
+        words.push(Word::new(alloc, word)?)?;
+    }
+    Ok(words)
+}
+
+/// Runs the command of this line, whose words are parted by spaces.
+pub fn run_line(alloc: Global, line: &[u8], outside: Outside<'_>) -> Result<Ran, OutOfMemory> {
+    let words = words_of(alloc, line)?;
+    let Outside {
+        mut files,
+        input,
+        reads,
+        writes,
+        mut hub,
+    } = outside;
+    let mut input = MemSource::new(alloc, input, 7, reads)?;
+    let mut output = MemSink::new(alloc, 5, writes)?;
+    let mut report = MemSink::new(alloc, 100, none(alloc))?;
+    let status = run(
+        alloc,
+        &words,
+        &mut files,
+        &mut input,
+        &mut output,
+        &mut report,
+        &mut hub,
+    );
+    Ok(Ran {
+        code: status.code,
+        output,
+        report,
+        hub,
+    })
+}
