@@ -1,0 +1,48 @@
+#!/usr/bin/env python3
+"""A server of notes.thrift by Apache Thrift's own Python library.
+
+    apache_server.py binary|compact|json A.B.C.D:PORT
+
+It takes framed messages, and answers until it is stopped.
+"""
+import sys
+from collections import Counter
+from typing import Any, Dict
+
+from apache_notes import ARGUMENTS, FACTORIES, RESULTS, TMessageType, TSocket, TTransport, address, read_fields, words, write_message
+from thrift.server import TServer
+
+
+def result_of(name: str, fields: Dict[int, Any]) -> Any:
+    if name == "join":
+        return fields.get(2, "").join(fields.get(1, []))
+    if name == "count":
+        return dict(Counter(fields.get(1, [])))
+    if name == "turn":
+        return fields.get(1, b"")[::-1]
+    return None
+
+
+class Notes:
+    """What the library calls for each message."""
+
+    def process(self, incoming: Any, outgoing: Any) -> None:
+        name, form, number = incoming.readMessageBegin()
+        fields = read_fields(incoming, ARGUMENTS.get(name, {}))
+        incoming.readMessageEnd()
+        if form == TMessageType.ONEWAY or RESULTS.get(name) is None:
+            return
+        write_message(outgoing, name, TMessageType.REPLY, number, {0: RESULTS[name]}, {0: result_of(name, fields)})
+
+
+def main() -> None:
+    protocol, listen = words(sys.argv, __doc__, 2)
+    host, port = address(listen)
+    socket = TSocket.TServerSocket(host, port)
+    server = TServer.TThreadedServer(
+        Notes(), socket, TTransport.TFramedTransportFactory(), FACTORIES[protocol](), daemon=True)
+    server.serve()
+
+
+if __name__ == "__main__":
+    main()

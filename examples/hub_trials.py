@@ -1,0 +1,429 @@
+#!/usr/bin/env python3
+"""Tries how a running gateway treats its connections: idle, busy, slow, broken and too many ones.
+
+    hub_trials.py [--command COMMAND] [TRIAL..]
+
+Without names all trials are run. Each starts a gateway from Binary to Binary, as
+
+    crates/thrift_gate/out/thrift_gate serve binary binary LISTEN TARGET --accept C --sessions N --limit 1024
+
+and an upstream that answers each call by its own bytes. COMMAND runs another program, with {listen},
+{target}, {accept} and {sessions} in it. The status is 0 where every trial went well. A few seconds
+each; `system_calls` is skipped where there is no strace.
+"""
+import argparse
+import contextlib
+import os
+import resource
+import shutil
+import socket
+import struct
+import subprocess
+import sys
+import tempfile
+import threading
+import time
+from typing import Callable, Dict, Iterator, List, Optional
+
+HERE = os.path.dirname(os.path.abspath(__file__))
+PROGRAM = os.path.join(HERE, "..", "crates", "thrift_gate", "out", "thrift_gate")
+COMMAND = PROGRAM + " serve binary binary {listen} {target} --accept {accept} --sessions {sessions} --limit 1024"
+HOST = "127.0.0.1"
+MOST_FILES = 8192
+
+
+class Failed(Exception):
+    """What a trial saw in place of what it wanted."""
+
+
+def want(is_so: bool, text: str) -> None:
+    if not is_so:
+        raise Failed(text)
+
+
+def call(number: int, size: int = 16) -> bytes:
+    """A framed call in Binary, `t`, whose one argument is a string of so many bytes."""
+    body = b"\x0b\x00\x01" + struct.pack(">I", size) + b"a" * size + b"\x00"
+    message = b"\x80\x01\x00\x01" + struct.pack(">I", 1) + b"t" + struct.pack(">I", number) + body
+    return struct.pack(">I", len(message)) + message
+
+
+def answers(calls: bytes) -> bytes:
+    """What the upstream sends for these calls: the same messages as replies."""
+    return calls.replace(b"\x80\x01\x00\x01", b"\x80\x01\x00\x02")
+
+
+def calls(first: int, count: int, size: int = 16) -> bytes:
+    return b"".join(call(number, size) for number in range(first, first + count))
+
+
+class Upstream:
+    """A server on threads of its own."""
+
+    def __init__(self, serve: Callable[[socket.socket], None]) -> None:
+        self.listener = socket.create_server((HOST, 0), backlog=2048)
+        self.address = "%s:%d" % self.listener.getsockname()
+        self.serve = serve
+        threading.Thread(target=self.accept, daemon=True).start()
+
+    def accept(self) -> None:
+        while True:
+            with contextlib.suppress(OSError):
+                stream, _ = self.listener.accept()
+                threading.Thread(target=self.run, args=(stream,), daemon=True).start()
+
+    def run(self, stream: socket.socket) -> None:
+        with contextlib.suppress(OSError), stream:
+            self.serve(stream)
+
+
+def answering(stream: socket.socket) -> None:
+    """Answers each call, and ends when the gateway does."""
+    held = b""
+    while True:
+        piece = stream.recv(65536)
+        if not piece:
+            return
+        held += piece
+        end = 0
+        while len(held) - end >= 4 and len(held) - end - 4 >= int.from_bytes(held[end:end + 4], "big"):
+            end += 4 + int.from_bytes(held[end:end + 4], "big")
+        stream.sendall(answers(held[:end]))
+        held = held[end:]
+
+
+def free_port() -> int:
+    with socket.create_server((HOST, 0)) as listener:
+        return listener.getsockname()[1]
+
+
+class Gateway:
+    """A gateway that runs. Its lines can be read once it has ended."""
+
+    def __init__(self, target: str, accept: int = 0, sessions: int = 32, files: Optional[int] = None,
+                 before: Optional[List[str]] = None) -> None:
+        self.port = free_port()
+        self.output = tempfile.TemporaryFile("w+")
+        listen = "%s:%d" % (HOST, self.port)
+        words = options.command.format(listen=listen, target=target, accept=accept, sessions=sessions).split()
+
+        def limit() -> None:
+            if files is not None:
+                resource.setrlimit(resource.RLIMIT_NOFILE, (files, files))
+
+        self.process = subprocess.Popen((before or []) + words, stdout=self.output, preexec_fn=limit)
+        self.wait_for_port()
+
+    def wait_for_port(self) -> None:
+        """Waits until the gateway listens, without a connection that would count as one."""
+        wanted = "%04X" % self.port
+        for _ in range(500):
+            with open("/proc/net/tcp", encoding="ascii") as table:
+                if any(line.split()[1].endswith(":" + wanted) and line.split()[3] == "0A" for line in list(table)[1:]):
+                    return
+            time.sleep(0.02)
+        raise Failed("the gateway doesn't listen")
+
+    def connect(self, patience: float = 20) -> socket.socket:
+        stream = socket.create_connection((HOST, self.port))
+        stream.settimeout(patience)
+        stream.setsockopt(socket.IPPROTO_TCP, socket.TCP_NODELAY, 1)
+        return stream
+
+    def seconds(self) -> float:
+        """The processor time that it used."""
+        with open("/proc/%d/stat" % self.process.pid, encoding="ascii") as stat:
+            fields = stat.read().rpartition(")")[2].split()
+        return (int(fields[11]) + int(fields[12])) / os.sysconf("SC_CLK_TCK")
+
+    def runs(self) -> bool:
+        return self.process.poll() is None
+
+    def ended(self) -> List[str]:
+        """The lines of a gateway that ends by itself."""
+        want(self.process.wait(20) == 0, "its status is %s" % self.process.returncode)
+        return self.lines()
+
+    def lines(self) -> List[str]:
+        self.output.seek(0)
+        return self.output.read().splitlines()
+
+    def stop(self) -> None:
+        if self.runs():
+            self.process.kill()
+        self.process.wait()
+
+
+@contextlib.contextmanager
+def gateway(serve: Callable[[socket.socket], None] = answering, target: Optional[str] = None, **kept) -> Iterator[Gateway]:
+    running = Gateway(target or Upstream(serve).address, **kept)
+    try:
+        yield running
+    finally:
+        running.stop()
+
+
+def read_bytes(stream: socket.socket, count: int) -> bytes:
+    got = bytearray()
+    while len(got) < count:
+        piece = stream.recv(min(65536, count - len(got)))
+        if not piece:
+            break
+        got += piece
+    return bytes(got)
+
+
+def read_to_end(stream: socket.socket) -> bytes:
+    got = bytearray()
+    while True:
+        piece = stream.recv(65536)
+        if not piece:
+            return bytes(got)
+        got += piece
+
+
+def ask(stream: socket.socket, sent: bytes) -> None:
+    """Sends calls and reads their answers."""
+    sender = threading.Thread(target=stream.sendall, args=(sent,), daemon=True)
+    sender.start()
+    want(read_bytes(stream, len(sent)) == answers(sent), "other answers")
+    sender.join()
+
+
+def half_close() -> str:
+    """A client that ends its sending side gets what is due to it, and then the end."""
+    with gateway(accept=2) as gate:
+        for count in (1, 5000):
+            stream, sent = gate.connect(), calls(0, count)
+            threading.Thread(target=lambda: (stream.sendall(sent), stream.shutdown(socket.SHUT_WR)), daemon=True).start()
+            want(read_to_end(stream) == answers(sent), "other answers")
+            stream.close()
+        want([line.endswith("clean") for line in gate.ended()[:2]] == [True, True], "no clean ends")
+    return "every answer came, then the end"
+
+
+def idle_connections() -> str:
+    """A thousand idle connections cost nothing, and slow no busy one."""
+    with gateway(sessions=1024) as gate:
+        busy, sent = gate.connect(), calls(0, 20000)
+        alone = timed(lambda: ask(busy, sent))
+        idle = [gate.connect() for _ in range(1000)]
+        time.sleep(1)
+        before = gate.seconds()
+        time.sleep(2)
+        spent = gate.seconds() - before
+        want(spent < 0.05, "%.2f s of processor time in 2 s" % spent)
+        crowd = timed(lambda: ask(busy, sent))
+        for stream in idle[::100]:
+            ask(stream, call(7))
+    return "20,000 calls took %.2f s alone and %.2f s with 1,000 idle connections, which used %.2f s in 2 s" % (alone, crowd, spent)
+
+
+def resets() -> str:
+    """A peer that resets its connection ends its own session alone."""
+    with gateway() as gate:
+        first, second = gate.connect(), gate.connect()
+        first.sendall(calls(0, 2000))
+        first.setsockopt(socket.SOL_SOCKET, socket.SO_LINGER, struct.pack("ii", 1, 0))
+        first.close()
+        ask(second, calls(0, 1000))
+        want(gate.runs(), "it ended")
+    return "the other session went on"
+
+
+def slow_reader() -> str:
+    """A client that doesn't read is waited for at no cost, and gets everything."""
+    with gateway() as gate:
+        slow, other, sent = gate.connect(), gate.connect(), calls(0, 10000, 400)
+        sender = threading.Thread(target=slow.sendall, args=(sent,), daemon=True)
+        sender.start()
+        time.sleep(1)
+        before = gate.seconds()
+        ask(other, calls(0, 100))
+        time.sleep(1)
+        spent = gate.seconds() - before
+        want(read_bytes(slow, len(sent)) == answers(sent), "other answers")
+        want(spent < 0.1, "%.2f s of processor time while it waited" % spent)
+    return "everything came; %.2f s of processor time in the second that it waited" % spent
+
+
+def refused_upstream() -> str:
+    """An upstream that refuses the connection is a link fault."""
+    with gateway(target="%s:%d" % (HOST, free_port()), accept=2) as gate:
+        for _ in range(2):
+            with gate.connect() as stream:
+                want(read_to_end(stream) == b"", "bytes came")
+        want(["link fault" in line for line in gate.ended()[:2]] == [True, True], "other lines")
+    return "both clients saw the end"
+
+
+def without_pause() -> str:
+    """A client that sends without a pause holds up no other."""
+    with gateway() as gate:
+        busy, other, waits = gate.connect(), gate.connect(), []
+        block, goes_on = calls(0, 1000), [True]
+
+        def send() -> None:
+            with contextlib.suppress(OSError):
+                while goes_on[0]:
+                    busy.sendall(block)
+
+        def receive() -> None:
+            with contextlib.suppress(OSError):
+                while busy.recv(1 << 20):
+                    pass
+
+        for work in (send, receive):
+            threading.Thread(target=work, daemon=True).start()
+        end = time.time() + 2
+        while time.time() < end:
+            waits.append(timed(lambda: ask(other, call(1))))
+        goes_on[0] = False
+        waits.sort()
+        want(waits[-1] < 1, "a call took %.2f s" % waits[-1])
+    return "%d calls beside it: %.1f ms in the middle, %.1f ms at most" % (len(waits), waits[len(waits) // 2] * 1e3, waits[-1] * 1e3)
+
+
+def few_descriptors() -> str:
+    """A lack of descriptors ends nothing: connections wait, and are served later."""
+    with gateway(sessions=100, files=24) as gate:
+        streams, served = [gate.connect(1) for _ in range(20)], []
+        for stream in streams:
+            with contextlib.suppress(OSError, Failed):
+                ask(stream, call(1))
+                served.append(stream)
+        want(gate.runs() and len(served) > 5, "%d were served" % len(served))
+        for stream in served:
+            stream.close()
+        later = 0
+        for stream in streams:
+            if stream not in served:
+                with contextlib.suppress(OSError, Failed):
+                    stream.settimeout(3)
+                    later += read_bytes(stream, len(call(1))) == answers(call(1))
+        want(gate.runs() and later > 5, "%d more were served" % later)
+    return "%d of 20 were served at once, %d more when these had left" % (len(served), later)
+
+
+def too_many() -> str:
+    """A connection beyond the sessions is closed at once, and a place that is free again is given away."""
+    with gateway(sessions=2) as gate:
+        streams = [gate.connect() for _ in range(2)]
+        for stream in streams:
+            ask(stream, call(1))
+        for _ in range(100):
+            with gate.connect() as stream:
+                want(read_to_end(stream) == b"", "bytes came")
+        held = [gate.connect() for _ in range(20)]
+        for stream in held:
+            want(read_to_end(stream) == b"", "bytes came")
+        streams[0].shutdown(socket.SHUT_WR)
+        want(read_to_end(streams[0]) == b"", "bytes came")
+        ask(gate.connect(), call(2))
+    return "120 were turned away, and one came in when another had left"
+
+
+def end_behind_all() -> str:
+    """A client that goes on sending after its session ended still gets all that was sent to it."""
+    sent = calls(0, 500, 800)
+    large = answers(sent)
+
+    def serve(stream: socket.socket) -> None:
+        read_bytes(stream, len(sent))
+        stream.sendall(large)
+        stream.shutdown(socket.SHUT_WR)
+        read_to_end(stream)
+
+    with gateway(serve) as gate:
+        stream, goes_on = gate.connect(), [True]
+
+        def send() -> None:
+            with contextlib.suppress(OSError):
+                stream.sendall(sent)
+                while goes_on[0]:
+                    stream.sendall(call(9))
+                    time.sleep(0.001)
+
+        threading.Thread(target=send, daemon=True).start()
+        time.sleep(0.5)
+        got = bytearray()
+        while True:
+            piece = stream.recv(20000)
+            if not piece:
+                break
+            got += piece
+            time.sleep(0.005)
+        goes_on[0] = False
+        want(bytes(got) == large, "%d of %d bytes came" % (len(got), len(large)))
+    return "all %d bytes came" % len(large)
+
+
+def stops() -> str:
+    """After as many connections as it may accept it refuses more, and ends with the last session."""
+    with gateway(accept=3) as gate:
+        streams = [gate.connect() for _ in range(3)]
+        for stream in streams:
+            ask(stream, call(1))
+        time.sleep(0.2)
+        try:
+            gate.connect().close()
+            raise Failed("a fourth connection was accepted")
+        except ConnectionRefusedError:
+            pass
+        for stream in streams:
+            stream.shutdown(socket.SHUT_WR)
+            want(read_to_end(stream) == b"", "bytes came")
+            stream.close()
+        gate.ended()
+    return "a fourth was refused, and it ended"
+
+
+def system_calls() -> str:
+    """Many small messages share their system calls."""
+    if shutil.which("strace") is None:
+        return "skipped: there is no strace"
+    with tempfile.NamedTemporaryFile("r") as table:
+        before = ["strace", "-f", "-c", "-o", table.name]
+        with gateway(accept=1, before=before) as gate:
+            stream, sent = gate.connect(), calls(0, 20000)
+            threading.Thread(target=lambda: (stream.sendall(sent), stream.shutdown(socket.SHUT_WR)), daemon=True).start()
+            want(read_to_end(stream) == answers(sent), "other answers")
+            stream.close()
+            gate.ended()
+        counts = {line.split()[-1]: int(line.split()[3]) for line in table if len(line.split()) >= 5 and line.split()[3].isdigit()}
+    moved = counts.get("sendto", 0) + counts.get("recvfrom", 0)
+    want(0 < moved < 2000, "%d reads and writes" % moved)
+    return "20,000 calls and their answers: %d reads, %d writes, %d waits" % (
+        counts.get("recvfrom", 0), counts.get("sendto", 0), counts.get("epoll_wait", 0))
+
+
+def timed(work: Callable[[], None]) -> float:
+    start = time.time()
+    work()
+    return time.time() - start
+
+
+TRIALS: Dict[str, Callable[[], str]] = {trial.__name__: trial for trial in (
+    half_close, idle_connections, resets, slow_reader, refused_upstream, without_pause, few_descriptors, too_many,
+    end_behind_all, stops, system_calls)}
+
+
+def main() -> int:
+    most = resource.getrlimit(resource.RLIMIT_NOFILE)[1]
+    resource.setrlimit(resource.RLIMIT_NOFILE, (min(MOST_FILES, most), most))
+    faults = 0
+    for name in options.trials or TRIALS:
+        try:
+            print("ok     %s: %s" % (name, TRIALS[name]()), flush=True)
+        except (Failed, OSError, subprocess.TimeoutExpired) as fault:
+            faults += 1
+            print("FAILED %s: %s" % (name, fault), flush=True)
+    return min(faults, 1)
+
+
+parser = argparse.ArgumentParser(description=__doc__, formatter_class=argparse.RawDescriptionHelpFormatter)
+parser.add_argument("--command", default=COMMAND)
+parser.add_argument("trials", nargs="*", choices=[[], *TRIALS], metavar="TRIAL")
+options = parser.parse_args()
+if __name__ == "__main__":
+    sys.exit(main())

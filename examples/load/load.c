@@ -1,0 +1,199 @@
+/* Calls over framed connections, as fast as they are answered.
+ *
+ *     load PROTOCOL PORT CONNECTIONS OPEN CALLS [IDLE]
+ *
+ * PROTOCOL is `binary` or `compact`. Each of the CONNECTIONS keeps OPEN calls of about 60 bytes open until CALLS were answered
+ * in all; IDLE more connections are opened before and send nothing. Prints the calls a second, the bytes of answers a
+ * second, and the median, the 99th percentile and the greatest time from a call to its answer in microseconds. */
+#include <arpa/inet.h>
+#include <errno.h>
+#include <netinet/tcp.h>
+#include <stdint.h>
+#include <stdio.h>
+#include <stdlib.h>
+#include <string.h>
+#include <sys/epoll.h>
+#include <sys/socket.h>
+#include <time.h>
+#include <unistd.h>
+
+#define ROOM (1 << 20)
+#define MOST_OPEN 4096
+
+struct connection {
+    int fd;
+    size_t held, due, sent;
+    unsigned char in[ROOM], out[ROOM];
+    uint64_t begun[MOST_OPEN];
+    size_t first, open;
+};
+
+static int compact;
+static long left_to_begin, answered, total;
+static uint64_t answer_bytes;
+static uint32_t *times;
+
+static uint64_t now(void)
+{
+    struct timespec t;
+    clock_gettime(CLOCK_MONOTONIC, &t);
+    return (uint64_t)t.tv_sec * 1000000000u + (uint64_t)t.tv_nsec;
+}
+
+/* The call `add(1: i32, 2: i64, 3: list of four i32)` with this sequence number. */
+static size_t binary_call(unsigned char *to, uint32_t seq)
+{
+    static const unsigned char body[] = {8, 0, 1, 0, 0, 1, 0, 10, 0, 2, 0, 0, 0, 1, 0, 0, 0, 0, 15, 0, 3, 8, 0, 0, 0, 4,
+        0, 0, 0, 1, 0, 0, 0, 2, 0, 0, 0, 3, 0, 0, 0, 4, 0};
+    static const unsigned char head[] = {0x80, 1, 0, 1, 0, 0, 0, 3, 'a', 'd', 'd'};
+    size_t length = sizeof head + 4 + sizeof body;
+    to[0] = to[1] = to[2] = 0;
+    to[3] = (unsigned char)length;
+    memcpy(to + 4, head, sizeof head);
+    for (int i = 0; i < 4; i++)
+        to[4 + sizeof head + i] = (unsigned char)(seq >> (24 - 8 * i));
+    memcpy(to + 8 + sizeof head, body, sizeof body);
+    return 4 + length;
+}
+
+static size_t compact_call(unsigned char *to, uint32_t seq)
+{
+    static const unsigned char body[] = {0x15, 0x80, 4, 0x16, 0x80, 0x80, 0x80, 0x80, 0x20, 0x19, 0x45, 2, 4, 6, 8, 0};
+    size_t n = 4;
+    to[n++] = 0x82;
+    to[n++] = (1 << 5) | 1;
+    for (; seq > 127; seq >>= 7)
+        to[n++] = (unsigned char)(seq | 128);
+    to[n++] = (unsigned char)seq;
+    to[n++] = 3;
+    memcpy(to + n, "add", 3);
+    n += 3;
+    memcpy(to + n, body, sizeof body);
+    n += sizeof body;
+    to[0] = to[1] = to[2] = 0;
+    to[3] = (unsigned char)(n - 4);
+    return n;
+}
+
+static void begin_calls(struct connection *c, size_t open)
+{
+    static uint32_t seq;
+    while (c->open < open && left_to_begin > 0 && c->due + 128 < ROOM) {
+        c->begun[(c->first + c->open) % MOST_OPEN] = now();
+        c->due += compact ? compact_call(c->out + c->due, ++seq) : binary_call(c->out + c->due, ++seq);
+        c->open++;
+        left_to_begin--;
+    }
+}
+
+static void send_due(int poll, struct connection *c)
+{
+    while (c->sent < c->due) {
+        ssize_t n = write(c->fd, c->out + c->sent, c->due - c->sent);
+        if (n <= 0)
+            break;
+        c->sent += (size_t)n;
+    }
+    if (c->sent == c->due)
+        c->sent = c->due = 0;
+    struct epoll_event event = {.events = c->due ? EPOLLIN | EPOLLOUT : EPOLLIN, .data.ptr = c};
+    epoll_ctl(poll, EPOLL_CTL_MOD, c->fd, &event);
+}
+
+static void take_answers(struct connection *c)
+{
+    ssize_t got = read(c->fd, c->in + c->held, ROOM - c->held);
+    if (got == 0 || (got < 0 && errno != EAGAIN)) {
+        fprintf(stderr, "load: a connection ended\n");
+        exit(1);
+    }
+    if (got < 0)
+        return;
+    c->held += (size_t)got;
+    answer_bytes += (uint64_t)got;
+    size_t at = 0;
+    uint64_t time = now();
+    while (c->held - at >= 4) {
+        const unsigned char *f = c->in + at;
+        size_t length = (size_t)f[0] << 24 | f[1] << 16 | f[2] << 8 | f[3];
+        if (c->held - at - 4 < length)
+            break;
+        if (c->open == 0) {
+            fprintf(stderr, "load: an answer to no call\n");
+            exit(1);
+        }
+        times[answered++] = (uint32_t)((time - c->begun[c->first]) / 100);
+        c->first = (c->first + 1) % MOST_OPEN;
+        c->open--;
+        at += 4 + length;
+    }
+    memmove(c->in, c->in + at, c->held - at);
+    c->held -= at;
+}
+
+static int connect_to(int port)
+{
+    int fd = socket(AF_INET, SOCK_STREAM, 0), on = 1;
+    struct sockaddr_in at = {.sin_family = AF_INET, .sin_port = htons((uint16_t)port), .sin_addr.s_addr = htonl(INADDR_LOOPBACK)};
+    if (connect(fd, (struct sockaddr *)&at, sizeof at)) {
+        perror("load");
+        exit(1);
+    }
+    setsockopt(fd, IPPROTO_TCP, TCP_NODELAY, &on, sizeof on);
+    return fd;
+}
+
+static int by_time(const void *a, const void *b)
+{
+    uint32_t x = *(const uint32_t *)a, y = *(const uint32_t *)b;
+    return x < y ? -1 : x > y;
+}
+
+int main(int count, char **words)
+{
+    if (count < 6)
+        return 2;
+    compact = !strcmp(words[1], "compact");
+    int port = atoi(words[2]), connections = atoi(words[3]);
+    size_t open = (size_t)atol(words[4]);
+    total = left_to_begin = atol(words[5]);
+    if (open > MOST_OPEN || connections > 4096 || total < 1)
+        return 2;
+    times = malloc((size_t)total * sizeof *times);
+    for (int i = 0; i < (count > 6 ? atoi(words[6]) : 0); i++)
+        connect_to(port);
+    int poll = epoll_create1(0);
+    struct connection **all = calloc((size_t)connections, sizeof *all);
+    for (int i = 0; i < connections; i++) {
+        struct connection *c = calloc(1, sizeof *c);
+        c->fd = connect_to(port);
+        struct epoll_event event = {.events = EPOLLIN, .data.ptr = c};
+        epoll_ctl(poll, EPOLL_CTL_ADD, c->fd, &event);
+        all[i] = c;
+    }
+    uint64_t start = now();
+    for (int i = 0; i < connections; i++) {
+        begin_calls(all[i], open);
+        send_due(poll, all[i]);
+    }
+    while (answered < total) {
+        struct epoll_event events[256];
+        int n = epoll_wait(poll, events, 256, 10000);
+        if (n <= 0) {
+            fprintf(stderr, "load: no answer for ten seconds, %ld of %ld answered\n", answered, total);
+            return 1;
+        }
+        for (int i = 0; i < n; i++) {
+            struct connection *c = events[i].data.ptr;
+            if (events[i].events & EPOLLIN)
+                take_answers(c);
+            begin_calls(c, open);
+            send_due(poll, c);
+        }
+    }
+    double seconds = (double)(now() - start) / 1e9;
+    qsort(times, (size_t)total, sizeof *times, by_time);
+    printf("%.0f calls/s, %.1f MB/s of answers, median %.1f us, p99 %.1f us, max %.1f us\n", (double)total / seconds,
+        (double)answer_bytes / seconds / 1e6, times[total / 2] / 10.0, times[total - 1 - total / 100] / 10.0, times[total - 1] / 10.0);
+    return 0;
+}
