@@ -128,14 +128,69 @@ fn is_at(place: &Place, id: i16) -> bool
     place.id == id
 }
 
+/// Ranks from the lowest to the highest.
+#[derive(Clone, Copy)]
+struct Ranks {
+    low: usize,
+    high: usize,
+}
+
+fn all_of(places: &[Place]) -> Ranks
+    ensures low { result.low ≡ 0 }
+    ensures high { result.high ≡ length places.now }
+{
+    Ranks {
+        low: 0,
+        high: places.len(),
+    }
+}
+
+fn one(rank: usize) -> Ranks
+    ensures low { result.low ≡ rank }
+    ensures high { result.high ≡ rank }
+{
+    Ranks {
+        low: rank,
+        high: rank,
+    }
+}
+
+// How many ids are below this one where they are numbered from 1 on, as those of most structs are.
+fn numbered(id: i16) -> usize {
+    if id > 0 { id as usize - 1 } else { 0 }
+}
+
+// The ranks among which that of this id is: a single one where ids are numbered from 1 on.
+fn near(places: &[Place], id: i16) -> Ranks
+    requires { Rising places.now }
+    ensures low { result.low ≤ rank id places.now }
+    ensures high { rank id places.now ≤ result.high }
+    ensures within { result.high ≤ length places.now }
+{
+    let guess = numbered(id);
+    if guess >= places.len() {
+        return all_of(places);
+    }
+    if is_below(&places[guess], id) {
+        return all_of(places);
+    }
+    if guess == 0 {
+        return one(guess);
+    }
+    if is_below(&places[guess - 1], id) {
+        one(guess)
+    } else {
+        all_of(places)
+    }
+}
+
 // How many ids are below this one.
 fn rank(places: &[Place], id: i16) -> usize
     requires { Rising places.now }
     ensures value { result ≡ rank id places.now }
     ensures within { result ≤ length places.now }
 {
-    let mut low = 0;
-    let mut high = places.len();
+    let Ranks { mut low, mut high } = near(places, id);
     while low < high {
         let middle = low + (high - low) / 2;
         if is_below(&places[middle], id) {
