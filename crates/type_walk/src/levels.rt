@@ -1,5 +1,5 @@
 //! The open structs and containers of which something is declared, at most `DEPTH` of them, in a fixed place.
-ghost use Rattle.std.specs.Prelude.{◌≡◌, ◌<◌, ◌≤◌, ◌+◌, ℕ, List, [], ◌∷◌, length, replicate, slice_set};
+ghost use Rattle.std.specs.Prelude.{◌≡◌, ◌<◌, ◌≤◌, ◌+◌, ℕ, List, [], ◌∷◌, length, option_copied, replicate, slice_set};
 ghost use Rattle.type_walk.specs.declared.levels.Level.TheVariants.{Unknown};
 ghost use Rattle.type_walk.specs.declared.levels.Level.{Level};
 ghost use Rattle.type_walk.specs.Stack.{first_of, rest_of};
@@ -82,15 +82,15 @@ impl Levels {
         }
     }
 
-    /// The innermost level.
+    /// The innermost level, where it lies: a level is large, and most events only look at it.
     #[inline(always)]
-    pub fn top(&self) -> Option<Level>
-        ensures { result ≡ first_of self.now }
+    pub fn top(&self) -> Option<&Level>
+        ensures { option_copied result ≡ first_of self.now }
     {
         if self.depth == 0 {
             return None;
         }
-        Some(self.top)
+        Some(&self.top)
     }
 
     /// Opens one more level inside.

@@ -3,13 +3,13 @@ ghost use Rattle.std.specs.Prelude.{◌≡◌, ◌<◌, ◌≤◌, ◌∷◌, So
 ghost use Rattle.thrift_value.specs.Items.{item_of};
 ghost use Rattle.protocol_traits.specs.Follow.{depth_after};
 ghost use Rattle.type_tables.specs.Declarations.{Declarations};
-ghost use Rattle.type_walk.specs.Positions.{after, called_for, entered, passed, standing};
+ghost use Rattle.type_walk.specs.Positions.{after, called_for, entered, in_list, in_map, in_set, in_struct, passed, standing};
 ghost use Rattle.type_walk.specs.Stack.{rest_of};
 ghost use Rattle.type_walk.specs.Known.{IsKnownLevel, IsSound, shaded, position_of};
 
 use crate::levels::{Level, Levels};
 use crate::types::{called_for, field_type, in_list, in_map, in_set, in_struct};
-use thrift_value::Event;
+use thrift_value::{Event, Kind};
 use type_tables::{Schema, Ty};
 
 /// The open structs and containers, and the declared type of the value that stands next.
@@ -69,6 +69,7 @@ impl Open {
         }
     }
 
+    #[inline(always)]
     fn pass_known(&mut self, schema: &Schema, event: &Event<'_>)
         requires sound { IsSound schema.now self.old }
         requires all { self.old.unknown ≡ 0 }
@@ -80,14 +81,60 @@ impl Open {
         match *event {
             Event::Field(id, kind) => self.next = field_type(schema, self.known.top(), id, kind),
             Event::Stop | Event::End => self.leave(schema),
-            Event::StructBegin => self.enter(schema, in_struct(self.next)),
-            Event::MapBegin(key, value, _) => {
-                self.enter(schema, in_map(schema, self.next, key, value));
-            }
-            Event::SetBegin(kind, _) => self.enter(schema, in_set(schema, self.next, kind)),
-            Event::ListBegin(kind, _) => self.enter(schema, in_list(schema, self.next, kind)),
+            Event::StructBegin => self.enter_struct(schema),
+            Event::MapBegin(key, value, _) => self.enter_map(schema, key, value),
+            Event::SetBegin(kind, _) => self.enter_set(schema, kind),
+            Event::ListBegin(kind, _) => self.enter_list(schema, kind),
             _ => self.spend(schema),
         }
+    }
+
+    /// A struct has begun where a value was called for.
+    fn enter_struct(&mut self, schema: &Schema)
+        requires sound { IsSound schema.now self.old }
+        requires all { self.old.unknown ≡ 0 }
+        requires open { 0 < length self.old.known }
+        requires shallow { length self.old.known < 256 }
+        ensures after { position_of schema.now self.new ≡ entered (position_of schema.now self.old) (in_struct self.old.next) }
+        ensures sound { IsSound schema.now self.new }
+    {
+        self.enter(schema, in_struct(self.next));
+    }
+
+    /// A map with parts of these kinds has begun where a value was called for.
+    fn enter_map(&mut self, schema: &Schema, key: Kind, value: Kind)
+        requires sound { IsSound schema.now self.old }
+        requires all { self.old.unknown ≡ 0 }
+        requires open { 0 < length self.old.known }
+        requires shallow { length self.old.known < 256 }
+        ensures after { position_of schema.now self.new ≡ entered (position_of schema.now self.old) (in_map schema.now self.old.next key value) }
+        ensures sound { IsSound schema.now self.new }
+    {
+        self.enter(schema, in_map(schema, self.next, key, value));
+    }
+
+    /// A set of this kind has begun where a value was called for.
+    fn enter_set(&mut self, schema: &Schema, kind: Kind)
+        requires sound { IsSound schema.now self.old }
+        requires all { self.old.unknown ≡ 0 }
+        requires open { 0 < length self.old.known }
+        requires shallow { length self.old.known < 256 }
+        ensures after { position_of schema.now self.new ≡ entered (position_of schema.now self.old) (in_set schema.now self.old.next kind) }
+        ensures sound { IsSound schema.now self.new }
+    {
+        self.enter(schema, in_set(schema, self.next, kind));
+    }
+
+    /// A list of this kind has begun where a value was called for.
+    fn enter_list(&mut self, schema: &Schema, kind: Kind)
+        requires sound { IsSound schema.now self.old }
+        requires all { self.old.unknown ≡ 0 }
+        requires open { 0 < length self.old.known }
+        requires shallow { length self.old.known < 256 }
+        ensures after { position_of schema.now self.new ≡ entered (position_of schema.now self.old) (in_list schema.now self.old.next kind) }
+        ensures sound { IsSound schema.now self.new }
+    {
+        self.enter(schema, in_list(schema, self.next, kind));
     }
 
     /// A struct or container has begun where a value was called for.
@@ -107,8 +154,8 @@ impl Open {
                 self.next = Ty::Unknown;
             }
             _ => {
+                self.next = called_for(Some(&level));
                 self.known.push(level);
-                self.next = called_for(Some(level));
             }
         }
     }
@@ -138,15 +185,15 @@ impl Open {
         ensures all { self.new.unknown ≡ 0 }
     {
         match self.known.top() {
-            Some(Level::Keys(key, value)) => {
+            Some(&Level::Keys(key, value)) => {
                 self.known.set_top(Level::Values(key, value));
                 self.next = value;
             }
-            Some(Level::Values(key, value)) => {
+            Some(&Level::Values(key, value)) => {
                 self.known.set_top(Level::Keys(key, value));
                 self.next = key;
             }
-            Some(Level::Elements(element)) => self.next = element,
+            Some(&Level::Elements(element)) => self.next = element,
             Some(Level::Fields(_) | Level::Unknown) | None => self.next = Ty::Unknown,
         }
     }

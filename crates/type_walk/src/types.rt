@@ -1,5 +1,5 @@
 //! The declared types at one step down from a struct or container.
-ghost use Rattle.std.specs.Prelude.{◌≡◌, IfSome, Some};
+ghost use Rattle.std.specs.Prelude.{◌≡◌, IfSome, Some, option_copied};
 ghost use Rattle.thrift_value.specs.Gathering.{rank_of};
 ghost use Rattle.type_tables.specs.Declarations.{Declarations};
 ghost use Rattle.type_tables.specs.Kinds.{kind_of};
@@ -14,13 +14,13 @@ use type_tables::{Schema, StructId, Ty, TyId};
 
 /// The type of the field with this id, where a value of this kind is announced.
 #[inline(always)]
-pub fn field_type(schema: &Schema, level: Option<Level>, id: i16, kind: Kind) -> Ty
-    requires { IfSome level (IsKnownLevel schema.now) }
-    ensures value { result ≡ field_type schema.now level id kind }
+pub fn field_type(schema: &Schema, level: Option<&Level>, id: i16, kind: Kind) -> Ty
+    requires { IfSome (option_copied level) (IsKnownLevel schema.now) }
+    ensures value { result ≡ field_type schema.now (option_copied level.entry) id kind }
     ensures known { IsKnown schema.now result }
 {
     match level {
-        Some(Level::Fields(s)) => declared_field(schema, s, id, kind),
+        Some(Level::Fields(s)) => declared_field(schema, *s, id, kind),
         _ => Ty::Unknown,
     }
 }
@@ -90,14 +90,14 @@ pub fn in_list(schema: &Schema, ty: Ty, kind: Kind) -> Level
 
 /// The type of the value that an innermost level calls for.
 #[inline(always)]
-pub fn called_for(level: Option<Level>) -> Ty
-    ensures value { result ≡ called_for level }
-    ensures known { (d : Declarations) → IfSome level (IsKnownLevel d) → IsKnown d result }
+pub fn called_for(level: Option<&Level>) -> Ty
+    ensures value { result ≡ called_for (option_copied level.entry) }
+    ensures known { (d : Declarations) → IfSome (option_copied level.entry) (IsKnownLevel d) → IsKnown d result }
 {
     match level {
-        Some(Level::Elements(element)) => element,
-        Some(Level::Keys(key, _)) => key,
-        Some(Level::Values(_, value)) => value,
+        Some(Level::Elements(element)) => *element,
+        Some(Level::Keys(key, _)) => *key,
+        Some(Level::Values(_, value)) => *value,
         Some(Level::Fields(_) | Level::Unknown) | None => Ty::Unknown,
     }
 }

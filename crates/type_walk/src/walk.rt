@@ -80,7 +80,7 @@ impl<'s> Walk<'s> {
             return None;
         }
         match self.here.known.top() {
-            Some(Level::Fields(s)) => Some(s),
+            Some(Level::Fields(s)) => Some(*s),
             _ => None,
         }
     }
