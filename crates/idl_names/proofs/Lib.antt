@@ -4,6 +4,7 @@ pub mod First
 pub mod Indexed
 pub mod Last
 pub mod Looking
+pub mod Marked
 pub mod Named
 pub mod Noting
 pub mod Reaching

@@ -1,17 +1,17 @@
 -- What is told of cycles, definition by definition and file by file.
-use Rattle.std.proofs.Common.{◌≡◌, ◌⊎◌, inl, inr, ℕ, zero, suc, ◌+◌, ◌<◌, ◌≤◌, List, [], ◌∷◌, ◌++◌, length, refl, ap, sym, ◌∙◌, arith, subst, Bool, true, false, slice_get, Option, Some, None, option_and_then}
+use Rattle.std.proofs.Common.{◌≡◌, ◌⊎◌, inl, inr, ℕ, zero, suc, ◌+◌, ◌<◌, ◌≤◌, List, [], ◌∷◌, ◌++◌, length, refl, ap, sym, ◌∙◌, arith, subst, true, false, slice_get, Option, Some, None, option_and_then}
 use Rattle.std.specs.Prelude.{unwrap_or}
 use Rattle.std.proofs.lemmas.Bool.{cases_eq}
 use Rattle.std.proofs.lemmas.List.{length_push}
 use Rattle.idl_names.specs.declared.cycles.Cycle.{Cycle}
 use Rattle.idl_names.specs.declared.cycles.Cycle.TheVariants as cycles
 use Rattle.idl_names.specs.declared.documents.Spot.{Spot}
-use Rattle.idl_names.specs.Cycles.{AreAmong, AreSettled, IsOnCycle, IsReached, IsTold, LeadsIntoCycle, LeadsTo, RowTells, TellsAny, TellsCycles, at_once, onward, cycle_at, next_spots, spots_by}
+use Rattle.idl_names.specs.Cycles.{AreAmong, IsOnCycle, IsReached, IsTold, LeadsIntoCycle, LeadsTo, RowTells, TellsAny, TellsCycles, at_once, onward, cycle_at, next_spots, spots_by}
 use Rattle.idl_names.specs.Files.{FileTree}
 use Rattle.idl_names.specs.Meaning.{spot_at}
-use Rattle.idl_names.specs.Sets.{Has, is_among, with_all, with_spot}
+use Rattle.idl_names.specs.Sets.{Has, is_among}
 use Rattle.idl_names.specs.Targets.{definition_at}
-use Rattle.idl_names.proofs.Spots.{added, from_all, among_has, has_among, below_end, place_of_spot}
+use Rattle.idl_names.proofs.Spots.{among_has, has_among, below_end, place_of_spot}
 
 module _ (files : List FileTree) where
   pub round_on : (spot : Spot) (set : List Spot) → IsReached files spot set → is_among spot set ≡ true → IsOnCycle files spot
@@ -28,26 +28,6 @@ module _ (files : List FileTree) where
 
   pub round_absent : (spot : Spot) (set : List Spot) → IsReached files spot set → TellsAny files set false → LeadsIntoCycle files spot → ⊥
   round_absent spot set r t l = t l.0 ((r l.0).1 (l.1).0) (l.1).1
-
-  pub settled_absent : (spot : Spot) (set : List Spot) → AreSettled files set → is_among spot set ≡ true → LeadsIntoCycle files spot → ⊥
-  settled_absent spot set a e = a spot (among_has spot set e)
-
-  -- one that leads to settled ones alone is settled
-  settles : (set : List Spot) → AreSettled files set → (spot other : Spot) → ((t : Spot) → Has (next_spots files spot) t → Has set t) → LeadsTo files spot other → IsOnCycle files other → ⊥
-  settles set a spot other all (at_once f t h) on = a t (all t h) (t, (on, on))
-  settles set a spot other all (onward f m t h l) on = a m (all m h) (t, (l, on))
-
-  settled_by : (set : List Spot) (spot t : Spot) → AreSettled files set → ((u : Spot) → Has (next_spots files spot) u → Has set u) → Has set t ⊎ Has (spot ∷ []) t → LeadsIntoCycle files t → ⊥
-  settled_by set spot t a all (inl h) l = a t h l
-  settled_by set spot t a all (inr (inl e)) l = let m = subst (λ (u : Spot). LeadsIntoCycle files u) e l in settles set a spot m.0 all (m.1).0 (m.1).1
-  settled_by set spot t a all (inr (inr h)) l = h
-
-  pub settled_more : (set new next empty : List Spot) (spot : Spot) (all : Bool) → new ≡ with_spot set spot → all ≡ true → empty ≡ [] → next ≡ with_all empty (next_spots files spot) → AreSettled files set → AreAmong next set all → AreSettled files new
-  settled_more set new next empty spot all n e f m a among t h l =
-      let every : AreAmong next set true = subst (λ (b : Bool). AreAmong next set b) e among in
-      let there : Has (with_all set (spot ∷ [])) t = subst (λ (xs : List Spot). Has xs t) n h in
-      let led : (u : Spot) → Has (next_spots files spot) u → Has set u = λ u g. every u (subst (λ (xs : List Spot). Has xs u) (sym m) (added empty (next_spots files spot) u g)) in
-      settled_by set spot t a led (from_all set (spot ∷ []) t there) l
 
   -- a walk along a list that has found each so far
   pub each_more : (next set : List Spot) (i : ℕ) (spot : Spot) → slice_get next i ≡ Some spot → is_among spot set ≡ true → ((k : ℕ) (s : Spot) → k < i → slice_get next k ≡ Some s → Has set s) →

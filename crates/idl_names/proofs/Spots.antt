@@ -1,5 +1,5 @@
 -- Lists of spots that grow, each spot once.
-use Rattle.std.proofs.Common.{◌≡◌, ◌⊎◌, inl, inr, ℕ, zero, suc, ◌<◌, List, [], ◌∷◌, ◌++◌, refl, ap, sym, ◌∙◌, arith, subst, Bool, true, false, cond, slice_get, Option, Some, None, nat_eq}
+use Rattle.std.proofs.Common.{◌≡◌, ◌⊎◌, inl, inr, ℕ, zero, suc, ◌+◌, ◌<◌, List, [], ◌∷◌, ◌++◌, take, add-one, refl, ap, sym, ◌∙◌, arith, subst, Bool, true, false, cond, slice_get, Option, Some, None, nat_eq}
 use Rattle.std.specs.Prelude.{◌||◌, ◌&&◌}
 use Rattle.std.proofs.lemmas.Bool.{eqb-true, eq-eqb}
 use Rattle.idl_names.specs.declared.documents.Spot.{Spot}
@@ -153,3 +153,21 @@ get_back xs ss k i t e h = by (slice_get xs k) refl
     by : (o : Option Spot) → slice_get xs k ≡ o → slice_get (with_all xs ss) k ≡ o
     by None f = let less = below_end xs i k t e f in absurd (omega arith)
     by (Some s) f = get_kept xs ss k s f
+
+-- one more of those that are put in
+with_next : (old xs : List Spot) (i : ℕ) (spot : Spot) → slice_get xs i ≡ Some spot → with_all old (take (suc i) xs) ≡ with_spot (with_all old (take i xs)) spot
+with_next old [] i spot e = absurd (let no : ⊥ = cc in no)
+with_next old (x ∷ xs) zero spot e = ap (with_spot old) (let same : x ≡ spot = cc in same)
+with_next old (x ∷ xs) (suc i) spot e = with_next (with_spot old x) xs i spot e
+
+pub with_more : (old xs : List Spot) (i : ℕ) (spot : Spot) → slice_get xs i ≡ Some spot → with_all old (take (i + 1) xs) ≡ with_spot (with_all old (take i xs)) spot
+with_more old xs i spot e = ap (λ (n : ℕ). with_all old (take n xs)) (add-one i) ∙ with_next old xs i spot e
+
+all_taken : (xs : List Spot) (i : ℕ) → slice_get xs i ≡ None → take i xs ≡ xs
+all_taken [] zero e = refl
+all_taken [] (suc i) e = refl
+all_taken (x ∷ xs) zero e = absurd (let no : ⊥ = cc in no)
+all_taken (x ∷ xs) (suc i) e = ap (λ (ys : List Spot). x ∷ ys) (all_taken xs i e)
+
+pub with_end : (old xs : List Spot) (i : ℕ) → slice_get xs i ≡ None → with_all old (take i xs) ≡ with_all old xs
+with_end old xs i e = ap (with_all old) (all_taken xs i e)

@@ -68,12 +68,8 @@ cycle_at told spot = unwrap_or (option_and_then (λ row. slice_get row spot.defi
 
 -- whether each of these is among the others
 abbrev pub AreAmong : List Spot → List Spot → Bool → Type 0
-AreAmong spots others false = Unit {0}
 AreAmong spots others true = (spot : Spot) → Has spots spot → Has others spot
-
--- none of these leads into a cycle
-abbrev pub AreSettled : List FileTree → List Spot → Type 0
-AreSettled files spots = (spot : Spot) → Has spots spot → LeadsIntoCycle files spot → ⊥
+AreAmong spots others false = (spot : Spot) × (Has spots spot × (Has others spot → ⊥))
 
 -- what is told of each definition of one file
 abbrev pub RowTells : List FileTree → ℕ → ℕ → List Cycle → Type 0

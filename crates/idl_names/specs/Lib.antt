@@ -2,6 +2,7 @@
 pub mod Cycles
 pub mod Files
 pub mod Index
+pub mod Marks
 pub mod Meaning
 pub mod Paths
 pub mod Places

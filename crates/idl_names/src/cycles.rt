@@ -1,12 +1,14 @@
 //! Typedefs and services that lead round.
 ghost use Rattle.std.specs.Prelude.{◌≡◌, ◌<◌, ◌^◌, IfOk, length, slice_get, unwrap_or};
-ghost use Rattle.idl_names.specs.Cycles.{AreSettled, IsTold, RowTells, TellsAny, TellsCycles, cycle_at, is_absent, is_on};
+ghost use Rattle.idl_names.specs.Cycles.{IsTold, RowTells, TellsAny, TellsCycles, cycle_at, is_absent, is_on};
 ghost use Rattle.idl_names.specs.Files.{file_trees};
+ghost use Rattle.idl_names.specs.Marks.{AreMarked};
 
 use crate::documents::Spot;
 use crate::leading::reached;
+use crate::marking::marked;
+use crate::marks::Marks;
 use crate::names::Names;
-use crate::settled::settled;
 use crate::spot_set::SpotSet;
 use gate_io::OutOfMemory;
 use std::alloc::Global;
@@ -61,11 +63,11 @@ impl Cycles {
     pub fn find(alloc: Global, names: &Names<'_>) -> Result<Cycles, OutOfMemory>
         ensures { IfOk result (λ cycles. TellsCycles (file_trees names.now.files.now) cycles) }
     {
-        let settled = settled(alloc, names)?;
+        let marks = marked(alloc, names)?;
         let mut rows = Vec::new(alloc);
         for (place, file) in names.files.iter().enumerate() {
             let count = file.document.definitions.as_slice().len();
-            let row = row_of(alloc, names, &settled, place as u32, count)?;
+            let row = row_of(alloc, names, &marks, place as u32, count)?;
             rows.push(row)?;
         }
         Ok(Cycles { rows })
@@ -118,12 +120,12 @@ impl Cycle {
 fn row_of(
     alloc: Global,
     names: &Names<'_>,
-    settled: &SpotSet,
+    marks: &Marks,
     file: u32,
     count: usize,
 ) -> Result<CycleRow, OutOfMemory>
     requires few { count < 2 ^ 32 }
-    requires settled { AreSettled (file_trees names.now.files.now) settled.now }
+    requires marked { AreMarked (file_trees names.now.files.now) marks.now }
     ensures { IfOk result (λ row. RowTells (file_trees names.now.files.now) file count row) }
 {
     let mut list = Vec::new(alloc);
@@ -132,7 +134,7 @@ fn row_of(
             file,
             definition: place as u32,
         };
-        let cycle = cycle_of(alloc, names, settled, spot)?;
+        let cycle = cycle_of(alloc, names, marks, spot)?;
         list.push(cycle)?;
     }
     Ok(CycleRow { list })
@@ -141,19 +143,25 @@ fn row_of(
 fn cycle_of(
     alloc: Global,
     names: &Names<'_>,
-    settled: &SpotSet,
+    marks: &Marks,
     spot: Spot,
 ) -> Result<Cycle, OutOfMemory>
-    requires { AreSettled (file_trees names.now.files.now) settled.now }
+    requires { AreMarked (file_trees names.now.files.now) marks.now }
     ensures { IfOk result (λ cycle. IsTold (file_trees names.now.files.now) spot cycle) }
 {
-    if settled.contains(spot) {
+    if marks.absent.contains(spot) {
         return Ok(Cycle::Absent);
+    }
+    if marks.ahead.contains(spot) {
+        return Ok(Cycle::Ahead);
+    }
+    if marks.on.contains(spot) {
+        return Ok(Cycle::On);
     }
     walked(alloc, names, spot)
 }
 
-// The answer of a walk along all that a definition leads to.
+// The answer of a walk along all that a definition leads to, where it has no mark.
 fn walked(alloc: Global, names: &Names<'_>, spot: Spot) -> Result<Cycle, OutOfMemory>
     ensures { IfOk result (λ cycle. IsTold (file_trees names.now.files.now) spot cycle) }
 {

@@ -1,12 +1,14 @@
 //! What definitions lead to.
-ghost use Rattle.std.specs.Prelude.{◌≡◌, IfOk, OnOk};
+ghost use Rattle.std.specs.Prelude.{◌≡◌, [], IfOk, OnOk};
 ghost use Rattle.idl_parser.specs.Declarations.{definition_tree};
 ghost use Rattle.idl_parser.specs.Trees.{type_tree};
 ghost use Rattle.idl_names.specs.Cycles.{IsReached, base_spots, definition_spots, next_spots, type_spots};
 ghost use Rattle.idl_names.specs.Files.{file_trees};
-ghost use Rattle.idl_names.specs.Sets.{listed_spot, with_all};
+ghost use Rattle.idl_names.specs.Marks.{IsBeyond, fresh_spots};
+ghost use Rattle.idl_names.specs.Sets.{is_among, listed_spot, with_all};
 
 use crate::documents::{Scope, Spot};
+use crate::marks::Marks;
 use crate::names::Names;
 use crate::spot_set::SpotSet;
 use crate::targets::definition_at;
@@ -18,14 +20,58 @@ use std::alloc::Global;
 pub(crate) fn reached(alloc: Global, names: &Names<'_>, from: Spot) -> Result<SpotSet, OutOfMemory>
     ensures { IfOk result (λ set. IsReached (file_trees names.now.files.now) from set) }
 {
+    let marks = Marks::new(alloc);
+    let set = beyond(alloc, names, &marks, from)?;
+    Ok(set)
+}
+
+/// The spots that a definition leads to, in one step or more, but for those behind known ones.
+pub(crate) fn beyond(
+    alloc: Global,
+    names: &Names<'_>,
+    marks: &Marks,
+    from: Spot,
+) -> Result<SpotSet, OutOfMemory>
+    ensures { IfOk result (λ set. IsBeyond (file_trees names.now.files.now) marks.now from set) }
+{
     let mut set = SpotSet::new(alloc);
     add_next(names, from, &mut set)?;
     let mut i = 0;
     'spots: while let Some(spot) = set.get(i) {
-        add_next(names, spot, &mut set)?;
+        add_fresh(names, marks, spot, &mut set)?;
         i += 1;
     }
     Ok(set)
+}
+
+/// Whether a definition leads to another at once.
+pub(crate) fn leads_at_once(
+    alloc: Global,
+    names: &Names<'_>,
+    from: Spot,
+    to: Spot,
+) -> Result<bool, OutOfMemory>
+    ensures { IfOk result (λ leads. leads ≡ is_among to (with_all [] (next_spots (file_trees names.now.files.now) from))) }
+{
+    let mut next = SpotSet::new(alloc);
+    add_next(names, from, &mut next)?;
+    Ok(next.contains(to))
+}
+
+// Adds the spots that a definition leads to at once, unless it is known.
+#[tactic(auto, unfolding(crate::specs::Marks::fresh_spots))]
+fn add_fresh(
+    names: &Names<'_>,
+    marks: &Marks,
+    spot: Spot,
+    set: &mut SpotSet,
+) -> Result<(), OutOfMemory>
+    ensures { OnOk result (set.new ≡ with_all set.old (fresh_spots (file_trees names.now.files.now) marks.now spot)) }
+{
+    if marks.knows(spot) {
+        return Ok(());
+    }
+    add_next(names, spot, set)
 }
 
 /// Adds the spots that a definition leads to at once.

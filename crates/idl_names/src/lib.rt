@@ -9,12 +9,14 @@
 mod cycles;
 mod documents;
 mod leading;
+mod marking;
+mod marks;
 mod meaning;
 mod names;
 mod paths;
 mod places;
 mod refusals;
-mod settled;
+mod sources;
 mod spot_set;
 mod targets;
 
@@ -22,6 +24,6 @@ pub use cycles::{Cycle, Cycles};
 pub use documents::{Documents, FileDoc, Scope, Spot};
 pub use meaning::look_up;
 pub use names::Names;
-pub use paths::base_name;
+pub use paths::{base_name, last_place};
 pub use refusals::check_names;
 pub use targets::{Target, definition_at, resolve_type};

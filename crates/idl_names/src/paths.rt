@@ -3,7 +3,7 @@ ghost use Rattle.std.specs.Prelude.{◌≡◌, ◌<◌, length, IfSome, option_c
 ghost use Rattle.idl_names.specs.Paths.{base_by, base_name, before, is_dots, last_place, last_segment};
 
 /// The place of the last of these bytes.
-pub(crate) fn last_place(bytes: &[u8], mark: u8) -> Option<usize>
+pub fn last_place(bytes: &[u8], mark: u8) -> Option<usize>
     ensures place { result ≡ last_place mark bytes.now }
     ensures within { IfSome result (λ place. place < length bytes.now) }
 {

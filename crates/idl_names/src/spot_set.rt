@@ -1,6 +1,6 @@
 //! Spots, each once.
 ghost use Rattle.std.specs.Prelude.{◌≡◌, ◌<◌, ◌^◌, [], OnOk, IfSome, length, slice_get};
-ghost use Rattle.idl_names.specs.Sets.{is_among, with_spot};
+ghost use Rattle.idl_names.specs.Sets.{is_among, with_all, with_spot};
 
 use crate::documents::Spot;
 use gate_io::OutOfMemory;
@@ -39,6 +39,18 @@ impl SpotSet {
         ensures { OnOk result (self.new ≡ with_spot self.old spot) }
     {
         self.spots.insert(spot)?;
+        Ok(())
+    }
+
+    /// Puts several spots last, each unless it is there.
+    pub(crate) fn insert_all(&mut self, others: &SpotSet) -> Result<(), OutOfMemory>
+        ensures { OnOk result (self.new ≡ with_all self.old others.now) }
+    {
+        let mut i = 0;
+        'spots: while let Some(spot) = others.get(i) {
+            self.insert(spot)?;
+            i += 1;
+        }
         Ok(())
     }
 

@@ -1,14 +1,12 @@
-use Rattle.std.proofs.Common.{◌∙◌, sym}
+use Rattle.std.proofs.Common.{subst}
+use Rattle.idl_names.specs.declared.marks.Marks.{Marks}
 use Rattle.idl_names.specs.Files.{file_trees}
-use Rattle.idl_names.proofs.Reaching.{reaching_first, reaching_more, all_reached}
+use Rattle.idl_names.specs.Marks.{IsBeyond}
+use Rattle.idl_names.proofs.Reaching.{all_reached}
 use Rattle.idl_names.proofs.leading.reached.Goals as goal
 
-pub spots-init : goal.spots-init
-spots-init c = reaching_first (file_trees c.args.names.now.files.now) c.args.from c.new-set.result c.add_next.new.set c.new-set.ensures c.in_ok-add_next.ensures
-
-pub spots-preserved : goal.spots-preserved
-spots-preserved c =
-    reaching_more (file_trees c.args.names.now.files.now) c.args.from c.spots.set c.add_next-in-Some.new.set c.spots.i c.in-Some.spot (sym c.in-Some.ensures.value) c.in_ok-add_next-2.ensures c.spots.invariant
-
 pub returns : goal.returns
-returns c = all_reached (file_trees c.args.names.now.files.now) c.args.from c.spots.set c.spots.i (sym c.get.ensures.value ∙ c.in_default.is) c.spots.invariant
+returns c =
+    let files = file_trees c.args.names.now.files.now in
+    let set = c.in_ok-set.set in
+    all_reached files c.args.from set (subst (λ (m : Marks). IsBeyond files m c.args.from set) c.new-marks.ensures c.in_ok-set.ensures)

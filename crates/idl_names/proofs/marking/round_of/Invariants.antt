@@ -1,10 +1,10 @@
 use Rattle.std.proofs.Common.{◌-◌, ◌^◌}
 use Rattle.idl_names.specs.Files.{file_trees}
-use Rattle.idl_names.proofs.Reaching.{IsReaching}
-use Rattle.idl_names.proofs.leading.reached.Given as goal
+use Rattle.idl_names.specs.Marks.{IsRound}
+use Rattle.idl_names.proofs.marking.round_of.Given as goal
 
 abbrev pub invariant-spots : goal.invariant-spots
-invariant-spots l = IsReaching (file_trees l.names.files.now) l.fn.from l.set l.i
+invariant-spots l = IsRound (file_trees l.names.files.now) l.fn.from l.set l.round
 
 abbrev pub decreases-spots : goal.decreases-spots
 decreases-spots l = 2 ^ 63 - l.i

@@ -1,7 +1,7 @@
 use Rattle.std.proofs.Common.{◌≡◌, ◌<◌, ◌-◌, ◌^◌, ℕ, slice_get, Some}
 use Rattle.idl_names.specs.declared.documents.Spot.{Spot}
 use Rattle.idl_names.specs.Sets.{Has}
-use Rattle.idl_names.proofs.settled.are_among.Given as goal
+use Rattle.idl_names.proofs.marking.are_among.Given as goal
 
 abbrev pub invariant-spots : goal.invariant-spots
 invariant-spots l = (k : ℕ) (s : Spot) → k < l.i → slice_get l.spots k ≡ Some s → Has l.others s
