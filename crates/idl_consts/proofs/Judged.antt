@@ -9,7 +9,7 @@ use Rattle.idl_consts.specs.declared.row.ConstRow.{ConstRow}
 use Rattle.idl_consts.specs.declared.survey.Stand.{Stand}
 use Rattle.idl_consts.specs.Course.{Course}
 use Rattle.idl_consts.specs.Following.{Fault, IsFirst, IsFree, IsWrong}
-use Rattle.idl_consts.specs.Meant.{all_definitions, meant_at}
+use Rattle.idl_consts.specs.Meant.{meant_at}
 use Rattle.idl_consts.specs.Pieces.{chained}
 use Rattle.idl_consts.specs.Told.{Asked, Told, IsLeast, IsTold, told_by, lesser, all_values, IsReady}
 
@@ -42,20 +42,6 @@ pub name_wrong : (d : List FileTree) (ss : List Stand) (i : ℕ) (s : Stand) (k 
     → IsWrong d s.constant (meant_at d s.ty) row → IsFirst d (chained d (drop i ss) k) (Some (s.at, row))
 name_wrong d ss i s k row h is wrong =
     subst (λ (left : List Stand). IsFirst d (chained d left k) (Some (s.at, row))) (sym (drop_at ss i s h is)) (inr (row, wrong, refl))
-
--- all definitions are fewer than the places that there are for them
-pub few_definitions : (d : List FileTree) → HasFewDefinitions d → all_definitions d ≤ 2 ^ 32 * length d
-few_definitions [] few = omega arith
-few_definitions (f ∷ fs) few = let first : length f.document.definitions < 2 ^ 32 = few 0 f (omega arith) in omega (arith, first, few_definitions fs (λ k x h. few (suc k) x (omega arith)))
-
-pub total_fits : (files : List FileDoc) (i total : ℕ) (f : FileDoc) → IsReady (file_trees files) → i < length files → f ≡ get_or files i f
-    → total + all_definitions (file_trees (drop i files)) ≡ all_definitions (file_trees files) → total + length f.document.definitions < 2 ^ 64
-total_fits files i total f ready h is e =
-    let front = ap (λ (fs : List FileDoc). all_definitions (file_trees fs)) (drop_at files i f h is) in
-    let same : length (map definition_tree f.document.definitions) ≡ length f.document.definitions = simp length-map in
-    let few = few_definitions (file_trees files) ready.few in
-    let count = ready.files in
-    omega (arith, front, same, few, count, e)
 
 -- a file is a tree of the documents
 next_file : (files : List FileDoc) (i : ℕ) (f : FileDoc) → i < length files → f ≡ get_or files i f → drop i (file_trees files) ≡ file_tree f ∷ drop (i + 1) (file_trees files)

@@ -5,3 +5,4 @@ mod Trailing
 mod Judged
 mod Kept
 mod Once
+mod Landing

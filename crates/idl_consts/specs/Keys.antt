@@ -9,12 +9,13 @@ use Rattle.idl_names.specs.declared.documents.Scope.TheVariants as scopes
 use Rattle.idl_names.specs.declared.documents.Spot.{Spot}
 use Rattle.idl_names.specs.Files.{FileTree}
 use Rattle.idl_names.specs.Meaning.{meaning}
+use Rattle.idl_names.specs.Targets.{definition_count}
 use Rattle.idl_consts.specs.declared.keys.Written.{Written}
 use Rattle.idl_consts.specs.declared.keys.Written.TheVariants as written
 use Rattle.idl_consts.specs.declared.row.ConstRow.{ConstRow}
 use Rattle.idl_consts.specs.declared.row.ConstRow.TheVariants as rows
 use Rattle.idl_consts.specs.Fitting.{any_member, is_truth}
-use Rattle.idl_consts.specs.Meant.{Meant, all_definitions, definition_of, type_of}
+use Rattle.idl_consts.specs.Meant.{Meant, definition_of, type_of}
 
 abbrev pub fields_in : Option DefinitionTree → List FieldTree
 fields_in (Some (struct_of kin name fields)) = fields
@@ -65,7 +66,7 @@ key_by_member (Some found) = Err rows.WrongForm
 key_by_member None = Err rows.UnknownConstant
 
 abbrev pub key_by_constant : List FileTree → Spot → Option Spot → Result Meant ConstRow → Result Meant ConstRow
-key_by_constant d s (Some spot) other = key_by_text d s (literal_at d (all_definitions d) spot)
+key_by_constant d s (Some spot) other = key_by_text d s (literal_at d (definition_count d) spot)
 key_by_constant d s None other = other
 
 -- a name stands for its constant's literal

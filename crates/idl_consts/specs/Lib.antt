@@ -9,3 +9,4 @@ pub mod Following
 pub mod Told
 pub mod Trails
 pub mod Knowing
+pub mod Views

@@ -1,5 +1,5 @@
 -- What a written type means: typedefs stand for their targets, and the names of enums and structs for these.
-use Rattle.std.specs.Prelude.{ℕ, zero, suc, ◌+◌, ◌<◌, List, [], ◌∷◌, length, Option, Some, None, slice_get, option_and_then}
+use Rattle.std.specs.Prelude.{ℕ, zero, suc, ◌<◌, List, Option, Some, None, slice_get, option_and_then}
 use Rattle.idl_parser.specs.declared.document.BaseWord.{BaseWord}
 use Rattle.idl_parser.specs.Declarations.{DefinitionTree, typedef_of, enum_of, struct_of}
 use Rattle.idl_parser.specs.Trees.{TypeTree, base_at, named_at, map_at, set_at, list_at, type_tree}
@@ -7,6 +7,7 @@ use Rattle.idl_names.specs.declared.documents.Scope.TheVariants as scopes
 use Rattle.idl_names.specs.declared.documents.Spot.{Spot}
 use Rattle.idl_names.specs.Files.{FileTree}
 use Rattle.idl_names.specs.Meaning.{meaning}
+use Rattle.idl_names.specs.Targets.{definition_count}
 use Rattle.idl_consts.specs.declared.types.TypeRef.{TypeRef}
 use Rattle.idl_consts.specs.declared.types.Shape.{Shape}
 use Rattle.idl_consts.specs.declared.types.Shape.TheVariants as shapes
@@ -49,14 +50,9 @@ abbrev pub named_type : List FileTree → ℕ → ℕ → List ℕ → Meant
 named_type d zero file word = unknown
 named_type d (suc left) file word = spot_type d (named_type d left) (meaning d file scopes.Types word)
 
--- no chain of typedefs that ends is longer than all definitions together
-abbrev pub all_definitions : List FileTree → ℕ
-all_definitions [] = 0
-all_definitions (f ∷ fs) = length f.document.definitions + all_definitions fs
-
--- the type that is written in a file
+-- the type that is written in a file; no chain of typedefs that ends is longer than all definitions together
 abbrev pub type_of : List FileTree → ℕ → TypeTree → Meant
-type_of d file ty = type_by (named_type d (all_definitions d)) file ty
+type_of d file ty = type_by (named_type d (definition_count d)) file ty
 
 -- the type that a reference leads to
 abbrev pub meant_at : List FileTree → TypeRef → Meant

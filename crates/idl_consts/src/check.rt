@@ -5,21 +5,22 @@ ghost use Rattle.idl_parser.specs.Fields.{field_trees};
 ghost use Rattle.idl_parser.specs.Items.{items_of_value};
 ghost use Rattle.idl_parser.specs.Trees.{type_tree};
 ghost use Rattle.idl_names.specs.Files.{file_trees};
-ghost use Rattle.idl_names.specs.Meaning.{HasFewDefinitions};
 ghost use Rattle.idl_consts.specs.Course.{course};
 ghost use Rattle.idl_consts.specs.Following.{IsFirst};
 ghost use Rattle.idl_consts.specs.Knowing.{IsSound};
-ghost use Rattle.idl_consts.specs.Meant.{all_definitions, type_of};
+ghost use Rattle.idl_consts.specs.Meant.{type_of};
 ghost use Rattle.idl_consts.specs.Pieces.{chained, ending};
 ghost use Rattle.idl_consts.specs.Told.{lesser, is_before, presets, preset_by, function_values, definition_values, all_values, IsLeast, IsReady, Answers};
+ghost use Rattle.idl_consts.specs.Views.{files_of};
 
 use crate::follow::name_row;
 use crate::knowing::Known;
 use crate::row::{ConstError, ConstFault, ConstRow};
 use crate::survey::{Stand, survey_value};
 use crate::types::TypeRef;
+use crate::view::View;
 use gate_io::{OutOfMemory, Text};
-use idl_names::{Documents, FileDoc};
+use idl_names::{Documents, FileDoc, Names};
 use idl_parser::{Definition, FieldDecl, Function, TypeExpr, ValueExpr};
 use std::alloc::Global;
 
@@ -35,18 +36,19 @@ pub fn check_documents(alloc: Global, documents: &Documents) -> Result<(), Const
     requires { IsReady (file_trees documents.now) }
     ensures { Answers (file_trees documents.now) result }
 {
-    let files = documents.as_slice();
-    let limit = all_definitions(files);
-    let mut known = Known::new(alloc, files, limit)?;
+    let names = Names::build(alloc, documents)?;
+    let view = View::new(alloc, &names)?;
+    check_files(alloc, &view)
+}
+
+fn check_files(alloc: Global, view: &View<'_, '_>) -> Result<(), ConstError>
+    requires { IsReady (files_of view.now) }
+    ensures { Answers (files_of view.now) result }
+{
+    let files = view.names.files;
+    let mut known = Known::new(alloc, files, view.names.definition_count())?;
     for (place, file) in files.iter().enumerate() {
-        if let Some((offset, row)) = file_fault(
-            alloc,
-            documents,
-            limit,
-            &mut known,
-            place as u32,
-            file,
-        )? {
+        if let Some((offset, row)) = file_fault(alloc, view, &mut known, place as u32, file)? {
             return Err(ConstError::Idl(ConstFault {
                 file: Text::new(alloc, file.name.as_slice())?,
                 offset,
@@ -57,81 +59,47 @@ pub fn check_documents(alloc: Global, documents: &Documents) -> Result<(), Const
     Ok(())
 }
 
-/// How many definitions all files have.
-fn all_definitions(files: &[FileDoc]) -> usize
-    requires { IsReady (file_trees files.now) }
-    ensures { result ≡ all_definitions (file_trees files.now) }
-{
-    let mut total = 0;
-    for file in files {
-        total += file.document.definitions.as_slice().len();
-    }
-    total
-}
-
 /// The fault that is told of a file.
 fn file_fault<'d>(
     alloc: Global,
-    documents: &'d Documents,
-    limit: usize,
+    view: &View<'_, 'd>,
     known: &mut Known,
     place: u32,
     file: &'d FileDoc,
 ) -> Result<Option<Fault>, OutOfMemory>
-    requires few { HasFewDefinitions (file_trees documents.now) }
-    requires all { limit ≡ all_definitions (file_trees documents.now) }
-    requires known { IsSound (file_trees documents.now) known.old }
-    ensures told { IfOk result (λ told. IsLeast (file_trees documents.now) place None (all_values (definition_trees file.now.document.definitions)) told) }
-    ensures known { IsSound (file_trees documents.now) known.new }
+    requires known { IsSound (files_of view.now) known.old }
+    ensures told { IfOk result (λ told. IsLeast (files_of view.now) place None (all_values (definition_trees file.now.document.definitions)) told) }
+    ensures known { IsSound (files_of view.now) known.new }
 {
     let mut least = None;
     for definition in file.document.definitions.as_slice() {
-        least = definition_fault(alloc, documents, limit, known, place, definition, least)?;
+        least = definition_fault(alloc, view, known, place, definition, least)?;
     }
     Ok(least)
 }
 
 fn definition_fault<'d>(
     alloc: Global,
-    documents: &'d Documents,
-    limit: usize,
+    view: &View<'_, 'd>,
     known: &mut Known,
     place: u32,
     definition: &'d Definition,
     before: Option<Fault>,
 ) -> Result<Option<Fault>, OutOfMemory>
-    requires few { HasFewDefinitions (file_trees documents.now) }
-    requires all { limit ≡ all_definitions (file_trees documents.now) }
-    requires known { IsSound (file_trees documents.now) known.old }
-    ensures told { IfOk result (λ told. IsLeast (file_trees documents.now) place before (definition_values (definition_tree definition.now)) told) }
-    ensures known { IsSound (file_trees documents.now) known.new }
+    requires known { IsSound (files_of view.now) known.old }
+    ensures told { IfOk result (λ told. IsLeast (files_of view.now) place before (definition_values (definition_tree definition.now)) told) }
+    ensures known { IsSound (files_of view.now) known.new }
 {
     match definition {
         Definition::Const(_, ty, value) => {
-            let first = value_fault(alloc, documents, limit, known, place, ty, value)?;
+            let first = value_fault(alloc, view, known, place, ty, value)?;
             Ok(lesser(before, first))
         }
         Definition::Struct(_, _, fields) => {
-            presets_fault(
-                alloc,
-                documents,
-                limit,
-                known,
-                place,
-                fields.as_slice(),
-                before,
-            )
+            presets_fault(alloc, view, known, place, fields.as_slice(), before)
         }
         Definition::Service(_, _, functions) => {
-            functions_fault(
-                alloc,
-                documents,
-                limit,
-                known,
-                place,
-                functions.as_slice(),
-                before,
-            )
+            functions_fault(alloc, view, known, place, functions.as_slice(), before)
         }
         Definition::Typedef(_, _) | Definition::Enum(_, _) => Ok(before),
     }
@@ -139,83 +107,58 @@ fn definition_fault<'d>(
 
 fn functions_fault<'d>(
     alloc: Global,
-    documents: &'d Documents,
-    limit: usize,
+    view: &View<'_, 'd>,
     known: &mut Known,
     place: u32,
     functions: &'d [Function],
     before: Option<Fault>,
 ) -> Result<Option<Fault>, OutOfMemory>
-    requires few { HasFewDefinitions (file_trees documents.now) }
-    requires all { limit ≡ all_definitions (file_trees documents.now) }
-    requires known { IsSound (file_trees documents.now) known.old }
-    ensures told { IfOk result (λ told. IsLeast (file_trees documents.now) place before (function_values (function_trees functions.now)) told) }
-    ensures known { IsSound (file_trees documents.now) known.new }
+    requires known { IsSound (files_of view.now) known.old }
+    ensures told { IfOk result (λ told. IsLeast (files_of view.now) place before (function_values (function_trees functions.now)) told) }
+    ensures known { IsSound (files_of view.now) known.new }
 {
     let mut least = before;
     for function in functions {
-        let args = presets_fault(
-            alloc,
-            documents,
-            limit,
-            known,
-            place,
-            function.args.as_slice(),
-            least,
-        )?;
-        least = presets_fault(
-            alloc,
-            documents,
-            limit,
-            known,
-            place,
-            function.throws.as_slice(),
-            args,
-        )?;
+        let args = presets_fault(alloc, view, known, place, function.args.as_slice(), least)?;
+        least = presets_fault(alloc, view, known, place, function.throws.as_slice(), args)?;
     }
     Ok(least)
 }
 
 fn presets_fault<'d>(
     alloc: Global,
-    documents: &'d Documents,
-    limit: usize,
+    view: &View<'_, 'd>,
     known: &mut Known,
     place: u32,
     fields: &'d [FieldDecl],
     before: Option<Fault>,
 ) -> Result<Option<Fault>, OutOfMemory>
-    requires few { HasFewDefinitions (file_trees documents.now) }
-    requires all { limit ≡ all_definitions (file_trees documents.now) }
-    requires known { IsSound (file_trees documents.now) known.old }
-    ensures told { IfOk result (λ told. IsLeast (file_trees documents.now) place before (presets (field_trees fields.now)) told) }
-    ensures known { IsSound (file_trees documents.now) known.new }
+    requires known { IsSound (files_of view.now) known.old }
+    ensures told { IfOk result (λ told. IsLeast (files_of view.now) place before (presets (field_trees fields.now)) told) }
+    ensures known { IsSound (files_of view.now) known.new }
 {
     let mut least = before;
     for field in fields {
-        least = preset_fault(alloc, documents, limit, known, place, field, least)?;
+        least = preset_fault(alloc, view, known, place, field, least)?;
     }
     Ok(least)
 }
 
 fn preset_fault<'d>(
     alloc: Global,
-    documents: &'d Documents,
-    limit: usize,
+    view: &View<'_, 'd>,
     known: &mut Known,
     place: u32,
     field: &'d FieldDecl,
     before: Option<Fault>,
 ) -> Result<Option<Fault>, OutOfMemory>
-    requires few { HasFewDefinitions (file_trees documents.now) }
-    requires all { limit ≡ all_definitions (file_trees documents.now) }
-    requires known { IsSound (file_trees documents.now) known.old }
-    ensures told { IfOk result (λ told. IsLeast (file_trees documents.now) place before (preset_by (type_tree field.now.ty) (option_map items_of_value field.now.preset)) told) }
-    ensures known { IsSound (file_trees documents.now) known.new }
+    requires known { IsSound (files_of view.now) known.old }
+    ensures told { IfOk result (λ told. IsLeast (files_of view.now) place before (preset_by (type_tree field.now.ty) (option_map items_of_value field.now.preset)) told) }
+    ensures known { IsSound (files_of view.now) known.new }
 {
     match &field.preset {
         Some(value) => {
-            let first = value_fault(alloc, documents, limit, known, place, &field.ty, value)?;
+            let first = value_fault(alloc, view, known, place, &field.ty, value)?;
             Ok(lesser(before, first))
         }
         None => Ok(before),
@@ -225,52 +168,39 @@ fn preset_fault<'d>(
 /// The first fault of a value that is written in a file for this type.
 fn value_fault<'d>(
     alloc: Global,
-    documents: &'d Documents,
-    limit: usize,
+    view: &View<'_, 'd>,
     known: &mut Known,
     place: u32,
     ty: &'d TypeExpr,
     value: &'d ValueExpr,
 ) -> Result<Option<Fault>, OutOfMemory>
-    requires few { HasFewDefinitions (file_trees documents.now) }
-    requires all { limit ≡ all_definitions (file_trees documents.now) }
-    requires known { IsSound (file_trees documents.now) known.old }
-    ensures told { IfOk result (λ told. IsFirst (file_trees documents.now) (course (file_trees documents.now) place (type_of (file_trees documents.now) place (type_tree ty.now)) (items_of_value value.now)) told) }
-    ensures known { IsSound (file_trees documents.now) known.new }
+    requires known { IsSound (files_of view.now) known.old }
+    ensures told { IfOk result (λ told. IsFirst (files_of view.now) (course (files_of view.now) place (type_of (files_of view.now) place (type_tree ty.now)) (items_of_value value.now)) told) }
+    ensures known { IsSound (files_of view.now) known.new }
 {
     let written = TypeRef {
         file: place,
         ty,
-        left: limit,
+        left: view.names.definition_count(),
     };
-    let survey = survey_value(alloc, documents, limit, place, written, value)?;
-    names_fault(
-        alloc,
-        documents,
-        limit,
-        known,
-        survey.stands.as_slice(),
-        survey.fault,
-    )
+    let survey = survey_value(alloc, view, place, written, value)?;
+    names_fault(alloc, view, known, survey.stands.as_slice(), survey.fault)
 }
 
 /// The first of the names through which something is refused, or the fault that stands behind them.
 fn names_fault<'d>(
     alloc: Global,
-    documents: &'d Documents,
-    limit: usize,
+    view: &View<'_, 'd>,
     known: &mut Known,
     names: &[Stand<'d>],
     fault: Option<Fault>,
 ) -> Result<Option<Fault>, OutOfMemory>
-    requires few { HasFewDefinitions (file_trees documents.now) }
-    requires all { limit ≡ all_definitions (file_trees documents.now) }
-    requires known { IsSound (file_trees documents.now) known.old }
-    ensures told { IfOk result (λ told. IsFirst (file_trees documents.now) (chained (file_trees documents.now) names.now (ending fault)) told) }
-    ensures known { IsSound (file_trees documents.now) known.new }
+    requires known { IsSound (files_of view.now) known.old }
+    ensures told { IfOk result (λ told. IsFirst (files_of view.now) (chained (files_of view.now) names.now (ending fault)) told) }
+    ensures known { IsSound (files_of view.now) known.new }
 {
     for name in names {
-        if let Some(row) = name_row(alloc, documents, limit, known, *name)? {
+        if let Some(row) = name_row(alloc, view, known, *name)? {
             return Ok(Some((name.at, row)));
         }
     }

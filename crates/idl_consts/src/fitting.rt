@@ -1,16 +1,17 @@
 //! What may stand where a value of a type is asked for.
 ghost use Rattle.std.specs.Prelude.{◌≡◌, ℤ, List, if◌then◌else◌};
-ghost use Rattle.idl_names.specs.Files.{FileTree, file_trees};
-ghost use Rattle.idl_names.specs.Meaning.{HasFewDefinitions};
+ghost use Rattle.idl_names.specs.Files.{FileTree};
 ghost use Rattle.idl_consts.specs.Fitting.{in_range, integer_answer, number_answer, whole_answer, double_answer, literal_answer, is_hex, fits_letter, fits_template, is_uuid, is_truth, truth_answer, is_own_member, same_spot, member_answer, constant_answer, named_answer};
 ghost use Rattle.idl_consts.specs.Meant.{meant_by};
 ghost use Rattle.idl_consts.specs.declared.fitting.Answer.{Answer};
 ghost use Rattle.idl_consts.specs.declared.row.ConstRow.{ConstRow};
+ghost use Rattle.idl_consts.specs.Views.{files_of};
 
 use crate::members::{any_member, member_of};
 use crate::row::ConstRow;
 use crate::types::Shape;
-use idl_names::{Documents, Scope, Spot, look_up};
+use crate::view::View;
+use idl_names::{Scope, Spot};
 use idl_parser::BaseWord;
 
 /// Whether a value fits, is refused, or is a name that stands for a constant's value.
@@ -141,19 +142,18 @@ fn is_hex(byte: u8) -> bool
 
 /// A name where a value of this shape is asked for: true and false, then a member of the enum that is asked for, then a
 /// constant, then a member of any enum.
-pub fn named_answer(documents: &Documents, file: u32, shape: &Shape<'_>, word: &[u8]) -> Answer
-    requires { HasFewDefinitions (file_trees documents.now) }
-    ensures { result ≡ named_answer (file_trees documents.now) file (meant_by (file_trees documents.now) shape.now) word.now }
+pub fn named_answer(view: &View<'_, '_>, file: u32, shape: &Shape<'_>, word: &[u8]) -> Answer
+    ensures { result ≡ named_answer (files_of view.now) file (meant_by (files_of view.now) shape.now) word.now }
 {
     if is_truth(word) {
         return truth_answer(shape);
     }
-    if is_own_member(documents, shape, word) {
+    if is_own_member(view, shape, word) {
         return Answer::Fits;
     }
-    match look_up(documents, file, Scope::Constants, word) {
+    match view.names.look_up(file, Scope::Constants, word) {
         Some(spot) => Answer::StandsFor(spot),
-        None => member_answer(shape, any_member(documents, file, word)),
+        None => member_answer(shape, any_member(view, file, word)),
     }
 }
 
@@ -173,11 +173,11 @@ fn truth_answer(shape: &Shape<'_>) -> Answer
     }
 }
 
-fn is_own_member(documents: &Documents, shape: &Shape<'_>, word: &[u8]) -> bool
-    ensures { result ≡ is_own_member (file_trees documents.now) (meant_by (file_trees documents.now) shape.now) word.now }
+fn is_own_member(view: &View<'_, '_>, shape: &Shape<'_>, word: &[u8]) -> bool
+    ensures { result ≡ is_own_member (files_of view.now) (meant_by (files_of view.now) shape.now) word.now }
 {
     match shape {
-        Shape::Enum(spot) => member_of(documents, *spot, word).is_some(),
+        Shape::Enum(spot) => member_of(view, *spot, word).is_some(),
         _ => false,
     }
 }

@@ -1,13 +1,13 @@
 //! The names of a value followed to the values of their constants.
 ghost use Rattle.std.specs.Prelude.{◌≡◌, ℕ, List, IfOk, IfSome, IsTrue, Some, option_copied, slice_get};
 ghost use Rattle.idl_names.specs.declared.documents.Spot.{Spot};
-ghost use Rattle.idl_names.specs.Files.{FileTree, file_trees};
-ghost use Rattle.idl_names.specs.Meaning.{HasFewDefinitions};
+ghost use Rattle.idl_names.specs.Files.{FileTree};
 ghost use Rattle.idl_consts.specs.Following.{IsRow, constant_course};
 ghost use Rattle.idl_consts.specs.Knowing.{IsSound};
-ghost use Rattle.idl_consts.specs.Meant.{Meant, all_definitions, meant_at};
+ghost use Rattle.idl_consts.specs.Meant.{Meant, meant_at};
 ghost use Rattle.idl_consts.specs.Pieces.{course_of};
 ghost use Rattle.idl_consts.specs.Trails.{IsFrame, IsTrail, IsAmong, IsNext, IsFollowing, IsLeaving, IsHalted, GoesOn, met, upcoming_fault};
+ghost use Rattle.idl_consts.specs.Views.{files_of};
 
 use crate::fitting::same_spot;
 use crate::knowing::{Known, is_own};
@@ -15,8 +15,9 @@ use crate::row::ConstRow;
 use crate::same::same_ref;
 use crate::survey::{Stand, Survey, survey_value};
 use crate::types::{TypeRef, definition};
+use crate::view::View;
 use gate_io::OutOfMemory;
-use idl_names::{Documents, Spot};
+use idl_names::Spot;
 use idl_parser::Definition;
 use std::alloc::Global;
 use std::mem;
@@ -51,37 +52,27 @@ pub enum Upcoming<'d> {
 /// followed than memory could hold.
 pub fn name_row<'d>(
     alloc: Global,
-    documents: &'d Documents,
-    limit: usize,
+    view: &View<'_, 'd>,
     known: &mut Known,
     name: Stand<'d>,
 ) -> Result<Option<ConstRow>, OutOfMemory>
-    requires few { HasFewDefinitions (file_trees documents.now) }
-    requires all { limit ≡ all_definitions (file_trees documents.now) }
-    requires known { IsSound (file_trees documents.now) known.old }
-    ensures row { IfOk result (λ row. IsRow (file_trees documents.now) name.entry.constant (meant_at (file_trees documents.now) name.entry.ty) row) }
-    ensures known { IsSound (file_trees documents.now) known.new }
+    requires known { IsSound (files_of view.now) known.old }
+    ensures row { IfOk result (λ row. IsRow (files_of view.now) name.entry.constant (meant_at (files_of view.now) name.entry.ty) row) }
+    ensures known { IsSound (files_of view.now) known.new }
 {
-    let mut trail = begin(alloc, documents, limit, name)?;
+    let mut trail = begin(alloc, view, name)?;
     'names: for _ in 0..u64::MAX {
-        if let Some(row) = go_on(alloc, documents, limit, known, &mut trail)? {
-            return Ok(settle(documents, limit, known, &mut trail, name, row));
+        if let Some(row) = go_on(alloc, view, known, &mut trail)? {
+            return Ok(settle(view, known, &mut trail, name, row));
         }
     }
     Err(OutOfMemory)
 }
 
-fn begin<'d>(
-    alloc: Global,
-    documents: &'d Documents,
-    limit: usize,
-    name: Stand<'d>,
-) -> Result<Trail<'d>, OutOfMemory>
-    requires few { HasFewDefinitions (file_trees documents.now) }
-    requires all { limit ≡ all_definitions (file_trees documents.now) }
-    ensures { IfOk result (λ trail. IsTrail (file_trees documents.now) name.entry.constant (meant_at (file_trees documents.now) name.entry.ty) trail) }
+fn begin<'d>(alloc: Global, view: &View<'_, 'd>, name: Stand<'d>) -> Result<Trail<'d>, OutOfMemory>
+    ensures { IfOk result (λ trail. IsTrail (files_of view.now) name.entry.constant (meant_at (files_of view.now) name.entry.ty) trail) }
 {
-    let top = open_frame(alloc, documents, limit, name)?;
+    let top = open_frame(alloc, view, name)?;
     Ok(Trail {
         outer: Vec::new(alloc),
         top,
@@ -91,17 +82,14 @@ fn begin<'d>(
 /// The value of the constant that a name stands for.
 fn open_frame<'d>(
     alloc: Global,
-    documents: &'d Documents,
-    limit: usize,
+    view: &View<'_, 'd>,
     name: Stand<'d>,
 ) -> Result<Frame<'d>, OutOfMemory>
-    requires few { HasFewDefinitions (file_trees documents.now) }
-    requires all { limit ≡ all_definitions (file_trees documents.now) }
-    ensures whole { IfOk result (IsFrame (file_trees documents.now)) }
+    ensures whole { IfOk result (IsFrame (files_of view.now)) }
     ensures constant { IfOk result (λ f. f.constant ≡ name.entry.constant) }
     ensures ty { IfOk result (λ f. f.ty ≡ name.entry.ty) }
 {
-    let survey = constant_survey(alloc, documents, limit, name.constant, name.ty)?;
+    let survey = constant_survey(alloc, view, name.constant, name.ty)?;
     Ok(Frame {
         constant: name.constant,
         ty: name.ty,
@@ -113,18 +101,15 @@ fn open_frame<'d>(
 #[tactic(auto, unfolding(crate::specs::Following::constant_course))]
 fn constant_survey<'d>(
     alloc: Global,
-    documents: &'d Documents,
-    limit: usize,
+    view: &View<'_, 'd>,
     constant: Spot,
     ty: TypeRef<'d>,
 ) -> Result<Survey<'d>, OutOfMemory>
-    requires few { HasFewDefinitions (file_trees documents.now) }
-    requires all { limit ≡ all_definitions (file_trees documents.now) }
-    ensures { IfOk result (λ s. course_of (file_trees documents.now) s ≡ constant_course (file_trees documents.now) constant (meant_at (file_trees documents.now) ty.entry)) }
+    ensures { IfOk result (λ s. course_of (files_of view.now) s ≡ constant_course (files_of view.now) constant (meant_at (files_of view.now) ty.entry)) }
 {
-    match definition(documents, constant) {
+    match definition(view, constant) {
         Some(Definition::Const(_, _, value)) => {
-            survey_value(alloc, documents, limit, constant.file, ty, value)
+            survey_value(alloc, view, constant.file, ty, value)
         }
         _ => Ok(Survey {
             stands: Vec::new(alloc),
@@ -136,23 +121,20 @@ fn constant_survey<'d>(
 /// Goes on by one name, or tells the row of the name at the beginning.
 fn go_on<'d>(
     alloc: Global,
-    documents: &'d Documents,
-    limit: usize,
+    view: &View<'_, 'd>,
     known: &mut Known,
     trail: &mut Trail<'d>,
 ) -> Result<Option<Option<ConstRow>>, OutOfMemory>
-    requires few { HasFewDefinitions (file_trees documents.now) }
-    requires all { limit ≡ all_definitions (file_trees documents.now) }
-    requires known { IsSound (file_trees documents.now) known.old }
-    requires top { IsFrame (file_trees documents.now) trail.old.top }
-    ensures goes { IfOk result (λ done. (s : Spot) → (m : Meant) → IsTrail (file_trees documents.now) s m trail.old → GoesOn (file_trees documents.now) s m done trail.new) }
-    ensures known { IsSound (file_trees documents.now) known.new }
+    requires known { IsSound (files_of view.now) known.old }
+    requires top { IsFrame (files_of view.now) trail.old.top }
+    ensures goes { IfOk result (λ done. (s : Spot) → (m : Meant) → IsTrail (files_of view.now) s m trail.old → GoesOn (files_of view.now) s m done trail.new) }
+    ensures known { IsSound (files_of view.now) known.new }
 {
     match take_next(&mut trail.top) {
-        Upcoming::Name(name) => meet_name(alloc, documents, limit, known, trail, name),
+        Upcoming::Name(name) => meet_name(alloc, view, known, trail, name),
         Upcoming::Fault(_, row) => Ok(Some(Some(row))),
         Upcoming::Nothing => {
-            keep(documents, limit, known, &trail.top, None);
+            keep(view, known, &trail.top, None);
             Ok(leave(trail))
         }
     }
@@ -190,20 +172,17 @@ fn fault_next<'d>(fault: Option<(usize, ConstRow)>) -> Upcoming<'d>
 /// Meets a name that stands in the innermost value: what is known of it, or else it is followed.
 fn meet_name<'d>(
     alloc: Global,
-    documents: &'d Documents,
-    limit: usize,
+    view: &View<'_, 'd>,
     known: &Known,
     trail: &mut Trail<'d>,
     name: Stand<'d>,
 ) -> Result<Option<Option<ConstRow>>, OutOfMemory>
-    requires few { HasFewDefinitions (file_trees documents.now) }
-    requires all { limit ≡ all_definitions (file_trees documents.now) }
-    requires known { IsSound (file_trees documents.now) known.now }
-    ensures { IfOk result (λ done. (s : Spot) → (m : Meant) → IsFollowing (file_trees documents.now) s m trail.old name.entry → GoesOn (file_trees documents.now) s m done trail.new) }
+    requires known { IsSound (files_of view.now) known.now }
+    ensures { IfOk result (λ done. (s : Spot) → (m : Meant) → IsFollowing (files_of view.now) s m trail.old name.entry → GoesOn (files_of view.now) s m done trail.new) }
 {
-    match known_row(documents, limit, known, name) {
+    match known_row(view, known, name) {
         Some(row) => Ok(met(row)),
-        None => follow_name(alloc, documents, limit, trail, name),
+        None => follow_name(alloc, view, trail, name),
     }
 }
 
@@ -219,36 +198,27 @@ fn met(row: Option<ConstRow>) -> Option<Option<ConstRow>>
 /// Follows a name that stands in the innermost value.
 fn follow_name<'d>(
     alloc: Global,
-    documents: &'d Documents,
-    limit: usize,
+    view: &View<'_, 'd>,
     trail: &mut Trail<'d>,
     name: Stand<'d>,
 ) -> Result<Option<Option<ConstRow>>, OutOfMemory>
-    requires few { HasFewDefinitions (file_trees documents.now) }
-    requires all { limit ≡ all_definitions (file_trees documents.now) }
-    ensures { IfOk result (λ done. (s : Spot) → (m : Meant) → IsFollowing (file_trees documents.now) s m trail.old name.entry → GoesOn (file_trees documents.now) s m done trail.new) }
+    ensures { IfOk result (λ done. (s : Spot) → (m : Meant) → IsFollowing (files_of view.now) s m trail.old name.entry → GoesOn (files_of view.now) s m done trail.new) }
 {
     if comes_again(trail, name) {
         return Ok(Some(Some(ConstRow::CycleOfConstants)));
     }
-    let inner = open_frame(alloc, documents, limit, name)?;
+    let inner = open_frame(alloc, view, name)?;
     let waiting = mem::replace(&mut trail.top, inner);
     trail.outer.push(waiting)?;
     Ok(None)
 }
 
 /// What is refused through a name, as far as it is known.
-fn known_row(
-    documents: &Documents,
-    limit: usize,
-    known: &Known,
-    name: Stand<'_>,
-) -> Option<Option<ConstRow>>
-    requires all { limit ≡ all_definitions (file_trees documents.now) }
-    requires known { IsSound (file_trees documents.now) known.now }
-    ensures { IfSome result (IsRow (file_trees documents.now) name.entry.constant (meant_at (file_trees documents.now) name.entry.ty)) }
+fn known_row(view: &View<'_, '_>, known: &Known, name: Stand<'_>) -> Option<Option<ConstRow>>
+    requires known { IsSound (files_of view.now) known.now }
+    ensures { IfSome result (IsRow (files_of view.now) name.entry.constant (meant_at (files_of view.now) name.entry.ty)) }
 {
-    if is_own(documents, limit, name.constant, name.ty) {
+    if is_own(view, name.constant, name.ty) {
         known.get(name.constant)
     } else {
         None
@@ -256,41 +226,32 @@ fn known_row(
 }
 
 /// Keeps what is refused through a constant, where its own type was asked for.
-fn keep(
-    documents: &Documents,
-    limit: usize,
-    known: &mut Known,
-    frame: &Frame<'_>,
-    row: Option<ConstRow>,
-)
-    requires all { limit ≡ all_definitions (file_trees documents.now) }
-    requires known { IsSound (file_trees documents.now) known.old }
-    requires row { IsRow (file_trees documents.now) frame.now.constant (meant_at (file_trees documents.now) frame.now.ty) row }
-    ensures { IsSound (file_trees documents.now) known.new }
+fn keep(view: &View<'_, '_>, known: &mut Known, frame: &Frame<'_>, row: Option<ConstRow>)
+    requires known { IsSound (files_of view.now) known.old }
+    requires row { IsRow (files_of view.now) frame.now.constant (meant_at (files_of view.now) frame.now.ty) row }
+    ensures { IsSound (files_of view.now) known.new }
 {
-    if is_own(documents, limit, frame.constant, frame.ty) {
+    if is_own(view, frame.constant, frame.ty) {
         known.put(frame.constant, row)
     }
 }
 
 /// The row of the name at the beginning. Where something is refused, it is so through each name of the trail.
 fn settle<'d>(
-    documents: &'d Documents,
-    limit: usize,
+    view: &View<'_, 'd>,
     known: &mut Known,
     trail: &mut Trail<'d>,
     name: Stand<'d>,
     row: Option<ConstRow>,
 ) -> Option<ConstRow>
-    requires all { limit ≡ all_definitions (file_trees documents.now) }
-    requires known { IsSound (file_trees documents.now) known.old }
-    requires done { GoesOn (file_trees documents.now) name.constant (meant_at (file_trees documents.now) name.ty) (Some row) trail.old }
-    ensures row { IsRow (file_trees documents.now) name.entry.constant (meant_at (file_trees documents.now) name.entry.ty) result }
-    ensures known { IsSound (file_trees documents.now) known.new }
+    requires known { IsSound (files_of view.now) known.old }
+    requires done { GoesOn (files_of view.now) name.constant (meant_at (files_of view.now) name.ty) (Some row) trail.old }
+    ensures row { IsRow (files_of view.now) name.entry.constant (meant_at (files_of view.now) name.entry.ty) result }
+    ensures known { IsSound (files_of view.now) known.new }
 {
     match row {
         Some(row) => {
-            unwind(documents, limit, known, trail, name, row);
+            unwind(view, known, trail, name, row);
             Some(row)
         }
         None => None,
@@ -299,22 +260,20 @@ fn settle<'d>(
 
 /// Keeps what is refused through each name of a trail.
 fn unwind<'d>(
-    documents: &'d Documents,
-    limit: usize,
+    view: &View<'_, 'd>,
     known: &mut Known,
     trail: &mut Trail<'d>,
     name: Stand<'d>,
     row: ConstRow,
 )
-    requires all { limit ≡ all_definitions (file_trees documents.now) }
-    requires known { IsSound (file_trees documents.now) known.old }
-    requires halted { IsHalted (file_trees documents.now) name.constant (meant_at (file_trees documents.now) name.ty) trail.old row }
-    ensures { IsSound (file_trees documents.now) known.new }
+    requires known { IsSound (files_of view.now) known.old }
+    requires halted { IsHalted (files_of view.now) name.constant (meant_at (files_of view.now) name.ty) trail.old row }
+    ensures { IsSound (files_of view.now) known.new }
 {
-    keep(documents, limit, known, &trail.top, Some(row));
+    keep(view, known, &trail.top, Some(row));
     'frames: while let Some(frame) = trail.outer.pop() {
         trail.top = frame;
-        keep(documents, limit, known, &trail.top, Some(row));
+        keep(view, known, &trail.top, Some(row));
     }
 }
 

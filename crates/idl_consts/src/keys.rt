@@ -4,37 +4,32 @@ ghost use Rattle.idl_parser.specs.Declarations.{definition_tree};
 ghost use Rattle.idl_parser.specs.Fields.{field_trees};
 ghost use Rattle.idl_parser.specs.Items.{items_of_value};
 ghost use Rattle.idl_parser.specs.Trees.{type_tree};
-ghost use Rattle.idl_names.specs.Files.{file_trees};
-ghost use Rattle.idl_names.specs.Meaning.{HasFewDefinitions};
 ghost use Rattle.idl_consts.specs.Keys.{fields_in, field_named, field_type, constant_items, literal_by, spot_literal, named_literal, literal_at, written_literal, key_by_text, key_by_name, key_answer};
-ghost use Rattle.idl_consts.specs.Meant.{all_definitions};
+ghost use Rattle.idl_names.specs.Targets.{definition_count};
 ghost use Rattle.idl_consts.specs.Pieces.{item_of, key_meant};
+ghost use Rattle.idl_consts.specs.Views.{files_of};
 
 use crate::fitting::is_truth;
 use crate::members::any_member;
 use crate::pieces::Piece;
 use crate::row::ConstRow;
 use crate::types::{TypeRef, definition};
-use idl_names::{Documents, Scope, Spot, look_up};
+use crate::view::View;
+use idl_names::{Scope, Spot};
 use idl_parser::{Definition, FieldDecl, TypeExpr, ValueExpr, ValueForm};
 
 /// The type of the field that a key names, in the struct at a spot, or why it names none.
 pub fn key_answer<'d>(
-    documents: &'d Documents,
-    limit: usize,
+    view: &View<'_, 'd>,
     file: u32,
     spot: Spot,
     key: &Piece<'d>,
 ) -> Result<TypeRef<'d>, ConstRow>
-    requires few { HasFewDefinitions (file_trees documents.now) }
-    requires all { limit ≡ all_definitions (file_trees documents.now) }
-    ensures { key_meant (file_trees documents.now) result ≡ key_answer (file_trees documents.now) file spot (item_of key.now) }
+    ensures { key_meant (files_of view.now) result ≡ key_answer (files_of view.now) file spot (item_of key.now) }
 {
     match key {
-        Piece::Literal(_, text) => {
-            field_type(documents, limit, spot, ConstRow::UnknownField, text)
-        }
-        Piece::Named(_, word) => key_by_name(documents, limit, file, spot, word),
+        Piece::Literal(_, text) => { field_type(view, spot, ConstRow::UnknownField, text) }
+        Piece::Named(_, word) => key_by_name(view, file, spot, word),
         _ => Err(ConstRow::WrongForm),
     }
 }
@@ -42,20 +37,18 @@ pub fn key_answer<'d>(
 /// What a field of the struct at a spot is, or the row where there is none of this name.
 #[tactic(auto, unfolding(crate::specs::Keys::field_type))]
 fn field_type<'d>(
-    documents: &'d Documents,
-    limit: usize,
+    view: &View<'_, 'd>,
     spot: Spot,
     row: ConstRow,
     word: &[u8],
 ) -> Result<TypeRef<'d>, ConstRow>
-    requires { limit ≡ all_definitions (file_trees documents.now) }
-    ensures { key_meant (file_trees documents.now) result ≡ field_type (file_trees documents.now) spot row word.now }
+    ensures { key_meant (files_of view.now) result ≡ field_type (files_of view.now) spot row word.now }
 {
-    match field_named(fields_in(definition(documents, spot)), word) {
+    match field_named(fields_in(definition(view, spot)), word) {
         Some(ty) => Ok(TypeRef {
             file: spot.file,
             ty,
-            left: limit,
+            left: view.names.definition_count(),
         }),
         None => Err(row),
     }
@@ -84,44 +77,34 @@ fn field_named<'d>(fields: &'d [FieldDecl], word: &[u8]) -> Option<&'d TypeExpr>
 /// A name stands for its constant's literal.
 #[tactic(auto, unfolding(crate::specs::Keys::key_by_name))]
 fn key_by_name<'d>(
-    documents: &'d Documents,
-    limit: usize,
+    view: &View<'_, 'd>,
     file: u32,
     spot: Spot,
     word: &[u8],
 ) -> Result<TypeRef<'d>, ConstRow>
-    requires few { HasFewDefinitions (file_trees documents.now) }
-    requires all { limit ≡ all_definitions (file_trees documents.now) }
-    ensures { key_meant (file_trees documents.now) result ≡ key_by_name (file_trees documents.now) file spot word.now }
+    ensures { key_meant (files_of view.now) result ≡ key_by_name (files_of view.now) file spot word.now }
 {
     if is_truth(word) {
         return Err(ConstRow::WrongForm);
     }
-    if let Some(constant) = look_up(documents, file, Scope::Constants, word) {
-        return key_by_text(
-            documents,
-            limit,
-            spot,
-            literal_at(documents, limit, constant),
-        );
+    if let Some(constant) = view.names.look_up(file, Scope::Constants, word) {
+        return key_by_text(view, spot, literal_at(view, constant));
     }
-    match any_member(documents, file, word) {
+    match any_member(view, file, word) {
         Some(_) => Err(ConstRow::WrongForm),
         None => Err(ConstRow::UnknownConstant),
     }
 }
 
 fn key_by_text<'d>(
-    documents: &'d Documents,
-    limit: usize,
+    view: &View<'_, 'd>,
     spot: Spot,
     text: Option<&[u8]>,
 ) -> Result<TypeRef<'d>, ConstRow>
-    requires { limit ≡ all_definitions (file_trees documents.now) }
-    ensures { key_meant (file_trees documents.now) result ≡ key_by_text (file_trees documents.now) spot (option_copied text.entry) }
+    ensures { key_meant (files_of view.now) result ≡ key_by_text (files_of view.now) spot (option_copied text.entry) }
 {
     match text {
-        Some(text) => field_type(documents, limit, spot, ConstRow::WrongForm, text),
+        Some(text) => field_type(view, spot, ConstRow::WrongForm, text),
         None => Err(ConstRow::WrongForm),
     }
 }
@@ -135,17 +118,16 @@ pub enum Written<'d> {
 }
 
 /// The literal that the constant at a spot stands for, through names too.
-fn literal_at<'d>(documents: &'d Documents, limit: usize, spot: Spot) -> Option<&'d [u8]>
-    requires { HasFewDefinitions (file_trees documents.now) }
-    ensures { option_copied result ≡ literal_at (file_trees documents.now) limit spot }
+fn literal_at<'d>(view: &View<'_, 'd>, spot: Spot) -> Option<&'d [u8]>
+    ensures { option_copied result ≡ literal_at (files_of view.now) (definition_count (files_of view.now)) spot }
 {
     let mut at = spot;
-    let mut left = limit;
+    let mut left = view.names.definition_count();
     'chain: loop {
-        match written_as(definition(documents, at)) {
+        match written_as(definition(view, at)) {
             Written::Literal(text) => return Some(text),
             Written::Name(word) => {
-                at = constant_of(documents, left, at.file, word)?;
+                at = constant_of(view, left, at.file, word)?;
                 left -= 1;
             }
             Written::Other => return None,
@@ -173,13 +155,12 @@ fn written_value(value: &ValueExpr) -> Written<'_>
 }
 
 /// The constant that a name stands for, where a name may still be followed.
-fn constant_of(documents: &Documents, left: usize, file: u32, word: &[u8]) -> Option<Spot>
-    requires { HasFewDefinitions (file_trees documents.now) }
-    ensures literal { spot_literal (file_trees documents.now) (named_literal (file_trees documents.now) (left - 1)) result ≡ named_literal (file_trees documents.now) left file word.now }
+fn constant_of(view: &View<'_, '_>, left: usize, file: u32, word: &[u8]) -> Option<Spot>
+    ensures literal { spot_literal (files_of view.now) (named_literal (files_of view.now) (left - 1)) result ≡ named_literal (files_of view.now) left file word.now }
     ensures some { IfSome result (λ s. 0 < left) }
 {
     if left == 0 || is_truth(word) {
         return None;
     }
-    look_up(documents, file, Scope::Constants, word)
+    view.names.look_up(file, Scope::Constants, word)
 }

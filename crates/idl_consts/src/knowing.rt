@@ -1,16 +1,18 @@
 //! What is refused through constants, so that each is looked through once.
 ghost use Rattle.std.specs.Prelude.{◌≡◌, List, IfOk, IfSome, IsTrue, slice_get, option_copied, option_map};
 ghost use Rattle.idl_parser.specs.Declarations.{definition_tree};
-ghost use Rattle.idl_names.specs.Files.{FileTree, file_trees};
+ghost use Rattle.idl_names.specs.Files.{FileTree};
+ghost use Rattle.idl_names.specs.Targets.{definition_count};
 ghost use Rattle.idl_consts.specs.Knowing.{own_by, own_type, AreRows, IsOwnRow, IsSound};
-ghost use Rattle.idl_consts.specs.Meant.{all_definitions, meant_at};
+ghost use Rattle.idl_consts.specs.Meant.{meant_at};
+ghost use Rattle.idl_consts.specs.Views.{files_of};
 
-use crate::fitting::same_spot;
 use crate::row::ConstRow;
-use crate::same::same_ref;
+use crate::same::{is_spot, same_meaning};
 use crate::types::{TypeRef, definition};
+use crate::view::View;
 use gate_io::OutOfMemory;
-use idl_names::{Documents, FileDoc, Spot};
+use idl_names::{FileDoc, Spot};
 use idl_parser::Definition;
 use std::alloc::Global;
 
@@ -72,12 +74,6 @@ fn row_of(other: Spot, spot: Spot, row: Option<ConstRow>) -> Option<Option<Const
     }
 }
 
-fn is_spot(spot: Spot, other: Spot) -> bool
-    ensures { IsTrue result → spot ≡ other }
-{
-    same_spot(spot, other)
-}
-
 fn starts(alloc: Global, files: &[FileDoc]) -> Result<Vec<usize>, OutOfMemory> {
     let mut starts = Vec::new(alloc);
     let mut total = 0usize;
@@ -108,18 +104,17 @@ fn row_in(
 }
 
 /// Whether a type is that of the constant at a spot.
-pub fn is_own(documents: &Documents, limit: usize, spot: Spot, ty: TypeRef<'_>) -> bool
-    requires { limit ≡ all_definitions (file_trees documents.now) }
-    ensures { IsTrue result → meant_at (file_trees documents.now) ty.entry ≡ own_type (file_trees documents.now) spot }
+pub fn is_own(view: &View<'_, '_>, spot: Spot, ty: TypeRef<'_>) -> bool
+    ensures { IsTrue result → meant_at (files_of view.now) ty.entry ≡ own_type (files_of view.now) spot }
 {
-    match own_ref(definition(documents, spot), limit, spot) {
-        Some(own) => same_ref(ty, own),
+    match own_ref(definition(view, spot), view.names.definition_count(), spot) {
+        Some(own) => same_meaning(view, ty, own),
         None => false,
     }
 }
 
 fn own_ref<'d>(definition: Option<&'d Definition>, limit: usize, spot: Spot) -> Option<TypeRef<'d>>
-    ensures { (d : List FileTree) → limit ≡ all_definitions d → IfSome result (λ t. meant_at d t ≡ own_by d spot (option_map definition_tree (option_copied definition.entry))) }
+    ensures { (d : List FileTree) → limit ≡ definition_count d → IfSome result (λ t. meant_at d t ≡ own_by d spot (option_map definition_tree (option_copied definition.entry))) }
 {
     match definition {
         Some(Definition::Const(_, ty, _)) => Some(TypeRef {

@@ -18,6 +18,7 @@ mod row;
 mod same;
 mod survey;
 mod types;
+mod view;
 
 pub use check::check_documents;
 pub use laws::one_answer;

@@ -1,21 +1,21 @@
 //! The members of enums by their names.
 ghost use Rattle.std.specs.Prelude.{◌≡◌, ◌<◌, IfSome, length, pos, option_map, option_copied};
 ghost use Rattle.idl_parser.specs.Declarations.{definition_tree};
-ghost use Rattle.idl_names.specs.Files.{file_trees};
-ghost use Rattle.idl_names.specs.Meaning.{HasFewDefinitions};
 ghost use Rattle.idl_names.specs.Paths.{last_place};
 ghost use Rattle.idl_consts.specs.Fitting.{after_number, number_by, number_from, members_in, member_of, any_member, with_spot};
+ghost use Rattle.idl_consts.specs.Views.{files_of};
 
 use crate::types::definition;
-use idl_names::{Documents, Scope, Spot, look_up};
+use crate::view::View;
+use idl_names::{Scope, Spot};
 use idl_parser::{Definition, Member};
 
 /// The number of the member of this name, of the enum at a spot.
 #[tactic(auto, unfolding(crate::specs::Fitting::member_of))]
-pub fn member_of(documents: &Documents, spot: Spot, word: &[u8]) -> Option<i64>
-    ensures { result ≡ member_of (file_trees documents.now) spot word.now }
+pub fn member_of(view: &View<'_, '_>, spot: Spot, word: &[u8]) -> Option<i64>
+    ensures { result ≡ member_of (files_of view.now) spot word.now }
 {
-    number_of(members_in(definition(documents, spot)), word)
+    number_of(members_in(definition(view, spot)), word)
 }
 
 fn members_in<'d>(definition: Option<&'d Definition>) -> &'d [Member]
@@ -62,13 +62,12 @@ fn after_number(number: i64) -> i64
 
 /// A member of any enum, and the enum: the enum's name stands before the last dot.
 #[tactic(auto, unfolding(crate::specs::Fitting::any_member))]
-pub fn any_member(documents: &Documents, file: u32, word: &[u8]) -> Option<(Spot, i64)>
-    requires { HasFewDefinitions (file_trees documents.now) }
-    ensures { result ≡ any_member (file_trees documents.now) file word.now }
+pub fn any_member(view: &View<'_, '_>, file: u32, word: &[u8]) -> Option<(Spot, i64)>
+    ensures { result ≡ any_member (files_of view.now) file word.now }
 {
     match last_place(word, b'.') {
-        Some(dot) => match look_up(documents, file, Scope::Types, &word[..dot]) {
-            Some(spot) => with_spot(spot, member_of(documents, spot, &word[dot + 1..])),
+        Some(dot) => match view.names.look_up(file, Scope::Types, &word[..dot]) {
+            Some(spot) => with_spot(spot, member_of(view, spot, &word[dot + 1..])),
             None => None,
         },
         None => None,

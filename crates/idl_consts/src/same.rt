@@ -2,9 +2,13 @@
 ghost use Rattle.std.specs.Prelude.{◌≡◌, ℕ, List, IsTrue};
 ghost use Rattle.idl_parser.specs.Trees.{type_tree};
 ghost use Rattle.idl_names.specs.Files.{FileTree};
-ghost use Rattle.idl_consts.specs.Meant.{Meant, meant_at, type_by};
+ghost use Rattle.idl_consts.specs.Meant.{Meant, meant_at, meant_by, type_by};
+ghost use Rattle.idl_consts.specs.Views.{files_of};
 
-use crate::types::TypeRef;
+use crate::fitting::same_spot;
+use crate::types::{Shape, TypeRef, resolve};
+use crate::view::View;
+use idl_names::Spot;
 use idl_parser::{TypeExpr, TypeForm};
 
 /// Whether two types are one by their words: types of one file, or the same word of the language.
@@ -12,6 +16,35 @@ pub fn same_ref(a: TypeRef<'_>, b: TypeRef<'_>) -> bool
     ensures { IsTrue result → ((d : List FileTree) → meant_at d a.entry ≡ meant_at d b.entry) }
 {
     same_word(a.ty, b.ty) || (a.file == b.file && a.left == b.left && same_type(a.ty, b.ty))
+}
+
+/// Whether two types are one: by their words, or by what their typedefs stand for.
+pub fn same_meaning(view: &View<'_, '_>, a: TypeRef<'_>, b: TypeRef<'_>) -> bool
+    ensures { IsTrue result → meant_at (files_of view.now) a.entry ≡ meant_at (files_of view.now) b.entry }
+{
+    same_ref(a, b) || same_shape(&resolve(view, a), &resolve(view, b))
+}
+
+fn same_shape(a: &Shape<'_>, b: &Shape<'_>) -> bool
+    ensures { IsTrue result → ((d : List FileTree) → meant_by d a.now ≡ meant_by d b.now) }
+{
+    match (a, b) {
+        (Shape::Base(word), Shape::Base(other)) => *word == *other,
+        (Shape::Enum(spot), Shape::Enum(other)) => is_spot(*spot, *other),
+        (Shape::Struct(spot), Shape::Struct(other)) => is_spot(*spot, *other),
+        (Shape::Map(key, value), Shape::Map(other_key, other_value)) => {
+            same_ref(*key, *other_key) && same_ref(*value, *other_value)
+        }
+        (Shape::Sequence(element), Shape::Sequence(other)) => same_ref(*element, *other),
+        _ => false,
+    }
+}
+
+/// Whether two spots are one.
+pub fn is_spot(spot: Spot, other: Spot) -> bool
+    ensures { IsTrue result → spot ≡ other }
+{
+    same_spot(spot, other)
 }
 
 fn same_word(a: &TypeExpr, b: &TypeExpr) -> bool

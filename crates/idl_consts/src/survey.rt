@@ -1,19 +1,20 @@
 //! The survey of one value: the names in it that stand for constants, up to the first thing that is refused.
 ghost use Rattle.std.specs.Prelude.{◌≡◌, List, IfOk, [], ◌∷◌};
 ghost use Rattle.idl_parser.specs.Items.{items_of_value};
-ghost use Rattle.idl_names.specs.Files.{FileTree, file_trees};
-ghost use Rattle.idl_names.specs.Meaning.{HasFewDefinitions};
+ghost use Rattle.idl_names.specs.Files.{FileTree};
 ghost use Rattle.idl_consts.specs.Course.{Context, answered, opened_list, opened_map, value_move, key_move, inner_move, item_move, offset_of, course};
-ghost use Rattle.idl_consts.specs.Meant.{all_definitions, meant_at, meant_by};
+ghost use Rattle.idl_consts.specs.Meant.{meant_at, meant_by};
 ghost use Rattle.idl_consts.specs.Pieces.{item_of, context_of, move_of, course_of, key_meant, Takes};
+ghost use Rattle.idl_consts.specs.Views.{files_of};
 
 use crate::fitting::{Answer, double_answer, literal_answer, named_answer, whole_answer};
 use crate::keys::key_answer;
 use crate::pieces::{Piece, append_pieces};
 use crate::row::ConstRow;
 use crate::types::{Shape, TypeRef, resolve};
+use crate::view::View;
 use gate_io::OutOfMemory;
-use idl_names::{Documents, Spot};
+use idl_names::Spot;
 use idl_parser::ValueExpr;
 use std::alloc::Global;
 
@@ -57,15 +58,12 @@ pub enum Turn<'d> {
 #[tactic(auto, unfolding(crate::specs::Course::course))]
 pub fn survey_value<'d>(
     alloc: Global,
-    documents: &'d Documents,
-    limit: usize,
+    view: &View<'_, 'd>,
     file: u32,
     ty: TypeRef<'d>,
     value: &'d ValueExpr,
 ) -> Result<Survey<'d>, OutOfMemory>
-    requires few { HasFewDefinitions (file_trees documents.now) }
-    requires all { limit ≡ all_definitions (file_trees documents.now) }
-    ensures { IfOk result (λ s. course_of (file_trees documents.now) s ≡ course (file_trees documents.now) file (meant_at (file_trees documents.now) ty.entry) (items_of_value value.now)) }
+    ensures { IfOk result (λ s. course_of (files_of view.now) s ≡ course (files_of view.now) file (meant_at (files_of view.now) ty.entry) (items_of_value value.now)) }
 {
     let mut pieces = Vec::new(alloc);
     append_pieces(value, &mut pieces)?;
@@ -79,7 +77,7 @@ pub fn survey_value<'d>(
                 fault: None,
             });
         };
-        let turn = turn_at(documents, limit, file, top, piece);
+        let turn = turn_at(view, file, top, piece);
         let fault = take(turn, &mut stands, &mut levels)?;
         if fault.is_some() {
             return Ok(Survey { stands, fault });
@@ -120,50 +118,24 @@ fn take<'d>(
 }
 
 /// What a piece leads to where `top` is the innermost that is open.
-fn turn_at<'d>(
-    documents: &'d Documents,
-    limit: usize,
-    file: u32,
-    top: Open<'d>,
-    piece: &Piece<'d>,
-) -> Turn<'d>
-    requires few { HasFewDefinitions (file_trees documents.now) }
-    requires all { limit ≡ all_definitions (file_trees documents.now) }
-    ensures { (up : List Context) → move_of (file_trees documents.now) up result ≡ item_move (file_trees documents.now) file (context_of (file_trees documents.now) top.entry) up (item_of piece.now) }
+fn turn_at<'d>(view: &View<'_, 'd>, file: u32, top: Open<'d>, piece: &Piece<'d>) -> Turn<'d>
+    ensures { (up : List Context) → move_of (files_of view.now) up result ≡ item_move (files_of view.now) file (context_of (files_of view.now) top.entry) up (item_of piece.now) }
 {
     match piece {
         Piece::ListEnd | Piece::MapEnd => Turn::Closes,
-        _ => inner_turn(documents, limit, file, top, piece),
+        _ => inner_turn(view, file, top, piece),
     }
 }
 
-fn inner_turn<'d>(
-    documents: &'d Documents,
-    limit: usize,
-    file: u32,
-    top: Open<'d>,
-    piece: &Piece<'d>,
-) -> Turn<'d>
-    requires few { HasFewDefinitions (file_trees documents.now) }
-    requires all { limit ≡ all_definitions (file_trees documents.now) }
-    ensures { (up : List Context) → move_of (file_trees documents.now) up result ≡ inner_move (file_trees documents.now) file (context_of (file_trees documents.now) top.entry) up (item_of piece.now) }
+fn inner_turn<'d>(view: &View<'_, 'd>, file: u32, top: Open<'d>, piece: &Piece<'d>) -> Turn<'d>
+    ensures { (up : List Context) → move_of (files_of view.now) up result ≡ inner_move (files_of view.now) file (context_of (files_of view.now) top.entry) up (item_of piece.now) }
 {
     match top {
-        Open::Elements(ty) => value_turn(documents, file, ty, piece, Open::Elements(ty)),
-        Open::Keys(key, value) => {
-            value_turn(documents, file, key, piece, Open::Values(key, value))
-        }
-        Open::Values(key, value) => {
-            value_turn(documents, file, value, piece, Open::Keys(key, value))
-        }
-        Open::Names(spot) => {
-            key_turn(
-                key_answer(documents, limit, file, spot, piece),
-                offset(piece),
-                spot,
-            )
-        }
-        Open::FieldValue(spot, ty) => { value_turn(documents, file, ty, piece, Open::Names(spot)) }
+        Open::Elements(ty) => value_turn(view, file, ty, piece, Open::Elements(ty)),
+        Open::Keys(key, value) => { value_turn(view, file, key, piece, Open::Values(key, value)) }
+        Open::Values(key, value) => { value_turn(view, file, value, piece, Open::Keys(key, value)) }
+        Open::Names(spot) => { key_turn(key_answer(view, file, spot, piece), offset(piece), spot) }
+        Open::FieldValue(spot, ty) => { value_turn(view, file, ty, piece, Open::Names(spot)) }
     }
 }
 
@@ -192,22 +164,21 @@ fn offset(piece: &Piece<'_>) -> usize
 
 /// The first piece of a value of this type, behind which `next` is open.
 fn value_turn<'d>(
-    documents: &'d Documents,
+    view: &View<'_, 'd>,
     file: u32,
     ty: TypeRef<'d>,
     piece: &Piece<'d>,
     next: Open<'d>,
 ) -> Turn<'d>
-    requires { HasFewDefinitions (file_trees documents.now) }
-    ensures { (up : List Context) → move_of (file_trees documents.now) up result ≡ value_move (file_trees documents.now) file (meant_at (file_trees documents.now) ty.entry) (context_of (file_trees documents.now) next.entry ∷ up) (item_of piece.now) }
+    ensures { (up : List Context) → move_of (files_of view.now) up result ≡ value_move (files_of view.now) file (meant_at (files_of view.now) ty.entry) (context_of (files_of view.now) next.entry ∷ up) (item_of piece.now) }
 {
-    let shape = resolve(documents, ty);
+    let shape = resolve(view, ty);
     match piece {
         Piece::Whole(at, number) => answer_turn(whole_answer(&shape, *number), *at, ty, next),
         Piece::Double(at, _) => answer_turn(double_answer(&shape), *at, ty, next),
         Piece::Literal(at, text) => answer_turn(literal_answer(&shape, text), *at, ty, next),
         Piece::Named(at, word) => {
-            answer_turn(named_answer(documents, file, &shape, word), *at, ty, next)
+            answer_turn(named_answer(view, file, &shape, word), *at, ty, next)
         }
         Piece::ListBegin(at) => list_turn(shape, *at, next),
         Piece::MapBegin(at) => map_turn(shape, *at, next),

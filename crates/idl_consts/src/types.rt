@@ -2,11 +2,12 @@
 ghost use Rattle.std.specs.Prelude.{◌≡◌, ◌+◌, List, option_copied, option_map};
 ghost use Rattle.idl_parser.specs.Declarations.{definition_tree};
 ghost use Rattle.idl_parser.specs.Trees.{type_tree};
-ghost use Rattle.idl_names.specs.Files.{FileTree, file_trees};
-ghost use Rattle.idl_names.specs.Meaning.{HasFewDefinitions};
+ghost use Rattle.idl_names.specs.Files.{FileTree};
 ghost use Rattle.idl_consts.specs.Meant.{definition_of, type_by, named_type, meant_at, meant_by, meant_next, left_below, defined_type};
+ghost use Rattle.idl_consts.specs.Views.{files_of};
 
-use idl_names::{Documents, Scope, Spot, look_up};
+use crate::view::View;
+use idl_names::{Scope, Spot};
 use idl_parser::{BaseWord, Definition, TypeExpr, TypeForm};
 
 /// A type, the place of the file in which it is written, and how many typedefs may be followed.
@@ -38,10 +39,10 @@ pub enum Step<'d> {
 }
 
 /// The definition at a spot.
-pub fn definition<'d>(documents: &'d Documents, spot: Spot) -> Option<&'d Definition>
-    ensures { option_map definition_tree (option_copied result) ≡ definition_of (file_trees documents.now) spot }
+pub fn definition<'d>(view: &View<'_, 'd>, spot: Spot) -> Option<&'d Definition>
+    ensures { option_map definition_tree (option_copied result) ≡ definition_of (files_of view.now) spot }
 {
-    let file = documents.as_slice().get(spot.file as usize)?;
+    let file = view.names.files.get(spot.file as usize)?;
     file.document
         .definitions
         .as_slice()
@@ -49,27 +50,25 @@ pub fn definition<'d>(documents: &'d Documents, spot: Spot) -> Option<&'d Defini
 }
 
 /// What a type is.
-pub fn resolve<'d>(documents: &'d Documents, start: TypeRef<'d>) -> Shape<'d>
-    requires { HasFewDefinitions (file_trees documents.now) }
-    ensures { meant_by (file_trees documents.now) result ≡ meant_at (file_trees documents.now) start.entry }
+pub fn resolve<'d>(view: &View<'_, 'd>, start: TypeRef<'d>) -> Shape<'d>
+    ensures { meant_by (files_of view.now) result ≡ meant_at (files_of view.now) start.entry }
 {
     let mut at = start;
     'chain: loop {
-        match resolve_once(documents, at) {
+        match resolve_once(view, at) {
             Step::Done(shape) => return shape,
             Step::Next(target) => at = target,
         }
     }
 }
 
-fn resolve_once<'d>(documents: &'d Documents, at: TypeRef<'d>) -> Step<'d>
-    requires { HasFewDefinitions (file_trees documents.now) }
-    ensures meant { meant_next (file_trees documents.now) result ≡ meant_at (file_trees documents.now) at.entry }
+fn resolve_once<'d>(view: &View<'_, 'd>, at: TypeRef<'d>) -> Step<'d>
+    ensures meant { meant_next (files_of view.now) result ≡ meant_at (files_of view.now) at.entry }
     ensures fewer { left_below at.entry.left result }
 {
     match &at.ty.form {
         TypeForm::Base(word) => Step::Done(Shape::Base(*word)),
-        TypeForm::Named(name) => named(documents, at.file, name.as_slice(), at.left),
+        TypeForm::Named(name) => named(view, at.file, name.as_slice(), at.left),
         TypeForm::Map(key, value) => Step::Done(Shape::Map(part(at, key), part(at, value))),
         TypeForm::Set(element) => Step::Done(Shape::Sequence(part(at, element))),
         TypeForm::List(element) => Step::Done(Shape::Sequence(part(at, element))),
@@ -89,18 +88,26 @@ fn part<'d>(whole: TypeRef<'d>, ty: &'d TypeExpr) -> TypeRef<'d>
     }
 }
 
-fn named<'d>(documents: &'d Documents, file: u32, name: &[u8], left: usize) -> Step<'d>
-    requires { HasFewDefinitions (file_trees documents.now) }
-    ensures meant { meant_next (file_trees documents.now) result ≡ named_type (file_trees documents.now) left file name.now }
+fn named<'d>(view: &View<'_, 'd>, file: u32, name: &[u8], left: usize) -> Step<'d>
+    ensures meant { meant_next (files_of view.now) result ≡ named_type (files_of view.now) left file name.now }
     ensures fewer { left_below left result }
 {
     if left == 0 {
         return Step::Done(Shape::Unknown);
     }
-    match look_up(documents, file, Scope::Types, name) {
-        Some(spot) => defined(spot, definition(documents, spot), left - 1),
+    match view.names.look_up(file, Scope::Types, name) {
+        Some(spot) => landed(view, spot, left - 1),
         None => Step::Done(Shape::Unknown),
     }
+}
+
+/// What a definition is, behind the typedefs that are names alone.
+fn landed<'d>(view: &View<'_, 'd>, spot: Spot, left: usize) -> Step<'d>
+    ensures meant { meant_next (files_of view.now) result ≡ defined_type (named_type (files_of view.now) left) spot (definition_of (files_of view.now) spot) }
+    ensures fewer { left_below (left + 1) result }
+{
+    let landing = view.typedefs.land(spot, left);
+    defined(landing.spot, definition(view, landing.spot), landing.left)
 }
 
 fn defined<'d>(spot: Spot, definition: Option<&'d Definition>, left: usize) -> Step<'d>

@@ -7,7 +7,8 @@ use Rattle.idl_parser.specs.Trees.{TypeTree, named_at, form_tree}
 use Rattle.type_tables.specs.declared.declared.Ty.{Ty}
 use Rattle.type_tables.specs.declared.declared.Ty.TheVariants as types
 use Rattle.idl_names.specs.Files.{FileTree}
-use Rattle.idl_schema.specs.Types.{Target, found, further, ty_by, target, followed, plain_ty}
+use Rattle.idl_schema.specs.Types.{Target, found, further, ty_by, target, target_of, followed, plain_ty, ty_ahead}
+use Rattle.idl_schema.specs.declared.types.Ahead.{Ahead}
 
 module _ (files : List FileTree) (left file base at : ℕ) (form : TypeForm) (whole : Ty) (i : followed left files file base (form_tree at form) ≡ whole) where
   one_less : (m : ℕ) → suc m - 1 ≡ m
@@ -21,23 +22,25 @@ module _ (files : List FileTree) (left file base at : ℕ) (form : TypeForm) (wh
   stepped : (n : ℕ) (word : List ℕ) → left ≡ n → form ≡ forms.Named word → followed n files file base (named_at at word) ≡ whole
   stepped n word l e = sym (ap (λ (m : ℕ). followed m files file base (form_tree at form)) l ∙ ap (λ (f : TypeForm). followed n files file base (form_tree at f)) e) ∙ i
 
-  -- a name that means a type
-  pub found_here : (word : List ℕ) (ty : Ty) → form ≡ forms.Named word → 0 < left → found ty ≡ target files file word → ty ≡ whole
-  found_here word ty e some t = by left refl
+  -- what a name means is the whole
+  pub name_whole : (word : List ℕ) → form ≡ forms.Named word → 0 < left → ty_by (target files file word) (followed (left - 1) files) ≡ whole
+  name_whole word e some = by left refl
     where
-      by : (n : ℕ) → left ≡ n → ty ≡ whole
-      by zero z = absurd (omega arith)
-      by (suc m) l = ap (λ (t : Target). ty_by t (followed m files)) t ∙ stepped (suc m) word l e
-
-  -- a name that leads on
-  pub goes_on : (word : List ℕ) (f b : ℕ) (t : TypeTree) → form ≡ forms.Named word → 0 < left → further f b t ≡ target files file word → followed (left - 1) files f b t ≡ whole
-  goes_on word f b t e some d = by left refl
-    where
-      by : (n : ℕ) → left ≡ n → followed (left - 1) files f b t ≡ whole
+      by : (n : ℕ) → left ≡ n → ty_by (target files file word) (followed (left - 1) files) ≡ whole
       by zero z = absurd (omega arith)
       by (suc m) l =
-          ap (λ (n : ℕ). followed (n - 1) files f b t) l ∙ ap (λ (n : ℕ). followed n files f b t) (one_less m)
-          ∙ ap (λ (t : Target). ty_by t (followed m files)) d ∙ stepped (suc m) word l e
+          ap (λ (n : ℕ). ty_by (target files file word) (followed (n - 1) files)) l ∙ ap (λ (n : ℕ). ty_by (target files file word) (followed n files)) (one_less m)
+          ∙ stepped (suc m) word l e
+
+  -- a name that means a type
+  pub found_here : (word : List ℕ) (ty : Ty) (a : Ahead) → form ≡ forms.Named word → 0 < left → found ty ≡ target_of a.meant
+      → ty_ahead files a ≡ ty_by (target files file word) (followed (left - 1) files) → ty ≡ whole
+  found_here word ty a e some t h = ap (λ (t : Target). ty_by t (followed a.left files)) t ∙ h ∙ name_whole word e some
+
+  -- a name that leads on
+  pub goes_on : (word : List ℕ) (f b : ℕ) (t : TypeTree) (a : Ahead) → form ≡ forms.Named word → 0 < left → further f b t ≡ target_of a.meant
+      → ty_ahead files a ≡ ty_by (target files file word) (followed (left - 1) files) → followed a.left files f b t ≡ whole
+  goes_on word f b t a e some d h = ap (λ (t : Target). ty_by t (followed a.left files)) d ∙ h ∙ name_whole word e some
 
 plain_by : (files : List FileTree) (n file base at : ℕ) (form : TypeForm) → ((word : List ℕ) → form ≡ forms.Named word → ⊥) → plain_ty base (form_tree at form) ≡ followed n files file base (form_tree at form)
 plain_by files zero file base at form other = refl

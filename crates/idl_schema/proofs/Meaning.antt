@@ -25,7 +25,7 @@ all_numbered n (f ∷ fs) zero j d e = in_numbered n f.document.definitions j d 
 all_numbered n (f ∷ fs) (suc k) j d e = all_numbered (after_all n f.document.definitions) fs k j d e
 
 -- each definition has numbers
-numbered : (files : List FileTree) (spot : Spot) (d : DefinitionTree) → definition_at files spot ≡ Some d → (m : First) × (first_of files spot ≡ Some m)
+pub numbered : (files : List FileTree) (spot : Spot) (d : DefinitionTree) → definition_at files spot ≡ Some d → (m : First) × (first_of files spot ≡ Some m)
 unfolding numbers_of
 numbered files spot d e = all_numbered start files spot.file spot.definition d e
 

@@ -13,6 +13,7 @@ use Rattle.idl_names.specs.Files.{FileTree}
 use Rattle.idl_names.specs.Meaning.{meaning}
 use Rattle.idl_names.specs.Targets.{definition_at, definition_count}
 use Rattle.idl_schema.specs.declared.numbers.First.{First}
+use Rattle.idl_schema.specs.declared.types.Ahead.{Ahead}
 use Rattle.idl_schema.specs.declared.types.Meant.{Meant}
 use Rattle.idl_schema.specs.declared.types.Meant.TheVariants as meants
 use Rattle.idl_schema.specs.Numbers.{parts, first_of}
@@ -71,6 +72,9 @@ abbrev pub followed : ℕ → List FileTree → ℕ → ℕ → TypeTree → Ty
 followed zero files file base tree = plain_ty base tree
 followed (suc n) files file base (named_at at word) = ty_by (target files file word) (followed n files)
 followed (suc n) files file base tree = plain_ty base tree
+
+abbrev pub ty_ahead : List FileTree → Ahead → Ty
+ty_ahead files a = ty_by (target_of a.meant) (followed a.left files)
 
 -- the type that an expression of the file at this place means; the first of its parts has the number `base`
 unfoldable pub ty_in : List FileTree → ℕ → ℕ → TypeTree → Ty

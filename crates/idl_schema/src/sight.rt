@@ -1,39 +1,48 @@
 //! What names and types mean in the files of an IDL.
-ghost use Rattle.std.specs.Prelude.{◌≡◌, ◌++◌, ◌∷◌, [], IfOk, Some, option_map, option_copied};
+ghost use Rattle.std.specs.Prelude.{◌≡◌, ◌≤◌, ◌++◌, ◌∷◌, [], IfOk, Some, option_map, option_copied};
 ghost use Rattle.idl_parser.specs.Declarations.{definition_tree};
 ghost use Rattle.idl_parser.specs.Trees.{type_tree};
 ghost use Rattle.idl_names.specs.Files.{file_trees};
+ghost use Rattle.idl_typedefs.specs.Hops.{Follows, Follows-prop};
 ghost use Rattle.idl_schema.specs.Numbers.{first_of, number_in, numbers_of};
 ghost use Rattle.idl_schema.specs.Shares.{base_of, base_by, is_place, prefix_of, prefix_in};
-ghost use Rattle.idl_schema.specs.Types.{base_ty, plain_ty, target_of, target, target_by, ty_in, followed};
+ghost use Rattle.idl_schema.specs.Types.{base_ty, plain_ty, target_of, target, target_at, target_by, ty_ahead, ty_by, ty_in, followed};
 
 use crate::numbers::{First, numbers_of, sum};
-use crate::types::{Expression, Meant};
+use crate::types::{Ahead, Expression, Meant};
 use gate_io::{OutOfMemory, Text};
 use idl_names::{Names, Scope, Spot, base_name, definition_at};
 use idl_parser::{BaseWord, Definition, Name, Seq, TypeExpr, TypeForm};
+use idl_typedefs::{Landing, Typedefs};
 use std::alloc::Global;
 use type_tables::{EnumId, ServiceId, StructId, Ty, TyId};
 
-/// The names of the files of an IDL, with the numbers of their definitions.
+/// The names of the files of an IDL, with the numbers of their definitions and the ends of their typedefs.
 #[derive(Drop)]
 pub(crate) struct Sight<'s, 'd> {
     pub(crate) names: &'s Names<'d>,
     numbers: Seq<Seq<First>>,
+    typedefs: Typedefs,
+    ghost follows: { Follows (file_trees names.now.files.now) typedefs } by { Follows-prop (file_trees names.now.files.now) typedefs },
     ghost numbered: { numbers ≡ numbers_of (file_trees names.now.files.now) },
 }
 
 impl<'s, 'd> Sight<'s, 'd> {
     ghost use Rattle.idl_schema.specs.Sights.{files_of};
 
-    /// Numbers the definitions of these files.
+    /// Numbers the definitions of these files, and follows their typedefs.
     ///
     /// `OutOfMemory`: the memory for it was not found.
     pub(crate) fn new(alloc: Global, names: &'s Names<'d>) -> Result<Sight<'s, 'd>, OutOfMemory>
         ensures { IfOk result (λ s. files_of s ≡ file_trees names.now.files.now) }
     {
         let numbers = numbers_of(alloc, names.files)?;
-        Ok(Sight { names, numbers })
+        let typedefs = Typedefs::build(alloc, names)?;
+        Ok(Sight {
+            names,
+            numbers,
+            typedefs,
+        })
     }
 
     fn first_of(&self, spot: Spot) -> Option<First>
@@ -42,18 +51,42 @@ impl<'s, 'd> Sight<'s, 'd> {
         first_in(self.numbers.as_slice(), spot)
     }
 
-    // What a name of a type means in the file at this place.
+    // What a name of a type means in the file at this place, behind the typedefs that are names alone.
     #[tactic(auto, unfolding(crate::specs::Types::target))]
-    fn target(&self, file: u32, word: &[u8]) -> Meant<'d>
-        ensures { target_of result ≡ target (files_of self.now) file word.now }
+    fn ahead(&self, file: u32, word: &[u8], left: usize) -> Ahead<'d>
+        ensures meant { ty_ahead (files_of self.now) result ≡ ty_by (target (files_of self.now) file word.now) (followed left (files_of self.now)) }
+        ensures fewer { result.left ≤ left }
     {
         match self.names.look_up(file, Scope::Types, word) {
-            Some(spot) => meant(
-                spot.file,
-                definition_at(self.names.files, spot),
-                self.first_of(spot),
-            ),
-            None => Meant::Found(Ty::Unknown),
+            Some(spot) => self.landed(spot, left),
+            None => Ahead {
+                meant: Meant::Found(Ty::Unknown),
+                left,
+            },
+        }
+    }
+
+    fn landed(&self, spot: Spot, left: usize) -> Ahead<'d>
+        ensures meant { ty_ahead (files_of self.now) result ≡ ty_by (target_at (files_of self.now) (Some spot)) (followed left (files_of self.now)) }
+        ensures fewer { result.left ≤ left }
+    {
+        let landing = self.typedefs.land(spot, left);
+        self.ahead_at(landing)
+    }
+
+    fn ahead_at(&self, landing: Landing) -> Ahead<'d>
+        ensures meant { ty_ahead (files_of self.now) result ≡ ty_by (target_at (files_of self.now) (Some landing.spot)) (followed landing.left (files_of self.now)) }
+        ensures left { result.left ≡ landing.left }
+    {
+        let spot = landing.spot;
+        let meant = meant(
+            spot.file,
+            definition_at(self.names.files, spot),
+            self.first_of(spot),
+        );
+        Ahead {
+            meant,
+            left: landing.left,
         }
     }
 
@@ -71,11 +104,12 @@ impl<'s, 'd> Sight<'s, 'd> {
             if left == 0 {
                 return Ok(Ty::Unknown);
             }
-            match self.target(at.file, word.as_slice()) {
+            let ahead = self.ahead(at.file, word.as_slice(), left - 1);
+            match ahead.meant {
                 Meant::Found(ty) => return Ok(ty),
                 Meant::Further(next) => at = next,
             }
-            left -= 1;
+            left = ahead.left;
         }
     }
 

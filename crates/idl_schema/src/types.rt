@@ -16,3 +16,10 @@ pub(crate) enum Meant<'d> {
     Found(Ty),
     Further(Expression<'d>),
 }
+
+/// What a name means, and how many typedefs may be followed from there.
+#[derive(Clone, Copy)]
+pub(crate) struct Ahead<'d> {
+    pub(crate) meant: Meant<'d>,
+    pub(crate) left: usize,
+}

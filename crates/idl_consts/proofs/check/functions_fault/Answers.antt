@@ -3,14 +3,14 @@ use Rattle.idl_parser.specs.declared.document.Function.{Function}
 use Rattle.idl_parser.specs.declared.document.FieldDecl.{FieldDecl}
 use Rattle.idl_parser.specs.Declarations.{function_trees}
 use Rattle.idl_parser.specs.Fields.{field_trees}
-use Rattle.idl_names.specs.Files.{file_trees}
 use Rattle.idl_consts.specs.Told.{IsLeast, function_values, presets}
 use Rattle.idl_consts.proofs.Judged.{one_judged, least_append}
+use Rattle.idl_consts.specs.Views.{files_of}
 use Rattle.idl_consts.proofs.check.functions_fault.Goals as goal
 
 pub loop-function-preserved : goal.loop-function-preserved
 loop-function-preserved c =
-    let d = file_trees c.args.documents.now in
+    let d = files_of c.args.view.now in
     let f = c.function-item.result in
     let least = c.loop-function.least in
     let args = subst (λ (fs : List FieldDecl). IsLeast d c.args.place least (presets (field_trees fs)) c.in_ok-args.args) c.as_slice.ensures c.in_ok-args.ensures.told in

@@ -1,15 +1,15 @@
 use Rattle.std.proofs.Common.{Some, Option, subst}
-use Rattle.idl_names.specs.Files.{file_trees}
 use Rattle.idl_consts.specs.declared.row.ConstRow.{ConstRow}
 use Rattle.idl_consts.specs.Following.{IsRow}
 use Rattle.idl_consts.specs.Meant.{meant_at}
 use Rattle.idl_consts.specs.Pieces.{ending}
 use Rattle.idl_consts.proofs.Judged.{name_passed, name_wrong}
+use Rattle.idl_consts.specs.Views.{files_of}
 use Rattle.idl_consts.proofs.check.names_fault.Goals as goal
 
 pub loop-name-preserved : goal.loop-name-preserved
 loop-name-preserved c =
-    let d = file_trees c.args.documents.now in
+    let d = files_of c.args.view.now in
     let name = c.name-item.result in
     let free = subst (λ (row : Option ConstRow). IsRow d name.constant (meant_at d name.ty) row) c.in_default.is c.in_ok-row.ensures.row in
     record {
@@ -19,7 +19,7 @@ loop-name-preserved c =
 
 pub returns-in-Some-clause-told : goal.returns-in-Some-clause-told
 returns-in-Some-clause-told c =
-    let d = file_trees c.args.documents.now in
+    let d = files_of c.args.view.now in
     let name = c.name-item.result in
     let wrong = subst (λ (row : Option ConstRow). IsRow d name.constant (meant_at d name.ty) row) c.in-Some.is c.in_ok-row.ensures.row in
     c.loop-name.invariant.told (Some (name.at, c.in-Some.row))

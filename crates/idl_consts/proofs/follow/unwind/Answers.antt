@@ -1,11 +1,11 @@
-use Rattle.idl_names.specs.Files.{file_trees}
 use Rattle.idl_consts.specs.Meant.{meant_at}
 use Rattle.idl_consts.proofs.Trailing.{halted_on}
+use Rattle.idl_consts.specs.Views.{files_of}
 use Rattle.idl_consts.proofs.follow.unwind.Goals as goal
 
 pub keep-requires-in-Some-clause-row : goal.keep-requires-in-Some-clause-row
 keep-requires-in-Some-clause-row c =
-    let d = file_trees c.args.documents.now in
+    let d = files_of c.args.view.now in
     let name = c.args.name in
     let trail = c.frames.trail in
     let halted = c.frames.invariant.halted in
@@ -14,7 +14,7 @@ keep-requires-in-Some-clause-row c =
 
 pub frames-preserved : goal.frames-preserved
 frames-preserved c =
-    let d = file_trees c.args.documents.now in
+    let d = files_of c.args.view.now in
     let name = c.args.name in
     let trail = c.frames.trail in
     let halted = c.frames.invariant.halted in

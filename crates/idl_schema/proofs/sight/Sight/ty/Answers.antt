@@ -1,7 +1,7 @@
-use Rattle.std.proofs.Common.{◌≡◌, ◌<◌, ◌∙◌, ap, arith, ℕ, suc, ◌+◌, add-one}
+use Rattle.std.proofs.Common.{◌≡◌, ◌<◌, ◌∙◌, ap, sym, arith, ℕ, suc, ◌+◌, ◌-◌, List, add-one}
 use Rattle.idl_names.specs.Targets.{definition_count}
 use Rattle.idl_schema.specs.Sights.{files_of}
-use Rattle.idl_schema.specs.Types.{target, ty_in, followed}
+use Rattle.idl_schema.specs.Types.{target, target_of, ty_by, ty_in, followed}
 use Rattle.idl_parser.specs.Trees.{type_tree}
 use Rattle.idl_schema.proofs.Following.{found_here, goes_on, plain_here, plain_result}
 use Rattle.idl_schema.proofs.sight.Sight.ty.Goals as goal
@@ -12,8 +12,8 @@ returns-in-Found c =
     let tree = c.typedefs.at.tree.now in
     let whole = ty_in files c.args.file c.args.base (type_tree c.args.tree.now) in
     let some : 0 < c.typedefs.left = omega arith in
-    found_here files c.typedefs.left c.typedefs.at.file c.typedefs.at.base tree.at tree.form whole c.typedefs.invariant c.in-Named.word c.in-Found.ty c.in-Named.is some
-    (c.in-Found.ensures ∙ ap (target files c.typedefs.at.file) c.as_slice.ensures)
+    found_here files c.typedefs.left c.typedefs.at.file c.typedefs.at.base tree.at tree.form whole c.typedefs.invariant c.in-Named.word c.in-Found.ty c.ahead-ahead.result c.in-Named.is some (sym (ap target_of c.in-Found.is))
+    (c.ahead-ahead.ensures.meant ∙ ap (λ (w : List ℕ). ty_by (target files c.typedefs.at.file w) (followed (c.typedefs.left - 1) files)) c.as_slice.ensures)
 
 pub typedefs-preserved : goal.typedefs-preserved
 typedefs-preserved c =
@@ -22,8 +22,8 @@ typedefs-preserved c =
     let next = c.in-Further.next in
     let whole = ty_in files c.args.file c.args.base (type_tree c.args.tree.now) in
     let some : 0 < c.typedefs.left = omega arith in
-    goes_on files c.typedefs.left c.typedefs.at.file c.typedefs.at.base tree.at tree.form whole c.typedefs.invariant c.in-Named.word next.file next.base (type_tree next.tree.now) c.in-Named.is some
-    (c.in-Further.ensures ∙ ap (target files c.typedefs.at.file) c.as_slice.ensures)
+    goes_on files c.typedefs.left c.typedefs.at.file c.typedefs.at.base tree.at tree.form whole c.typedefs.invariant c.in-Named.word next.file next.base (type_tree next.tree.now) c.ahead-ahead.result c.in-Named.is some (sym (ap target_of c.in-Further.is))
+    (c.ahead-ahead.ensures.meant ∙ ap (λ (w : List ℕ). ty_by (target files c.typedefs.at.file w) (followed (c.typedefs.left - 1) files)) c.as_slice.ensures)
 
 pub returns-in_default : goal.returns-in_default
 returns-in_default c =

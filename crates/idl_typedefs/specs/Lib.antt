@@ -1,0 +1,2 @@
+-- Where typedefs of typedefs end.
+pub mod Hops

@@ -1,0 +1,77 @@
+//! The names of typedefs followed one by one.
+ghost use Rattle.std.specs.Prelude.{◌≡◌, ◌+◌, IfSome, option_copied, option_map};
+ghost use Rattle.idl_parser.specs.Declarations.{definition_tree};
+ghost use Rattle.idl_parser.specs.Trees.{type_tree};
+ghost use Rattle.idl_names.specs.Files.{file_trees};
+ghost use Rattle.idl_typedefs.specs.Hops.{Follows, IsHop, alias_in, alias_of, next};
+
+use crate::typedefs::{Hop, Typedefs};
+use idl_names::{Names, Scope, Spot, definition_at};
+use idl_parser::{Definition, TypeExpr, TypeForm};
+
+/// What the name means that is a typedef's whole type.
+#[tactic(auto, unfolding(crate::specs::Hops::next))]
+pub(crate) fn next(names: &Names<'_>, spot: Spot) -> Option<Spot>
+    ensures { result ≡ next (file_trees names.now.files.now) spot }
+{
+    let word = alias_in(definition_at(names.files, spot))?;
+    names.look_up(spot.file, Scope::Types, word)
+}
+
+fn alias_in<'d>(definition: Option<&'d Definition>) -> Option<&'d [u8]>
+    ensures { option_copied result ≡ alias_in (option_map definition_tree (option_copied definition.entry)) }
+{
+    match definition {
+        Some(Definition::Typedef(_, ty)) => alias_of(ty),
+        _ => None,
+    }
+}
+
+fn alias_of(ty: &TypeExpr) -> Option<&[u8]>
+    ensures { option_copied result ≡ alias_of (type_tree ty.now) }
+{
+    match &ty.form {
+        TypeForm::Named(word) => Some(word.as_slice()),
+        _ => None,
+    }
+}
+
+/// The hop from a definition: the names are followed up to the first from which a hop is known. None where they lead
+/// round.
+pub(crate) fn follow(typedefs: &Typedefs, names: &Names<'_>, spot: Spot) -> Option<Hop>
+    requires { Follows (file_trees names.now.files.now) typedefs.now }
+    ensures { IfSome result (IsHop (file_trees names.now.files.now)) }
+{
+    let limit = names.definition_count();
+    let mut at = spot;
+    let mut steps = 0;
+    'names: while steps <= limit {
+        if let Some(hop) = typedefs.hop(at) {
+            return joined(spot, steps, hop);
+        }
+        match next(names, at) {
+            Some(further) => at = further,
+            None => {
+                return Some(Hop {
+                    first: spot,
+                    last: at,
+                    steps,
+                });
+            }
+        }
+        steps += 1;
+    }
+    None
+}
+
+fn joined(first: Spot, steps: usize, hop: Hop) -> Option<Hop>
+    ensures first { IfSome result (λ whole. whole.first ≡ first) }
+    ensures last { IfSome result (λ whole. whole.last ≡ hop.last) }
+    ensures steps { IfSome result (λ whole. whole.steps ≡ steps + hop.steps) }
+{
+    Some(Hop {
+        first,
+        last: hop.last,
+        steps: steps.checked_add(hop.steps)?,
+    })
+}
