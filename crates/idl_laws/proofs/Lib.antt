@@ -1,0 +1,2 @@
+-- Lemmas on tokens that begin a document.
+pub mod Fronts

@@ -1,0 +1,2 @@
+-- What the grammar says of tokens that are no document.
+pub mod Faults
