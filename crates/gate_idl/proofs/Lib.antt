@@ -1,2 +1,4 @@
 -- Lemmas.
+pub mod Alike
+pub mod Once
 pub mod Opened

@@ -1,4 +1,4 @@
-use Rattle.std.proofs.Common.{◌≡◌, Err, ap, sym, subst}
+use Rattle.std.proofs.Common.{Err, sym, subst}
 use Rattle.idl_names.specs.Files.{file_trees}
 use Rattle.gate_idl.specs.declared.opening.Stop.{Stop}
 use Rattle.gate_idl.specs.Opening.{IsOpened, Opens, HasCause}
