@@ -53,6 +53,7 @@ impl<J: Judge> Session<J> {
         ensures given { IfOk result (λ s. (s.judge ≡ judge) × (s.limit ≡ limit) × (s.most ≡ most)) }
         ensures fits { IfOk result (λ s. Fits (J.rules judge) limit most nothing s.standing) }
         ensures rest { IfOk result (λ s. IsAtRest (J.rules judge) limit most s.standing s.outcome) }
+        ensures going { IfOk result (λ s. s.outcome ≡ None) }
     {
         let state = State::open(alloc, limit, most)?;
         Ok(Session { judge, state })
