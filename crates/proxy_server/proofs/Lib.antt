@@ -1,6 +1,9 @@
 -- Lemmas.
+pub mod Calls
+pub mod Endings
 pub mod Places
 pub mod Running
 pub mod Standing
 pub mod Streams
+pub mod Tallies
 pub mod Texts

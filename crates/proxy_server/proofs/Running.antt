@@ -1,5 +1,5 @@
 -- What the calls of a turn add up to.
-use Rattle.std.proofs.Common.{◌≡◌, ℕ, zero, suc, ◌+◌, ◌-◌, ◌<◌, ◌≤◌, ◌⊎◌, ◌||◌, inl, inr, List, [], ◌∷◌, ◌++◌, length, take, nat_lt, Option, None, Some, is_some, Result, Err, Bool, true, false, true≢false, if◌then◌else◌, arith, ap, sym, ◌∙◌, subst, refl, append_assoc, length-append, length-take-le}
+use Rattle.std.proofs.Common.{◌≡◌, ◌≢◌, ℕ, zero, suc, ◌+◌, ◌-◌, ◌<◌, ◌≤◌, ◌⊎◌, ◌||◌, inl, inr, List, [], ◌∷◌, ◌++◌, length, take, nat_lt, Option, None, Some, is_some, Result, Err, Bool, true, false, true≢false, if◌then◌else◌, arith, ap, sym, ◌∙◌, subst, refl, append_assoc, length-append, length-take-le}
 use Rattle.std.proofs.lemmas.List.{append-nil, take_all}
 use Rattle.std.proofs.lemmas.Bool.Decides.{nat_tests}
 use Rattle.std.specs.Int.{from_be_bytes, w32}
@@ -117,7 +117,11 @@ runs_on n m u v w r s t p q = record {
 }
 
 pub breaks_on : (n : ℕ) (u v : Waits) (x : Side) (r s t : Told) → Runs n u v r s → Breaks x s t → Breaks x r t
-breaks_on n u v x r s t p q = record { grows = all_grow_on r s t p.grows q.grows; failed = q.failed }
+breaks_on n u v x r s t p q = record { grows = all_grow_on r s t p.grows q.grows; failed = q.failed; others = λ y other f. had_failed y (q.others y other f) }
+  where
+    had_failed : (y : Side) → HasFailed y s → HasFailed y r
+    had_failed y (inl f) = inl (p.none_failed.reads y f)
+    had_failed y (inr f) = inr (p.none_failed.writes y f)
 
 -- one side has changed, by a call that did not fail
 record LinkRuns (moved : ℕ) (a b : Link) : Type 0 where
@@ -323,6 +327,12 @@ failed_read : (x : Side) (s : Told) (a : Link) → HasFailed x (with_link x (rec
 failed_read side.Client s a = inl refl
 failed_read side.Upstream s a = inl refl
 
+others_kept : (x : Side) (s : Told) (l : Link) (y : Side) → y ≢ x → HasFailed y (with_link x l s) → HasFailed y s
+others_kept side.Client s l side.Client other f = absurd (other refl)
+others_kept side.Client s l side.Upstream other f = f
+others_kept side.Upstream s l side.Client other f = f
+others_kept side.Upstream s l side.Upstream other f = absurd (other refl)
+
 pub write_failed : (x : Side) (from : List ℕ) (matches : History → Type 0) (s t : Told) → matches (history_of s) → AtSide x (LinkWrites from put.Failed) s t → Breaks x s t × matches (history_of t)
 write_failed x from matches s t fit does =
     let at = at_side x (LinkWrites from put.Failed) s t does in
@@ -330,7 +340,7 @@ write_failed x from matches s t fit does =
     let after : Link = record a { last_write = Some put.Failed } in
     let e : t ≡ with_link x after s = at.2 ∙ ap (λ l. with_link x l s) at.1 in
     subst (λ (u : Told). Breaks x s u × matches (history_of u)) (sym e) (
-      record { grows = one_grows x s after (record { received = ([], sym (append-nil a.received)); sent = ([], sym (append-nil a.sent)); ended = λ e. e }); failed = failed_write x s a },
+      record { grows = one_grows x s after (record { received = ([], sym (append-nil a.received)); sent = ([], sym (append-nil a.sent)); ended = λ e. e }); failed = failed_write x s a; others = others_kept x s after },
       subst matches (sym (told_history x s (Some put.Failed))) fit,
     )
 
@@ -341,7 +351,7 @@ read_failed x into matches s t fit does =
     let after : Link = record a { last_read = Some got.Failed } in
     let e : t ≡ with_link x after s = at.2 ∙ ap (λ l. with_link x l s) at.1.1 in
     subst (λ (u : Told). Breaks x s u × matches (history_of u)) (sym e) (
-      record { grows = one_grows x s after (record { received = ([], sym (append-nil a.received)); sent = ([], sym (append-nil a.sent)); ended = λ e. e }); failed = failed_read x s a },
+      record { grows = one_grows x s after (record { received = ([], sym (append-nil a.received)); sent = ([], sym (append-nil a.sent)); ended = λ e. e }); failed = failed_read x s a; others = others_kept x s after },
       subst matches (sym (asked_history x s (Some got.Failed))) fit,
     )
 

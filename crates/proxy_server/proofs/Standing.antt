@@ -1,54 +1,28 @@
 -- What events, turns and closings do to what a server stands on.
-use Rattle.std.proofs.Common.{◌≡◌, ◌≢◌, ℕ, zero, suc, ◌+◌, ◌<◌, ◌≤◌, ◌⊎◌, inl, inr, List, [], ◌∷◌, ◌++◌, length, take, Option, None, Some, true, false, true≢false, arith, ap, sym, ◌∙◌, subst, refl, append_assoc}
+use Rattle.std.proofs.Common.{◌≡◌, ◌≢◌, ℕ, ◌+◌, ◌<◌, ◌≤◌, ◌⊎◌, inl, inr, List, [], ◌∷◌, ◌++◌, length, Option, None, Some, true, false, true≢false, arith, ap, sym, ◌∙◌, subst, refl, length-append}
 use Rattle.std.specs.Prelude.{IsSome}
-use Rattle.std.proofs.lemmas.List.{append-nil}
-use Rattle.std.proofs.lemmas.Grind.{flat_map-append}
-use Rattle.std.specs.Io.KnownBytes.{Appends}
 use Rattle.std.specs.List.{slice_get, remove}
 use Rattle.std.proofs.Math.ListN.{set as put}
-use Rattle.gate_io.specs.Meaning.{Told, Link, Meaning, Started, IsOpen, link_of, reopened, new_session}
-use Rattle.gate_io.specs.Hubs.{Leads, Changes, Closes, Comes, HasStarted, NextLeads}
-use Rattle.gate_io.specs.Causes.{Rose}
-use Rattle.gate_io.specs.declared.hub.Served.{Served}
-use Rattle.gate_io.specs.declared.hub.Served.TheVariants as served
-use Rattle.proxy_server.specs.declared.server.Attended.{Attended}
-use Rattle.proxy_server.specs.declared.server.Attended.TheVariants as attended
+use Rattle.gate_io.specs.Meaning.{Told, Meaning, Started, IsOpen, reopened, new_session}
+use Rattle.gate_io.specs.Hubs.{Changes, Closes, Comes}
 use Rattle.gate_io.specs.declared.hub.Side.{Side}
 use Rattle.gate_io.specs.declared.hub.Side.TheVariants as side
-use Rattle.gate_io.specs.declared.hub.HubNext.{HubNext}
 use Rattle.gate_io.specs.declared.hub.HubNext.TheVariants as event
-use Rattle.gate_io.specs.declared.hub.LinkPut.TheVariants as puts
 use Rattle.session_core.specs.Rules.{Rules}
-use Rattle.session_core.specs.Standing.{Standing, History, nothing}
+use Rattle.session_core.specs.Standing.{nothing}
 use Rattle.session_core.specs.Session.{Seen}
 use Rattle.session_core.specs.declared.outcome.Outcome.{Outcome}
 use Rattle.session_core.specs.declared.outcome.Outcome.TheVariants as outcome
 use Rattle.proxy_server.specs.Matching.{history_of, Matches, IsSame}
-use Rattle.session_core.specs.Fits.{Fits}
-use Rattle.session_core.specs.Steps.{outcome_of}
-use Rattle.proxy_server.specs.Lines.{line_text}
-use Rattle.session_core.specs.Session.{due_to}
-use Rattle.proxy_server.specs.Fronts.{AppendsFront}
-use Rattle.proxy_server.proofs.Streams.{appends_none, appends_on, then_front, front_of_more}
-use Rattle.proxy_server.specs.Turning.{ReadsNoMore, held_of_side, AllGrow, NoneFailed, HasFailed, IsSettled, Goes, TurnDoes, EndsBy, ByLink, BySession, EndsAs, GoesOn}
-use Rattle.proxy_server.specs.declared.ending.Turn.TheVariants as turn
-use Rattle.proxy_server.specs.declared.writing.Wrote.{Wrote}
-use Rattle.proxy_server.specs.declared.writing.Wrote.TheVariants as wrote
-use Rattle.proxy_server.specs.declared.server.Went.{Went}
-use Rattle.proxy_server.specs.declared.server.Went.TheVariants as went
-use Rattle.proxy_server.specs.Serving.{Setting, Entry, Closing, IsHeld, IsOutcome, NotOpened, LinkFailed, OfItself, HasClosed, IsAmong, IsOpenOne, IsEndedOne, IsRising, Stands, IsBusy, Awaits, no_more, Keeps, IsFresh, EndsOn, closing_line, closing_lines, left_line, left_lines}
-use Rattle.proxy_server.specs.Steps.{Waits, IsNamed, Writes, WentWrites, WentTo, IsSpent, Leaves, IsLeft, Attends, Serves, first_wrote, served_by, Goes as StepGoes}
+use Rattle.proxy_server.specs.Turning.{AllGrow, NoneFailed, HasFailed, IsSettled}
+use Rattle.proxy_server.specs.Serving.{Setting, Entry, Closing, IsHeld, IsOutcome, NotOpened, LinkFailed, OfItself, HasClosed, IsAmong, IsOpenOne, IsEndedOne, IsRising, Stands, no_more}
+use Rattle.proxy_server.specs.Working.{Waits, IsBusy, IsNamed, Awaits}
 use Rattle.proxy_server.proofs.Places.{decide, some_same, get_put_same, get_put_other, put_as_it_was, get_within, get_last, get_before, behind_cases, put_cases, shift, shift_get, shift_rises, shift_elsewhere, unshift, elsewhere}
+use Rattle.proxy_server.proofs.Tallies.{opened_work, ready_work, held_work}
 
-pub keeps_then : (told told' told'' P Q R : Meaning → Type 0) → Keeps told told' P Q → Keeps told' told'' Q R → Keeps told told'' P R
-keeps_then told told' told'' P Q R p q = λ m tells is.
-    let first = p m tells is in
-    q first.0 first.1 first.2
-
-pub keeps_on : (told told' P Q R : Meaning → Type 0) → Keeps told told' P Q → ((m : Meaning) → Q m → R m) → Keeps told told' P R
-keeps_on told told' P Q R p by = λ m tells is.
-    let first = p m tells is in
-    (first.0, first.1, by first.0 first.2)
+-- at a wait
+abbrev pub Rests : (J : Type 0) → (J → Rules) → Setting → List (Entry J) → List Closing → Meaning → Type 0
+Rests J rules set held past m = Stands J rules set no_more held past (length held) 0 m
 
 -- a session that is closed is not one that is open
 two_numbers : (m : Meaning) (i j : ℕ) → (m.session i).closed ≡ true → (m.session j).closed ≡ false → i ≢ j
@@ -181,10 +155,14 @@ closed_failed : (x : Side) (t : Told) → HasFailed x t → HasFailed x (record 
 closed_failed side.Client t f = f
 closed_failed side.Upstream t f = f
 
+pub closed_calm : (x : Side) (t : Told) → HasFailed x (record t { closed = true }) → HasFailed x t
+closed_calm side.Client t f = f
+closed_calm side.Upstream t f = f
+
 closed_outcome : (set : Setting) (o : Outcome) (t : Told) → IsOutcome set o t → IsOutcome set o (record t { closed = true })
-closed_outcome set o t (NotOpened a b) = NotOpened a b
-closed_outcome set o t (LinkFailed x s a f fits) = LinkFailed x s a (closed_failed x t f) fits
-closed_outcome set o t (OfItself s a fits) = OfItself s a fits
+closed_outcome set o t (NotOpened a b calm) = NotOpened a b (λ x f. calm x (closed_calm x t f))
+closed_outcome set o t (LinkFailed x s a f calm fits) = LinkFailed x s a (closed_failed x t f) (λ y other g. calm y other (closed_calm y t g)) fits
+closed_outcome set o t (OfItself s a calm fits) = OfItself s a (λ x f. calm x (closed_calm x t f)) fits
 
 -- one more has ended: it is closed now, and was open before
 pub record Ends (set : Setting) (past : List Closing) (k : ℕ) (o : Outcome) (m n : Meaning) : Type 0 where
@@ -217,7 +195,7 @@ once_more set past k o m n e i j c d less p q = by (behind_cases past (k, o) c i
     by (inr x) (inr y) = e.once i j c d less x y
 
 -- the session at a place has ended, and is let go
-pub removes : (J : Type 0) (rules : J → Rules) (set : Setting) (held : List (Entry J)) (past : List Closing) (at : ℕ) (e : Entry J) (o : Outcome) (m n : Meaning) → slice_get held at ≡ Some e → Stands J rules set no_more held past at 0 m → IsOutcome set o (m.session e.number) → Changes e.number Closes m n → Waits J rules set (remove held at) (past ++ (e.number, o) ∷ []) n
+pub removes : (J : Type 0) (rules : J → Rules) (set : Setting) (held : List (Entry J)) (past : List Closing) (at : ℕ) (e : Entry J) (o : Outcome) (m n : Meaning) → slice_get held at ≡ Some e → Stands J rules set no_more held past at 0 m → IsOutcome set o (m.session e.number) → Changes e.number Closes m n → Rests J rules set (remove held at) (past ++ (e.number, o) ∷ []) n
 removes J rules set held past at e o m n was s why change = record {
   started = subst (λ (x : Option Started). IsSome x) (sym change.started) s.started;
   rising = λ i j d f less p q. s.rising (shift at i) (shift at j) d f (shift_rises at i j less) (back i d p) (back j f q);
@@ -279,8 +257,8 @@ reopened_unfailed side.Upstream t (inl f) = absurd (cc)
 reopened_unfailed side.Upstream t (inr f) = absurd (cc)
 
 -- and is closed at once
-pub refuses : (J : Type 0) (rules : J → Rules) (set : Setting) (held : List (Entry J)) (past : List Closing) (k : ℕ) (o : Outcome) (m n : Meaning) → Awaits J rules set k held past m → (o ≡ outcome.Full) ⊎ (o ≡ outcome.NoMemory) → Changes k Closes m n → Waits J rules set held (past ++ (k, o) ∷ []) n
-refuses J rules set held past k o m n a why change = record {
+pub refuses : (J : Type 0) (rules : J → Rules) (set : Setting) (begun : Meaning) (spent : ℕ) (held : List (Entry J)) (past : List Closing) (k : ℕ) (o : Outcome) (m n : Meaning) → Awaits J rules set begun spent k held past m → (o ≡ outcome.Full) ⊎ (o ≡ outcome.NoMemory) → Changes k Closes m n → Rests J rules set held (past ++ (k, o) ∷ []) n
+refuses J rules set begun spent held past k o m n a why change = record {
   started = subst (λ (x : Option Started). IsSome x) (sym change.started) s.started;
   rising = s.rising;
   each = λ i d p. stay (λ u. IsHeld J rules set d.session u) i d p (s.each i d p);
@@ -297,7 +275,7 @@ refuses J rules set held past k o m n a why change = record {
     s = a.stands
 
     ends : Ends set past k o m n
-    ends = record { announced = ap (λ (u : Told). u.announced) a.new; was_open = ap (λ (u : Told). u.closed) a.new; why = NotOpened why (ap history_of a.new); ended = s.ended; once = s.once; change = change }
+    ends = record { announced = ap (λ (u : Told). u.announced) a.new; was_open = ap (λ (u : Told). u.closed) a.new; why = NotOpened why (ap history_of a.new) (subst (λ u. (x : Side) → HasFailed x u → ⊥) (sym a.new) new_unfailed); ended = s.ended; once = s.once; change = change }
 
     stay : (P : Told → Type 0) (i : ℕ) (d : Entry J) → slice_get held i ≡ Some d → P (m.session d.number) → P (n.session d.number)
     stay P i d p q = subst P (sym (change.others d.number (λ e. absurd (omega (arith, a.above i d p, e))))) q
@@ -312,8 +290,8 @@ refuses J rules set held past k o m n a why change = record {
     by j announced (inr other) = known j (s.covers j (ap (λ (u : Told). u.announced) (sym (change.others j other)) ∙ announced))
 
 -- or is opened
-pub opens : (J : Type 0) (rules : J → Rules) (set : Setting) (held : List (Entry J)) (past : List Closing) (e : Entry J) (m : Meaning) → Awaits J rules set e.number held past m → rules e.session.judge ≡ set.rules → e.session.limit ≡ set.limit → e.session.most ≡ set.most → Matches J rules e.session nothing → Stands J rules set no_more (held ++ e ∷ []) past (length held) 0 m
-opens J rules set held past e m a judged limited calls matches = record {
+opens : (J : Type 0) (rules : J → Rules) (set : Setting) (begun : Meaning) (spent : ℕ) (held : List (Entry J)) (past : List Closing) (e : Entry J) (m : Meaning) → Awaits J rules set begun spent e.number held past m → rules e.session.judge ≡ set.rules → e.session.limit ≡ set.limit → e.session.most ≡ set.most → Matches J rules e.session nothing → Stands J rules set no_more (held ++ e ∷ []) past (length held) 0 m
+opens J rules set begun spent held past e m a judged limited calls matches = record {
   started = s.started;
   rising = rises;
   each = λ i d p. cases (λ i d. IsHeld J rules set d.session (m.session d.number)) is_held s.each i d p;
@@ -355,8 +333,8 @@ opens J rules set held past e m a judged limited calls matches = record {
 
 -- ---- events
 
-pub announces : (J : Type 0) (rules : J → Rules) (set : Setting) (held : List (Entry J)) (past : List Closing) (k : ℕ) (m n : Meaning) → Waits J rules set held past m → ((j : ℕ) → (m.session j).announced ≡ true → j < k) → Comes k (event.Opened k) new_session m n → Awaits J rules set k held past n
-announces J rules set held past k m n s over comes = record {
+pub announces : (J : Type 0) (rules : J → Rules) (set : Setting) (begun : Meaning) (spent : ℕ) (held : List (Entry J)) (past : List Closing) (k : ℕ) (m n : Meaning) → Waits J rules set begun spent held past m → ((j : ℕ) → (m.session j).announced ≡ true → j < k) → Comes k (event.Opened k) new_session m n → Awaits J rules set begun (spent + 1) k held past n
+announces J rules set begun spent held past k m n waits over comes = record {
   stands = record {
     started = subst (λ (x : Option Started). IsSome x) (sym comes.started) s.started;
     rising = s.rising;
@@ -373,8 +351,12 @@ announces J rules set held past k m n s over comes = record {
   };
   new = comes.session;
   above = above;
+  work = opened_work begun set spent (length held) past k m n waits.work over (λ i c p. (s.ended i c p).announced) comes;
 }
   where
+    s : Rests J rules set held past m
+    s = waits.stands
+
     above : (i : ℕ) (e : Entry J) → slice_get held i ≡ Some e → e.number < k
     above i e p = over e.number (s.each i e p).announced
 
@@ -389,10 +371,13 @@ announces J rules set held past k m n s over comes = record {
     by j announced (inl is) = inl is
     by j announced (inr other) = known j (s.covers j (ap (λ (u : Told). u.announced) (sym (comes.others j other)) ∙ announced))
 
-pub names : (J : Type 0) (rules : J → Rules) (set : Setting) (held : List (Entry J)) (past : List Closing) (k : ℕ) (m n : Meaning) → Waits J rules set held past m → IsOpen k m → Comes k (event.Ready k) (reopened (m.session k)) m n → IsNamed J rules set k held past n
-names J rules set held past k m n s open_at comes = known (s.covers k open_at.0)
+pub names : (J : Type 0) (rules : J → Rules) (set : Setting) (begun : Meaning) (spent : ℕ) (held : List (Entry J)) (past : List Closing) (k : ℕ) (m n : Meaning) → Waits J rules set begun spent held past m → IsOpen k m → Comes k (event.Ready k) (reopened (m.session k)) m n → IsNamed J rules set begun (spent + 1) k held past n
+names J rules set begun spent held past k m n waits open_at comes = known (s.covers k open_at.0)
   where
-    here : (i : ℕ) (e : Entry J) → slice_get held i ≡ Some e → e.number ≡ k → IsNamed J rules set k held past n
+    s : Rests J rules set held past m
+    s = waits.stands
+
+    here : (i : ℕ) (e : Entry J) → slice_get held i ≡ Some e → e.number ≡ k → IsNamed J rules set begun (spent + 1) k held past n
     here i e p q =
         let h = s.each i e p in
         let after : n.session e.number ≡ reopened (m.session e.number) = ap n.session q ∙ (comes.session ∙ ap (λ j. reopened (m.session j)) (sym q)) in (
@@ -417,25 +402,29 @@ names J rules set held past k m n s open_at comes = known (s.covers k open_at.0)
                   unfailed = λ off. absurd (off refl);
                   busy_before = λ j d got off _. λ is. absurd (omega (arith, get_within held j d got, is));
                 }));
+            going = λ d got. (s.settled i d got (λ is. absurd (omega (arith, get_within held i d got, is)))).going;
+            work = ready_work begun set spent (length held) past k m n waits.work comes;
             unfailed = λ d got. subst (λ (f : Entry J). (x : Side) → HasFailed x (n.session f.number) → ⊥) (some_same (slice_get held i) e d p got) (subst (λ u. (x : Side) → HasFailed x u → ⊥) (sym after) (λ x. reopened_unfailed x (m.session e.number)));
           },
         )
 
-    known : ⊥ ⊎ IsAmong J k held past → IsNamed J rules set k held past n
+    known : ⊥ ⊎ IsAmong J k held past → IsNamed J rules set begun (spent + 1) k held past n
     known (inl never) = absurd never
     known (inr (IsOpenOne i e p q)) = here i e p q
     known (inr (IsEndedOne i c p q)) = absurd (two_numbers m c.0 k (s.ended i c p).closed open_at.1 q)
 
 -- a session that was just opened is turned
-pub opens_busy : (J : Type 0) (rules : J → Rules) (set : Setting) (held : List (Entry J)) (past : List Closing) (e : Entry J) (m : Meaning) → Awaits J rules set e.number held past m → rules e.session.judge ≡ set.rules → e.session.limit ≡ set.limit → e.session.most ≡ set.most → Matches J rules e.session nothing → IsBusy J rules set (length held) (held ++ e ∷ []) past m
-opens_busy J rules set held past e m a judged limited calls matches = record {
-  stands = opens J rules set held past e m a judged limited calls matches;
+pub opens_busy : (J : Type 0) (rules : J → Rules) (set : Setting) (begun : Meaning) (spent : ℕ) (held : List (Entry J)) (past : List Closing) (e : Entry J) (m : Meaning) → Awaits J rules set begun spent e.number held past m → rules e.session.judge ≡ set.rules → e.session.limit ≡ set.limit → e.session.most ≡ set.most → Matches J rules e.session nothing → e.session.outcome ≡ None → length held < set.sessions → IsBusy J rules set begun spent (length held) (held ++ e ∷ []) past m
+opens_busy J rules set begun spent held past e m a judged limited calls matches going few = record {
+  stands = opens J rules set begun spent held past e m a judged limited calls matches;
+  going = λ d got. subst (λ (f : Entry J). f.session.outcome ≡ None) (some_same (slice_get (held ++ e ∷ []) (length held)) e d (get_last held e) got) going;
   unfailed = λ d got. subst (λ (f : Entry J). (x : Side) → HasFailed x (m.session f.number) → ⊥) (some_same (slice_get (held ++ e ∷ []) (length held)) e d (get_last held e) got) (subst (λ u. (x : Side) → HasFailed x u → ⊥) (sym a.new) new_unfailed);
+  work = held_work begun set spent (length held) (length (held ++ e ∷ [])) past m a.work (omega (arith, length-append held (e ∷ []), few));
 }
 
 -- ---- turns
 
-turns_on : (J : Type 0) (rules : J → Rules) (set : Setting) (held : List (Entry J)) (past : List Closing) (at : ℕ) (e e' : Entry J) (T : Told → Told → Type 0) (m n : Meaning) → slice_get held at ≡ Some e → e'.number ≡ e.number → IsSame J e.session e'.session → Stands J rules set no_more held past at 0 m → Matches J rules e'.session (history_of (n.session e.number)) → AllGrow (m.session e.number) (n.session e.number) → Changes e.number T m n → Stands J rules set no_more (put held at e') past at 0 n
+pub turns_on : (J : Type 0) (rules : J → Rules) (set : Setting) (held : List (Entry J)) (past : List Closing) (at : ℕ) (e e' : Entry J) (T : Told → Told → Type 0) (m n : Meaning) → slice_get held at ≡ Some e → e'.number ≡ e.number → IsSame J e.session e'.session → Stands J rules set no_more held past at 0 m → Matches J rules e'.session (history_of (n.session e.number)) → AllGrow (m.session e.number) (n.session e.number) → Changes e.number T m n → Stands J rules set no_more (put held at e') past at 0 n
 turns_on J rules set held past at e e' T m n was number same s matches grows change =
     let h = s.each at e was in
     changes J rules set held past at e e' at at 0 0 m n s (record {
@@ -460,360 +449,12 @@ turns_on J rules set held past at e e' T m n was number same s matches grows cha
       busy_before = λ j d p off quiet. quiet;
     })
 
-was_failed : (s t : Told) → NoneFailed s t → (x : Side) → HasFailed x t → HasFailed x s
+pub was_failed : (s t : Told) → NoneFailed s t → (x : Side) → HasFailed x t → HasFailed x s
 was_failed s t calm x (inl f) = inl (calm.reads x f)
 was_failed s t calm x (inr f) = inr (calm.writes x f)
 
 -- the entry that was written at a place, by its session
-at_place : (J : Type 0) (held : List (Entry J)) (at : ℕ) (e e' d : Entry J) (P : Seen J → Told → Type 0) (n : Meaning) → slice_get held at ≡ Some e → e'.number ≡ e.number → P e'.session (n.session e.number) → slice_get (put held at e') at ≡ Some d → P d.session (n.session d.number)
+pub at_place : (J : Type 0) (held : List (Entry J)) (at : ℕ) (e e' d : Entry J) (P : Seen J → Told → Type 0) (n : Meaning) → slice_get held at ≡ Some e → e'.number ≡ e.number → P e'.session (n.session e.number) → slice_get (put held at e') at ≡ Some d → P d.session (n.session d.number)
 at_place J held at e e' d P n was number p got =
     subst (λ (f : Entry J). P f.session (n.session f.number)) (some_same (slice_get (put held at e') at) e' d (get_put_same held at e' (get_within held at e was)) got)
     (subst (λ k. P e'.session (n.session k)) (sym number) p)
-
-pub turned_settled : (J : Type 0) (rules : J → Rules) (set : Setting) (held : List (Entry J)) (past : List Closing) (at : ℕ) (e e' : Entry J) (told told' : Meaning → Type 0) → slice_get held at ≡ Some e → e'.number ≡ e.number → IsSame J e.session e'.session → Goes told told' (Matches J rules e.session) (Matches J rules e'.session) e.number (TurnDoes J rules e'.session turn.Settled) → Keeps told told' (IsBusy J rules set at held past) (Waits J rules set (put held at e') past)
-turned_settled J rules set held past at e e' told told' was number same goes = λ m tells b.
-    let s = b.stands in
-    let h = s.each at e was in
-    let g = goes m tells (h.announced, s.is_open at e was (omega arith)) h.matches in
-    let does = g.3.session in (
-      g.0,
-      g.1,
-      is_quiet J rules set (put held at e') past at _ 0 g.0 (turns_on J rules set held past at e e' _ m g.0 was number same s g.2 does.0 g.3)
-          (λ d got. at_place J held at e e' d (λ u t. IsSettled J rules u t) g.0 was number does.2 got)
-          (λ d got. at_place J held at e e' d (λ u t. (x : Side) → HasFailed x t → ⊥) g.0 was number (λ x f. b.unfailed e was x (was_failed _ _ does.1 x f)) got),
-    )
-
-pub turned_more : (J : Type 0) (rules : J → Rules) (set : Setting) (held : List (Entry J)) (past : List Closing) (at : ℕ) (e e' : Entry J) (told told' : Meaning → Type 0) → slice_get held at ≡ Some e → e'.number ≡ e.number → IsSame J e.session e'.session → Goes told told' (Matches J rules e.session) (Matches J rules e'.session) e.number (TurnDoes J rules e'.session turn.More) → Keeps told told' (IsBusy J rules set at held past) (IsBusy J rules set at (put held at e') past)
-turned_more J rules set held past at e e' told told' was number same goes = λ m tells b.
-    let s = b.stands in
-    let h = s.each at e was in
-    let g = goes m tells (h.announced, s.is_open at e was (omega arith)) h.matches in
-    let does = g.3.session in (
-      g.0,
-      g.1,
-      record {
-        stands = turns_on J rules set held past at e e' _ m g.0 was number same s g.2 does.0 g.3;
-        unfailed = λ d got. at_place J held at e e' d (λ u t. (x : Side) → HasFailed x t → ⊥) g.0 was number (λ x f. b.unfailed e was x (was_failed _ _ does.1 x f)) got;
-      },
-    )
-
--- the session at a place has this outcome
-abbrev pub HasEndedAt : (J : Type 0) → (J → Rules) → Setting → ℕ → Outcome → List (Entry J) → List Closing → Meaning → Type 0
-HasEndedAt J rules set at o held past m = Stands J rules set no_more held past at 0 m × ((e : Entry J) → slice_get held at ≡ Some e → IsOutcome set o (m.session e.number))
-
-fits_at : (set : Setting) (rules : Rules) (limit most : ℕ) (h : History) (s : Standing) → rules ≡ set.rules → limit ≡ set.limit → most ≡ set.most → Fits rules limit most h s → Fits set.rules set.limit set.most h s
-fits_at set rules limit most h s a b d fits =
-    subst (λ (r : Rules). Fits r set.limit set.most h s) a (subst (λ (k : ℕ). Fits rules k set.most h s) b (subst (λ (k : ℕ). Fits rules limit k h s) d fits))
-
-outcome_at : (set : Setting) (rules : Rules) (limit most : ℕ) (s : Standing) → rules ≡ set.rules → limit ≡ set.limit → most ≡ set.most → outcome_of rules limit most s ≡ outcome_of set.rules set.limit set.most s
-outcome_at set rules limit most s a b d = ap (λ (r : Rules). outcome_of r limit most s) a ∙ (ap (λ (k : ℕ). outcome_of set.rules k most s) b ∙ ap (λ (k : ℕ). outcome_of set.rules set.limit k s) d)
-
-ends_so : (J : Type 0) (rules : J → Rules) (set : Setting) (session : Seen J) (o : Outcome) (s t : Told) → IsHeld J rules set session t → EndsBy session.outcome o s t → IsOutcome set o t
-ends_so J rules set session o s t h (ByLink x is f) = LinkFailed x session.standing is f (fits_at set (rules session.judge) session.limit session.most _ _ h.judged h.limited h.calls h.matches.fits)
-ends_so J rules set session o s t h (BySession is calm) = OfItself session.standing (sym (outcome_at set (rules session.judge) session.limit session.most session.standing h.judged h.limited h.calls) ∙ (sym h.matches.rest.outcome_is ∙ is)) (fits_at set (rules session.judge) session.limit session.most _ _ h.judged h.limited h.calls h.matches.fits)
-
-pub turned_ended : (J : Type 0) (rules : J → Rules) (set : Setting) (held : List (Entry J)) (past : List Closing) (at : ℕ) (e e' : Entry J) (o : Outcome) (told told' : Meaning → Type 0) → slice_get held at ≡ Some e → e'.number ≡ e.number → IsSame J e.session e'.session → Goes told told' (Matches J rules e.session) (Matches J rules e'.session) e.number (TurnDoes J rules e'.session (turn.Ended o)) → Keeps told told' (IsBusy J rules set at held past) (HasEndedAt J rules set at o (put held at e') past)
-turned_ended J rules set held past at e e' o told told' was number same goes = λ m tells b.
-    let s = b.stands in
-    let h = s.each at e was in
-    let g = goes m tells (h.announced, s.is_open at e was (omega arith)) h.matches in
-    let does = g.3.session in
-    let stands = turns_on J rules set held past at e e' _ m g.0 was number same s g.2 does.0 g.3 in (
-      g.0,
-      g.1,
-      (
-        stands,
-        (λ d got. at_place J held at e e' d (λ u t. IsOutcome set o t) g.0 was number
-            (subst (λ k. IsOutcome set o (g.0.session k)) number
-            (ends_so J rules set e'.session o (m.session e.number) (g.0.session e'.number) (stands.each at e' (get_put_same held at e' (get_within held at e was)))
-            (subst (λ k. EndsBy e'.session.outcome o (m.session e.number) (g.0.session k)) (sym number) does.1))) got),
-      ),
-    )
-
--- ---- what the calls of the server do
-
-pub went_writes : (w : Wrote) (r : Went) (old new : Option (List ℕ)) (lines : List ℕ) → (w ≡ wrote.All → r ≡ went.On) → (w ≡ wrote.Failed → r ≡ went.WriteFault) → Writes w old new lines → WentWrites r old new lines
-went_writes wrote.All r old new lines a b x = subst (λ q. WentWrites q old new lines) (sym (a refl)) x
-went_writes wrote.Failed r old new lines a b x = subst (λ q. WentWrites q old new lines) (sym (b refl)) x
-
-went_to : (J : Type 0) (rules : J → Rules) (w : Wrote) (r : Went) (set : Setting) (held : List (Entry J)) (past : List Closing) (m : Meaning) → (w ≡ wrote.All → r ≡ went.On) → (w ≡ wrote.Failed → r ≡ went.WriteFault) → Waits J rules set held past m → WentTo J rules r set held past m
-went_to J rules wrote.All r set held past m a b x = subst (λ q. WentTo J rules q set held past m) (sym (a refl)) x
-went_to J rules wrote.Failed r set held past m a b x = subst (λ q. WentTo J rules q set held past m) (sym (b refl)) x
-
-pub one_line : (k : ℕ) (o : Outcome) → closing_lines ((k, o) ∷ []) ≡ line_text k (Some o)
-one_line k o = append-nil (line_text k (Some o))
-
-pub refused : (J : Type 0) (rules : J → Rules) (set : Setting) (held held' : List (Entry J)) (past : List Closing) (k : ℕ) (o : Outcome) (w : Wrote) (r : Went) (told told' : Meaning → Type 0) → (w ≡ wrote.All → r ≡ went.On) → (w ≡ wrote.Failed → r ≡ went.WriteFault) → (o ≡ outcome.Full) ⊎ (o ≡ outcome.NoMemory) → held' ≡ held → Leads told told' (IsOpen k) (Changes k Closes) → Keeps told told' (Awaits J rules set k held past) (WentTo J rules r set held' (past ++ (k, o) ∷ []))
-refused J rules set held held' past k o w r told told' a b why same leads = λ m tells awaits.
-    let led = leads m tells (ap (λ (u : Told). u.announced) awaits.new, ap (λ (u : Told). u.closed) awaits.new) in
-    (led.0, led.1, went_to J rules w r set held' (past ++ (k, o) ∷ []) led.0 a b (subst (λ xs. Waits J rules set xs (past ++ (k, o) ∷ []) led.0) (sym same) (refuses J rules set held past k o m led.0 awaits why led.2)))
-
-pub finished : (J : Type 0) (rules : J → Rules) (set : Setting) (held held' : List (Entry J)) (past : List Closing) (at k : ℕ) (e : Entry J) (o : Outcome) (w : Wrote) (r : Went) (told told' : Meaning → Type 0) → (w ≡ wrote.All → r ≡ went.On) → (w ≡ wrote.Failed → r ≡ went.WriteFault) → slice_get held at ≡ Some e → k ≡ e.number → held' ≡ remove held at → Leads told told' (IsOpen k) (Changes k Closes) → Keeps told told' (HasEndedAt J rules set at o held past) (WentTo J rules r set held' (past ++ (k, o) ∷ []))
-finished J rules set held held' past at k e o w r told told' a b was number removed leads = λ m tells h.
-    let s = h.0 in
-    let led = leads m tells (ap (λ j. (m.session j).announced) number ∙ (s.each at e was).announced, ap (λ j. (m.session j).closed) number ∙ s.is_open at e was (omega arith)) in (
-      led.0,
-      led.1,
-      went_to J rules w r set held' (past ++ (k, o) ∷ []) led.0 a b
-          (subst (λ xs. Waits J rules set xs (past ++ (k, o) ∷ []) led.0) (sym removed)
-          (subst (λ j. Waits J rules set (remove held at) (past ++ (j, o) ∷ []) led.0) (sym number)
-          (removes J rules set held past at e o m led.0 was s (h.1 e was) (subst (λ j. Changes j Closes m led.0) number led.2)))),
-    )
-
--- no session has ended on the way
-pub with_none : (told told' Before : Meaning → Type 0) (After : List Closing → Meaning → Type 0) (past : List Closing) → Keeps told told' Before (After past) → Keeps told told' Before (After (past ++ []))
-with_none told told' Before After past p = subst (λ (xs : List Closing). Keeps told told' Before (After xs)) (sym (append-nil past)) p
-
-pub more_goes_on : (ending : Option Outcome) → EndsAs ending turn.More → ending ≡ None
-more_goes_on ending (GoesOn e) = e
-
-pub going_at : (J : Type 0) (held : List (Entry J)) (at : ℕ) (e' : Entry J) → at < length held → EndsAs e'.session.outcome turn.More → (d : Entry J) → slice_get (put held at e') at ≡ Some d → d.session.outcome ≡ None
-going_at J held at e' within ends d got = subst (λ (f : Entry J). f.session.outcome ≡ None) (some_same (slice_get (put held at e') at) e' d (get_put_same held at e' within) got) (more_goes_on e'.session.outcome ends)
-
--- ---- from one step to the next
-
--- what was gone on from, by what leads to it
-pub goes_after : (J : Type 0) (rules : J → Rules) (told told' told'' : Meaning → Type 0) (written written' : Option (List ℕ)) (set : Setting) (Before Mid : List Closing → Meaning → Type 0) (held : List (Entry J)) (r : Went) → ((past : List Closing) → Keeps told told' (Before past) (Mid past)) → StepGoes J rules told' told'' written written' set Mid held r → StepGoes J rules told told'' written written' set Before held r
-goes_after J rules told told' told'' written written' set Before Mid held r p g = (g.0, g.1, λ past. keeps_then told told' told'' (Before past) (Mid past) (WentTo J rules r set held (past ++ g.0)) (p past) (g.2 past))
-
-pub stays_so : (told Before After : Meaning → Type 0) → ((m : Meaning) → Before m → After m) → Keeps told told Before After
-stays_so told Before After by = λ m tells b. (m, tells, by m b)
-
-pub named_busy : (J : Type 0) (rules : J → Rules) (set : Setting) (held : List (Entry J)) (past : List Closing) (k at : ℕ) (d : Entry J) (m : Meaning) → slice_get held at ≡ Some d → d.number ≡ k → IsNamed J rules set k held past m → IsBusy J rules set at held past m
-named_busy J rules set held past k at d m got number (i, e, p, q, busy) = by (decide i at)
-  where
-    by : (i ≡ at) ⊎ (i ≢ at) → IsBusy J rules set at held past m
-    by (inl is) = subst (λ j. IsBusy J rules set j held past m) is busy
-    by (inr other) = absurd (elsewhere held i at e d busy.stands.rising other p got (q ∙ sym number))
-
-pub named_none : (J : Type 0) (rules : J → Rules) (set : Setting) (held : List (Entry J)) (past : List Closing) (k : ℕ) (After : Meaning → Type 0) (m : Meaning) → (IsRising held → (i : ℕ) (e : Entry J) → slice_get held i ≡ Some e → e.number ≡ k → ⊥) → IsNamed J rules set k held past m → After m
-named_none J rules set held past k After m none (i, e, p, q, busy) = absurd (none busy.stands.rising i e p q)
-
-pub stopped_on : (J : Type 0) (rules : J → Rules) (set : Setting) (held : List (Entry J)) (past : List Closing) (told told' : Meaning → Type 0) → Leads told told' HasStarted (NextLeads event.Stopped) → Keeps told told' (Waits J rules set held past) (λ n. Waits J rules set held past n × (n.last_event ≡ Some event.Stopped))
-stopped_on J rules set held past told told' leads = λ m tells s.
-    let led = leads m tells s.started in
-    let a = led.2.1 in
-    (led.0, led.1, (same_all J rules set no_more held past (length held) 0 m led.0 s a.sessions a.started, a.last_event))
-
-pub failed_on : (J : Type 0) (rules : J → Rules) (set : Setting) (held : List (Entry J)) (past : List Closing) (told told' : Meaning → Type 0) → Leads told told' HasStarted (NextLeads event.Failed) → Keeps told told' (Waits J rules set held past) (λ n. Waits J rules set held past n × (n.last_event ≡ Some event.Failed))
-failed_on J rules set held past told told' leads = λ m tells s.
-    let led = leads m tells s.started in
-    let a = led.2.1 in
-    (led.0, led.1, (same_all J rules set no_more held past (length held) 0 m led.0 s a.sessions a.started, a.last_event))
-
-pub opened_on : (J : Type 0) (rules : J → Rules) (set : Setting) (held : List (Entry J)) (past : List Closing) (k : ℕ) (told told' : Meaning → Type 0) → Leads told told' HasStarted (NextLeads (event.Opened k)) → Keeps told told' (Waits J rules set held past) (Awaits J rules set k held past)
-opened_on J rules set held past k told told' leads = λ m tells s.
-    let led = leads m tells s.started in
-    (led.0, led.1, announces J rules set held past k m led.0 s led.2.1.0 led.2.1.1)
-
-pub ready_on : (J : Type 0) (rules : J → Rules) (set : Setting) (held : List (Entry J)) (past : List Closing) (k : ℕ) (told told' : Meaning → Type 0) → Leads told told' HasStarted (NextLeads (event.Ready k)) → Keeps told told' (Waits J rules set held past) (IsNamed J rules set k held past)
-ready_on J rules set held past k told told' leads = λ m tells s.
-    let led = leads m tells s.started in
-    (led.0, led.1, names J rules set held past k m led.0 s led.2.1.0 led.2.1.1)
-
--- sessions that have ended on the way, and others after them
-pub chained : (told told' told'' : Meaning → Type 0) (written written' written'' : Option (List ℕ)) (Before Mid After : List Closing → Meaning → Type 0) (W : Option (List ℕ) → Option (List ℕ) → List ℕ → Type 0) → ((xs ys : List ℕ) → Appends written written' xs → W written' written'' ys → W written written'' (xs ++ ys)) → (more : List Closing) × Appends written written' (closing_lines more) × ((past : List Closing) → Keeps told told' (Before past) (Mid (past ++ more))) → (more : List Closing) × W written' written'' (closing_lines more) × ((past : List Closing) → Keeps told' told'' (Mid past) (After (past ++ more))) → (more : List Closing) × W written written'' (closing_lines more) × ((past : List Closing) → Keeps told told'' (Before past) (After (past ++ more)))
-chained told told' told'' written written' written'' Before Mid After W then a b = (
-  a.0 ++ b.0,
-  subst (λ xs. W written written'' xs) (sym (flat_map-append closing_line a.0 b.0)) (then (closing_lines a.0) (closing_lines b.0) a.1 b.1),
-  (λ past. subst (λ (xs : List Closing). Keeps told told'' (Before past) (After xs)) (append_assoc past a.0 b.0)
-      (keeps_then told told' told'' (Before past) (Mid (past ++ a.0)) (After ((past ++ a.0) ++ b.0)) (a.2 past) (b.2 (past ++ a.0)))),
-)
-
-pub waits_spent : (J : Type 0) (rules : J → Rules) (set : Setting) (held : List (Entry J)) (past : List Closing) (m : Meaning) → Waits J rules set held past m → IsSpent J rules set (length held) held past m
-waits_spent J rules set held past m s = record {
-  busy = record { stands = s; unfailed = λ e got. absurd (omega (arith, get_within held (length held) e got)) };
-  going = λ e got. absurd (omega (arith, get_within held (length held) e got));
-}
-
--- ---- the end
-
-closed_calm : (x : Side) (t : Told) → HasFailed x (record t { closed = true }) → HasFailed x t
-closed_calm side.Client t f = f
-closed_calm side.Upstream t f = f
-
-closed_link : (x : Side) (t : Told) → link_of (record t { closed = true }) x ≡ link_of t x
-closed_link side.Client t = refl
-closed_link side.Upstream t = refl
-
-settled_closed : (J : Type 0) (rules : J → Rules) (session : Seen J) (t : Told) → IsSettled J rules session t → IsSettled J rules session (record t { closed = true })
-settled_closed J rules session t s = record {
-  going = s.going;
-  still = s.still;
-  writes = λ x. subst (λ (l : Link). (due_to x session.standing ≡ []) ⊎ (l.last_write ≡ Some puts.NotReady)) (sym (closed_link x t)) (s.writes x);
-  reads = λ x. subst (λ (l : Link). ReadsNoMore session.limit (held_of_side x session.standing) l) (sym (closed_link x t)) (s.reads x);
-}
-
-pub leaves_next : (J : Type 0) (rules : J → Rules) (set : Setting) (held : List (Entry J)) (past : List Closing) (at busy k : ℕ) (last : Option HubNext) (e : Entry J) (told told' : Meaning → Type 0) → slice_get held at ≡ Some e → k ≡ e.number → Leads told told' (IsOpen k) (Changes k Closes) → Keeps told told' (Leaves J rules set held past busy last at) (Leaves J rules set held past busy last (at + 1))
-leaves_next J rules set held past at busy k last e told told' was number leads = λ m tells (s, same).
-    let h = s.each at e was in
-    let led = leads m tells (ap (λ j. (m.session j).announced) number ∙ h.announced, ap (λ j. (m.session j).closed) number ∙ s.is_open at e was (omega arith)) in
-    let n = led.0 in
-    let change : Changes e.number Closes m n = subst (λ j. Changes j Closes m n) number led.2 in
-    let after : n.session e.number ≡ record (m.session e.number) { closed = true } = change.session in (
-      n,
-      led.1,
-      (
-        subst (λ xs. Stands J rules set no_more xs past busy (at + 1) n) (put_as_it_was held at e was)
-            (changes J rules set held past at e e busy busy at (at + 1) m n s (record {
-              was = was;
-              number = refl;
-              before = omega arith;
-              others = change.others;
-              started = change.started;
-              is_held = subst (λ u. IsHeld J rules set e.session u) (sym after) (record { announced = h.announced; judged = h.judged; limited = h.limited; calls = h.calls; matches = h.matches });
-              closed = λ _. ap (λ (u : Told). u.closed) after;
-              is_open = λ over. absurd (omega (arith, over));
-              gone_before = λ i off under. omega (arith, off, under);
-              open_before = λ i off over. omega (arith, over);
-              settled = λ off. subst (λ u. IsSettled J rules e.session u) (sym after) (settled_closed J rules e.session (m.session e.number) (s.settled at e was off));
-              unfailed = λ off. subst (λ u. (x : Side) → HasFailed x u → ⊥) (sym after) (λ x f. s.unfailed at e was off x (closed_calm x (m.session e.number) f));
-              busy_before = λ i d p off quiet. quiet;
-            })),
-        change.last_event ∙ same,
-      ),
-    )
-
-pub left_more : (J : Type 0) (held : List (Entry J)) (at : ℕ) (e : Entry J) → slice_get held at ≡ Some e → left_lines (take (suc at) held) ≡ left_lines (take at held) ++ left_line e
-left_more J [] at e p = absurd (cc)
-left_more J (x ∷ xs) zero e p = append-nil (left_line x) ∙ ap (λ (y : Entry J). left_line y) (some_same (Some x) x e refl p)
-left_more J (x ∷ xs) (suc k) e p = ap (λ l. left_line x ++ l) (left_more J xs k e p) ∙ sym (append_assoc (left_line x) (left_lines (take k xs)) (left_line e))
-
-pub left_on : (w r : Wrote) (a b c : Option (List ℕ)) (xs ys : List ℕ) → (w ≡ wrote.All → Writes r b c ys) → (w ≡ wrote.Failed → (r ≡ wrote.Failed) × (c ≡ b)) → Writes w a b xs → Writes r a c (xs ++ ys)
-left_on wrote.All wrote.All a b c xs ys p q x = appends_on a b c xs ys x (p refl)
-left_on wrote.All wrote.Failed a b c xs ys p q x = then_front a b c xs ys x (p refl)
-left_on wrote.Failed r a b c xs ys p q x =
-    let f = q refl in
-    subst (λ (s : Wrote). Writes s a c (xs ++ ys)) (sym f.0) (front_of_more a c xs ys (subst (λ o. AppendsFront a o xs) (sym f.1) x))
-
-pub fresh_waits : (J : Type 0) (rules : J → Rules) (set : Setting) (held : List (Entry J)) (m : Meaning) → held ≡ [] → IsFresh m → Waits J rules set held [] m
-fresh_waits J rules set held m is f = subst (λ xs. Waits J rules set xs [] m) (sym is) (record {
-  started = f.started;
-  rising = λ i j d e less p q. absurd (cc);
-  each = λ i e p. absurd (cc);
-  closed = λ i e p. absurd (cc);
-  is_open = λ i e p. absurd (cc);
-  settled = λ i e p. absurd (cc);
-  unfailed = λ i e p. absurd (cc);
-  ended = λ i c p. absurd (cc);
-  once = λ i j c d less p q. absurd (cc);
-  covers = λ k announced. absurd (f.none k announced);
-})
-
-pub cause_on : (A B : Type 0) (f g h : ℕ) → (B → A ⊎ Rose f g) → f ≤ g → g ≤ h → B ⊎ Rose g h → A ⊎ Rose f h
-cause_on A B f g h before a b (inr rose) = inr (omega (arith, a, rose))
-cause_on A B f g h before a b (inl is) = next (before is)
-  where
-    next : A ⊎ Rose f g → A ⊎ Rose f h
-    next (inl x) = inl x
-    next (inr rose) = inr (omega (arith, b, rose))
-
-no_fault : (X : Type 0) → wrote.All ≡ wrote.Failed → X
-no_fault X e = absurd (cc)
-
-rose_by : (f g h : ℕ) → f ≤ g → (wrote.All ≡ wrote.Failed) ⊎ Rose g h → Rose f h
-rose_by f g h a (inl e) = no_fault _ e
-rose_by f g h a (inr rose) = omega (arith, a, rose)
-
--- what is left, where each session is settled
-quiet_left : (J : Type 0) (result : Served) (held : List (Entry J)) → IsLeft J result held (length held)
-quiet_left J result held = record { all_settled = λ _. omega arith; going = λ e got. absurd (omega (arith, get_within held (length held) e got)) }
-
-abbrev LeftSo : (J : Type 0) → (J → Rules) → Setting → Served → List (Entry J) → List Closing → ℕ → Meaning → Type 0
-LeftSo J rules set result held ended busy n = Stands J rules set no_more held ended busy (length held) n × EndsOn result n × IsLeft J result held busy
-
--- the whole of a server, from its events and its last lines
-pub record Parts (J : Type 0) (rules : J → Rules) (set : Setting) (a : Attended) (w : Wrote) (told told' told'' : Meaning → Type 0) (written written' written'' : Option (List ℕ)) (f g h : ℕ) (begun held : List (Entry J)) : Type 0 where
-  pub none_before : begun ≡ []
-  pub attends : Attends J rules told told' written written' set begun held a
-  pub lines : first_wrote a ≡ wrote.All → Writes w written' written'' (left_lines held)
-  pub no_lines : first_wrote a ≡ wrote.Failed → (w ≡ wrote.Failed) × (written'' ≡ written')
-  pub leaves : (ended : List Closing) (busy : ℕ) (last : Option HubNext) → Keeps told' told'' (Leaves J rules set held ended busy last 0) (Leaves J rules set held ended busy last (length held))
-  pub fault : a ≡ attended.WriteFault → Rose f g
-  pub cause : w ≡ wrote.Failed → (first_wrote a ≡ wrote.Failed) ⊎ Rose g h
-  pub later : f ≤ g
-  pub later_still : g ≤ h
-
-pub serves_parts : (J : Type 0) (rules : J → Rules) (set : Setting) (a : Attended) (w : Wrote) (told told' told'' : Meaning → Type 0) (written written' written'' : Option (List ℕ)) (f g h : ℕ) (begun held : List (Entry J)) → Parts J rules set a w told told' told'' written written' written'' f g h begun held → Serves J rules told told'' written written'' f h set (served_by a w)
-serves_parts J rules set attended.Stopped wrote.All told told' told'' written written' written'' f g h begun held p =
-    let a = p.attends in (
-      held,
-      a.0,
-      length held,
-      appends_on written written' written'' (closing_lines a.0) (left_lines held) a.1 (p.lines refl),
-      (λ m tells fresh.
-          let b = a.2 [] m tells (fresh_waits J rules set begun m p.none_before fresh) in
-          let d = p.leaves a.0 (length held) b.0.last_event b.0 b.1 (b.2.0, refl) in
-          (d.0, d.1, (d.2.0, d.2.1 ∙ b.2.1, quiet_left J served.Stopped held))),
-    )
-serves_parts J rules set attended.Stopped wrote.Failed told told' told'' written written' written'' f g h begun held p =
-    let a = p.attends in (
-      held,
-      a.0,
-      length held,
-      (then_front written written' written'' (closing_lines a.0) (left_lines held) a.1 (p.lines refl), rose_by f g h p.later (p.cause refl)),
-      (λ m tells fresh.
-          let b = a.2 [] m tells (fresh_waits J rules set begun m p.none_before fresh) in
-          let d = p.leaves a.0 (length held) b.0.last_event b.0 b.1 (b.2.0, refl) in
-          (d.0, d.1, (d.2.0, tt, quiet_left J served.WriteFault held))),
-    )
-serves_parts J rules set attended.HubFault wrote.All told told' told'' written written' written'' f g h begun held p =
-    let a = p.attends in (
-      held,
-      a.0,
-      length held,
-      inl (appends_on written written' written'' (closing_lines a.0) (left_lines held) a.1 (p.lines refl)),
-      (λ m tells fresh.
-          let b = a.2 [] m tells (fresh_waits J rules set begun m p.none_before fresh) in
-          let d = p.leaves a.0 (length held) b.0.last_event b.0 b.1 (b.2.0, refl) in
-          (d.0, d.1, (d.2.0, d.2.1 ∙ b.2.1, quiet_left J served.HubFault held))),
-    )
-serves_parts J rules set attended.HubFault wrote.Failed told told' told'' written written' written'' f g h begun held p =
-    let a = p.attends in (
-      held,
-      a.0,
-      length held,
-      inr (then_front written written' written'' (closing_lines a.0) (left_lines held) a.1 (p.lines refl), rose_by f g h p.later (p.cause refl)),
-      (λ m tells fresh.
-          let b = a.2 [] m tells (fresh_waits J rules set begun m p.none_before fresh) in
-          let d = p.leaves a.0 (length held) b.0.last_event b.0 b.1 (b.2.0, refl) in
-          (d.0, d.1, (d.2.0, d.2.1 ∙ b.2.1, quiet_left J served.HubFault held))),
-    )
-serves_parts J rules set attended.WriteFault w told told' told'' written written' written'' f g h begun held p =
-    let a = p.attends in
-    let q = p.no_lines refl in (
-      held,
-      a.0,
-      length held,
-      (front_of_more written written'' (closing_lines a.0) (left_lines held) (subst (λ o. AppendsFront written o (closing_lines a.0)) (sym q.1) a.1), omega (arith, p.fault refl, p.later_still)),
-      (λ m tells fresh.
-          let b = a.2 [] m tells (fresh_waits J rules set begun m p.none_before fresh) in
-          let d = p.leaves a.0 (length held) b.0.last_event b.0 b.1 (b.2, refl) in
-          (d.0, d.1, (d.2.0, tt, quiet_left J served.WriteFault held))),
-    )
-serves_parts J rules set (attended.Budget at) wrote.All told told' told'' written written' written'' f g h begun held p =
-    let a = p.attends in (
-      held,
-      a.0,
-      at,
-      inl (appends_on written written' written'' (closing_lines a.0) (left_lines held) a.1 (p.lines refl)),
-      (λ m tells fresh.
-          let b = a.2 [] m tells (fresh_waits J rules set begun m p.none_before fresh) in
-          let d = p.leaves a.0 at b.0.last_event b.0 b.1 (b.2.busy.stands, refl) in
-          (d.0, d.1, (d.2.0, tt, record { all_settled = λ off. absurd (off refl); going = b.2.going }))),
-    )
-serves_parts J rules set (attended.Budget at) wrote.Failed told told' told'' written written' written'' f g h begun held p =
-    let a = p.attends in (
-      held,
-      a.0,
-      at,
-      inr (then_front written written' written'' (closing_lines a.0) (left_lines held) a.1 (p.lines refl), rose_by f g h p.later (p.cause refl)),
-      (λ m tells fresh.
-          let b = a.2 [] m tells (fresh_waits J rules set begun m p.none_before fresh) in
-          let d = p.leaves a.0 at b.0.last_event b.0 b.1 (b.2.busy.stands, refl) in
-          (d.0, d.1, (d.2.0, tt, record { all_settled = λ off. absurd (off refl); going = b.2.going }))),
-    )
-
-pub serves_none : (J : Type 0) (rules : J → Rules) (set : Setting) (told : Meaning → Type 0) (written : Option (List ℕ)) (f : ℕ) → Serves J rules told told written written f f set served.OutOfMemory
-serves_none J rules set told written f =
-    ([], [], 0, appends_none written, (λ m tells fresh. (m, tells, (fresh_waits J rules set [] m refl fresh, tt, record { all_settled = λ _. omega arith; going = λ e got. absurd (cc) }))))

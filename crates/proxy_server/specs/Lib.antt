@@ -1,7 +1,10 @@
 -- What the server does.
+pub mod Filling
 pub mod Fronts
 pub mod Lines
 pub mod Matching
 pub mod Serving
+pub mod Spending
 pub mod Steps
 pub mod Turning
+pub mod Working

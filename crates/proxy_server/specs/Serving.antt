@@ -1,9 +1,10 @@
 -- What a server stands on while it serves.
-use Rattle.std.specs.Prelude.{◌≡◌, ◌≢◌, ℕ, ◌<◌, ◌≤◌, ◌⊎◌, List, length, true, false, None, Some, slice_get, ⊤}
+use Rattle.std.specs.Prelude.{◌≡◌, ◌≢◌, ℕ, ◌<◌, ◌≤◌, ◌⊎◌, List, Bool, true, false, Option, None, Some, slice_get}
 use Rattle.std.specs.List.{flat_map}
-use Rattle.gate_io.specs.Meaning.{Told, Meaning, new_session}
+use Rattle.gate_io.specs.Meaning.{Told, Meaning}
 use Rattle.gate_io.specs.Hubs.{HasStarted}
 use Rattle.gate_io.specs.declared.hub.Side.{Side}
+use Rattle.gate_io.specs.declared.hub.HubNext.{HubNext}
 use Rattle.gate_io.specs.declared.hub.HubNext.TheVariants as event
 use Rattle.gate_io.specs.declared.hub.Served.{Served}
 use Rattle.gate_io.specs.declared.hub.Served.TheVariants as served
@@ -18,11 +19,14 @@ use Rattle.proxy_server.specs.Lines.{line_text}
 use Rattle.proxy_server.specs.Matching.{history_of, Matches}
 use Rattle.proxy_server.specs.Turning.{IsSettled, HasFailed}
 
--- the rules of the sessions of a server, the most bytes of a frame and the most open calls
+-- the rules of the sessions of a server, the most bytes of a frame and the most open calls, the most sessions that are open at a
+-- time, and how much the server may spend
 pub record Setting : Type 0 where
   pub rules : Rules
   pub limit : ℕ
   pub most : ℕ
+  pub sessions : ℕ
+  pub events : ℕ
 
 -- a session that the server has opened, with its number at the hub
 pub record Entry (J : Type 0) : Type 0 where
@@ -41,12 +45,12 @@ pub record IsHeld (J : Type 0) (rules : J → Rules) (set : Setting) (session : 
   pub calls : session.most ≡ set.most
   pub matches : Matches J rules session (history_of t)
 
--- why a session has this outcome: it was not opened, and nothing was received or sent; a call on a side failed; or it is
--- the outcome of a session that fits what came and went
+-- why a session has this outcome: it was not opened, and nothing was received or sent; the last call of a kind on this side
+-- failed, and none on the other; or no such call failed, and it is the outcome of a session that fits what came and went
 pub data IsOutcome (set : Setting) (o : Outcome) (t : Told) : Type 0 where
-  NotOpened : (o ≡ outcome.Full) ⊎ (o ≡ outcome.NoMemory) → history_of t ≡ nothing → IsOutcome set o t
-  LinkFailed : (x : Side) (s : Standing) → o ≡ outcome.LinkFault x → HasFailed x t → Fits set.rules set.limit set.most (history_of t) s → IsOutcome set o t
-  OfItself : (s : Standing) → outcome_of set.rules set.limit set.most s ≡ Some o → Fits set.rules set.limit set.most (history_of t) s → IsOutcome set o t
+  NotOpened : (o ≡ outcome.Full) ⊎ (o ≡ outcome.NoMemory) → history_of t ≡ nothing → ((x : Side) → HasFailed x t → ⊥) → IsOutcome set o t
+  LinkFailed : (x : Side) (s : Standing) → o ≡ outcome.LinkFault x → HasFailed x t → ((y : Side) → y ≢ x → HasFailed y t → ⊥) → Fits set.rules set.limit set.most (history_of t) s → IsOutcome set o t
+  OfItself : (s : Standing) → outcome_of set.rules set.limit set.most s ≡ Some o → ((x : Side) → HasFailed x t → ⊥) → Fits set.rules set.limit set.most (history_of t) s → IsOutcome set o t
 
 -- a session that has ended, and was closed
 pub record HasClosed (set : Setting) (o : Outcome) (t : Told) : Type 0 where
@@ -79,20 +83,13 @@ pub record Stands (J : Type 0) (rules : J → Rules) (set : Setting) (More : ℕ
 abbrev pub no_more : ℕ → Type 0
 no_more k = ⊥
 
--- the session at this place is being turned, and no call of it has failed
-pub record IsBusy (J : Type 0) (rules : J → Rules) (set : Setting) (at : ℕ) (held : List (Entry J)) (past : List Closing) (m : Meaning) : Type 0 where
-  pub stands : Stands J rules set no_more held past at 0 m
-  pub unfailed : (e : Entry J) → slice_get held at ≡ Some e → (x : Side) → HasFailed x (m.session e.number) → ⊥
-
--- a new session was announced, which is neither held nor ended yet
-pub record Awaits (J : Type 0) (rules : J → Rules) (set : Setting) (k : ℕ) (held : List (Entry J)) (past : List Closing) (m : Meaning) : Type 0 where
-  pub stands : Stands J rules set (λ j. j ≡ k) held past (length held) 0 m
-  pub new : m.session k ≡ new_session
-  pub above : (i : ℕ) (e : Entry J) → slice_get held i ≡ Some e → e.number < k
-
 -- each meaning that was told and that is so leads to one that is told and is so
 abbrev pub Keeps : (Meaning → Type 0) → (Meaning → Type 0) → (Meaning → Type 0) → (Meaning → Type 0) → Type 0
 Keeps told told' Before After = (m : Meaning) → told m → Before m → ((n : Meaning) × told' n × After n)
+
+-- the same where what follows also tells of the meaning from which it was led
+abbrev pub KeepsFrom : (Meaning → Type 0) → (Meaning → Type 0) → (Meaning → Type 0) → (Meaning → Meaning → Type 0) → Type 0
+KeepsFrom told told' Before After = (m : Meaning) → told m → Before m → ((n : Meaning) × told' n × After m n)
 
 -- ---- the lines
 
@@ -113,12 +110,29 @@ left_lines held = flat_map left_line held
 -- the hub was started, no event was asked for and no session announced
 pub record IsFresh (m : Meaning) : Type 0 where
   pub started : HasStarted m
+  pub unasked : m.last_event ≡ None
   pub none : (k : ℕ) → (m.session k).announced ≡ true → ⊥
 
--- the last answer of `next` that goes with how the server ended
+-- the hub has stopped or failed
+abbrev pub is_over : Option HubNext → Bool
+is_over None = false
+is_over (Some (event.Opened k)) = false
+is_over (Some (event.Ready k)) = false
+is_over (Some event.Stopped) = true
+is_over (Some event.Failed) = true
+
+-- the last answer of `next` that goes with how the server ended: so where it is Stopped, the server answers so or a write failed
 abbrev pub EndsOn : Served → Meaning → Type 0
 EndsOn served.Stopped m = m.last_event ≡ Some event.Stopped
 EndsOn served.HubFault m = m.last_event ≡ Some event.Failed
-EndsOn served.WriteFault m = ⊤
-EndsOn served.Budget m = ⊤
-EndsOn served.OutOfMemory m = ⊤
+EndsOn served.WriteFault m = m.last_event ≢ Some event.Failed
+EndsOn served.Budget m = is_over m.last_event ≡ false
+EndsOn served.OutOfMemory m = m.last_event ≡ None
+
+-- how much was spent, where so much may be
+abbrev pub SpendsBy : Served → ℕ → ℕ → Type 0
+SpendsBy served.Stopped spent events = spent < events
+SpendsBy served.HubFault spent events = spent < events
+SpendsBy served.WriteFault spent events = spent ≤ events
+SpendsBy served.Budget spent events = spent ≡ events
+SpendsBy served.OutOfMemory spent events = spent ≡ 0

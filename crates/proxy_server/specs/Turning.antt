@@ -1,5 +1,5 @@
 -- A turn of a session.
-use Rattle.std.specs.Prelude.{◌≡◌, ℕ, ◌+◌, ◌≤◌, ◌⊎◌, List, [], ◌++◌, length, Bool, true, false, if◌then◌else◌, Option, None, Some, is_some, Result, Ok, Err}
+use Rattle.std.specs.Prelude.{◌≡◌, ◌≢◌, ℕ, ◌+◌, ◌≤◌, ◌⊎◌, List, [], ◌++◌, length, Bool, true, false, if◌then◌else◌, Option, None, Some, is_some, Result, Ok, Err}
 use Rattle.gate_io.specs.Meaning.{Told, Link, Meaning, link_of, IsOpen}
 use Rattle.gate_io.specs.Hubs.{Changes}
 use Rattle.gate_io.specs.declared.hub.Side.{Side}
@@ -67,9 +67,13 @@ pub record IsSettled (J : Type 0) (rules : J → Rules) (session : Seen J) (t : 
   pub writes : (x : Side) → (due_to x session.standing ≡ []) ⊎ ((link_of t x).last_write ≡ Some put.NotReady)
   pub reads : (x : Side) → ReadsNoMore session.limit (held_of_side x session.standing) (link_of t x)
 
--- a call on a side failed, or else the session ended
+-- where the other side's call failed, it had failed before
+abbrev pub OthersAreAsBefore : Side → Told → Told → Type 0
+OthersAreAsBefore x s t = (y : Side) → y ≢ x → HasFailed y t → HasFailed y s
+
+-- a call on a side failed, and none on the other, or else the session ended
 pub data EndsBy (ending : Option Outcome) (o : Outcome) (s t : Told) : Type 0 where
-  ByLink : (x : Side) → o ≡ outcome.LinkFault x → HasFailed x t → EndsBy ending o s t
+  ByLink : (x : Side) → o ≡ outcome.LinkFault x → HasFailed x t → OthersAreAsBefore x s t → EndsBy ending o s t
   BySession : ending ≡ Some o → NoneFailed s t → EndsBy ending o s t
 
 abbrev pub TurnDoes : (J : Type 0) → (J → Rules) → Seen J → Turn → Told → Told → Type 0
@@ -126,6 +130,7 @@ pub record Runs (moved : ℕ) (v w : Waits) (s t : Told) : Type 0 where
 pub record Breaks (x : Side) (s t : Told) : Type 0 where
   pub grows : AllGrow s t
   pub failed : HasFailed x t
+  pub others : OthersAreAsBefore x s t
 
 -- what reads and writes of a turn do
 abbrev pub CallDoes : Result ℕ Side → Waits → Waits → Told → Told → Type 0

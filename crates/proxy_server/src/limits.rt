@@ -9,6 +9,6 @@ pub struct Limits {
     pub calls: usize,
     /// The most sessions that are open at a time.
     pub sessions: usize,
-    /// After so many events and long turns the server stops.
+    /// Once so many events have named a session and turns have ended with `More`, together, the server stops.
     pub events: u64,
 }

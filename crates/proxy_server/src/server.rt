@@ -1,5 +1,5 @@
 //! A server at work: its open sessions, the line that it writes, and how much of its budget is spent.
-ghost use Rattle.std.specs.Prelude.{◌≡◌, ◌+◌, Option, ◌≢◌, ◌⊎◌, ◌<◌, ◌≤◌, ◌++◌, ◌∷◌, [], ℕ, List, length, Some, None, IfSome, slice_get};
+ghost use Rattle.std.specs.Prelude.{◌≡◌, ◌+◌, ◌^◌, Option, ◌≢◌, ◌⊎◌, ◌<◌, ◌≤◌, ◌++◌, ◌∷◌, [], ℕ, List, length, Some, None, IfSome, slice_get};
 ghost use Rattle.std.specs.List.{remove};
 ghost use Rattle.std.specs.Io.KnownBytes.{Appends};
 ghost use Rattle.gate_io.specs.Causes.{Rose};
@@ -7,8 +7,9 @@ ghost use Rattle.gate_io.specs.Hubs.{Later};
 ghost use Rattle.gate_io.specs.Meaning.{Meaning};
 ghost use Rattle.gate_io.specs.declared.hub.HubNext.{HubNext};
 ghost use Rattle.proxy_server.specs.Lines.{line_text};
-ghost use Rattle.proxy_server.specs.Serving.{Entry, Setting, Closing, Stands, IsBusy, Awaits, Keeps, IsOutcome, no_more, left_line, left_lines};
-ghost use Rattle.proxy_server.specs.Steps.{AreGood, Writes, Waits, IsNamed, Goes, StepsOn, Attends, Leaves, setting_of};
+ghost use Rattle.proxy_server.specs.Serving.{Entry, Setting, Closing, Keeps, SpendsBy, left_line, left_lines};
+ghost use Rattle.proxy_server.specs.Working.{IsBusy, IsNamed, HasEndedAt, Awaits};
+ghost use Rattle.proxy_server.specs.Steps.{AreGood, Writes, Goes, StepsOn, Attends, Leaves, setting_of, served_by};
 
 use crate::Turn;
 use crate::judges::Judges;
@@ -73,6 +74,7 @@ pub fn tell<O: Sink>(line: &mut Out, output: &mut O, number: u64, ending: Option
 fn after_line(wrote: Wrote) -> Went
     ensures all { wrote ≡ Wrote.All → result ≡ Went.On }
     ensures failed { wrote ≡ Wrote.Failed → result ≡ Went.WriteFault }
+    ensures spent { (i : ℕ) → result ≡ Went.Spent i → ⊥ }
 {
     match wrote {
         Wrote::All => Went::On,
@@ -90,9 +92,11 @@ impl<J: Judge> Server<J> {
         output: &mut O,
     ) -> Attended
         requires room { LINE_ROOM ≤ self.old.line.room }
+        requires budget { self.old.spent ≤ self.old.limits.events }
         requires good { AreGood self.old.limits (P.longest judges.now) }
         ensures room { self.new.line.room ≡ self.old.line.room }
-        ensures goes { Attends J J.rules (H.tells hub.old) (H.tells hub.new) (O.written output.old) (O.written output.new) (setting_of (P.rules judges.now) self.old.limits) self.old.held.items self.new.held.items result }
+        ensures goes { Attends J J.rules (H.tells hub.old) (H.tells hub.new) (O.written output.old) (O.written output.new) (setting_of (P.rules judges.now) self.old.limits) self.old.spent self.new.spent self.old.held.items self.new.held.items result }
+        ensures spends { SpendsBy (served_by result Wrote.All) self.new.spent self.old.limits.events }
         ensures later { Later (H.counts hub.old) (H.counts hub.new) }
         ensures output_later { O.faults output.old ≤ O.faults output.new }
         ensures hub_cause { result ≡ Attended.HubFault → Rose (H.counts hub.old).faults (H.counts hub.new).faults }
@@ -100,7 +104,6 @@ impl<J: Judge> Server<J> {
     {
         let events = self.limits.events;
         'serving: while self.spent < events {
-            self.spent += 1;
             match self.step(alloc, judges, hub, output) {
                 Stepped::Stopped => return Attended::Stopped,
                 Stepped::HubFault => return Attended::HubFault,
@@ -118,7 +121,7 @@ impl<J: Judge> Server<J> {
         ensures lines { first ≡ Wrote.All → Writes result (O.written output.old) (O.written output.new) (left_lines self.old.held.items) }
         ensures none { first ≡ Wrote.Failed → (result ≡ Wrote.Failed) × (output.new ≡ output.old) }
         ensures same { self.new.held ≡ self.old.held }
-        ensures keeps { (set : Setting) (ended : List Closing) (busy : ℕ) (last : Option HubNext) → Keeps (H.tells hub.old) (H.tells hub.new) (Leaves J J.rules set self.old.held.items ended busy last 0) (Leaves J J.rules set self.old.held.items ended busy last (length self.old.held.items)) }
+        ensures keeps { (set : Setting) (begun : Meaning) (spent : ℕ) (past : List Closing) (busy : ℕ) (last : Option HubNext) → Keeps (H.tells hub.old) (H.tells hub.new) (Leaves J J.rules set begun spent self.old.held.items past busy last 0) (Leaves J J.rules set begun spent self.old.held.items past busy last (length self.old.held.items)) }
         ensures later { Later (H.counts hub.old) (H.counts hub.new) }
         ensures output_later { O.faults output.old ≤ O.faults output.new }
         ensures cause { result ≡ Wrote.Failed → (first ≡ Wrote.Failed) ⊎ Rose (O.faults output.old) (O.faults output.new) }
@@ -145,7 +148,7 @@ impl<J: Judge> Server<J> {
         ensures lines { wrote ≡ Wrote.All → (e : Entry J) → slice_get self.old.held.items at ≡ Some e → Writes result (O.written output.old) (O.written output.new) (left_line e) }
         ensures none { wrote ≡ Wrote.Failed → (result ≡ Wrote.Failed) × (output.new ≡ output.old) }
         ensures same { (self.new.held ≡ self.old.held) × (self.new.line.room ≡ self.old.line.room) }
-        ensures keeps { (set : Setting) (ended : List Closing) (busy : ℕ) (last : Option HubNext) → Keeps (H.tells hub.old) (H.tells hub.new) (Leaves J J.rules set self.old.held.items ended busy last at) (Leaves J J.rules set self.old.held.items ended busy last (at + 1)) }
+        ensures keeps { (set : Setting) (begun : Meaning) (spent : ℕ) (past : List Closing) (busy : ℕ) (last : Option HubNext) → Keeps (H.tells hub.old) (H.tells hub.new) (Leaves J J.rules set begun spent self.old.held.items past busy last at) (Leaves J J.rules set begun spent self.old.held.items past busy last (at + 1)) }
         ensures later { Later (H.counts hub.old) (H.counts hub.new) }
         ensures output_later { O.faults output.old ≤ O.faults output.new }
         ensures cause { result ≡ Wrote.Failed → (wrote ≡ Wrote.Failed) ⊎ Rose (O.faults output.old) (O.faults output.new) }
@@ -167,9 +170,10 @@ impl<J: Judge> Server<J> {
         output: &mut O,
     ) -> Went
         requires room { LINE_ROOM ≤ self.old.line.room }
-        requires outcome { (outcome ≡ Outcome.Full) ⊎ (outcome ≡ Outcome.NoMemory) }
+        requires outcome { ((outcome ≡ Outcome.Full) × (self.old.limits.sessions ≤ length self.old.held.items)) ⊎ ((outcome ≡ Outcome.NoMemory) × (length self.old.held.items < self.old.limits.sessions)) }
         ensures same { (self.new.held ≡ self.old.held) × (self.new.limits ≡ self.old.limits) × (self.new.line.room ≡ self.old.line.room) × (self.new.spent ≡ self.old.spent) }
-        ensures goes { (set : Setting) → Goes J J.rules (H.tells hub.old) (H.tells hub.new) (O.written output.old) (O.written output.new) set (Awaits J J.rules set number self.old.held.items) self.new.held.items result }
+        ensures spent { (i : ℕ) → result ≡ Went.Spent i → ⊥ }
+        ensures goes { (set : Setting) → set.sessions ≡ self.old.limits.sessions → Goes J J.rules (H.tells hub.old) (H.tells hub.new) (O.written output.old) (O.written output.new) set (λ begun. Awaits J J.rules set begun self.old.spent number self.old.held.items) self.new.spent self.new.held.items result }
         ensures later { Later (H.counts hub.old) (H.counts hub.new) }
         ensures output_later { O.faults output.old ≤ O.faults output.new }
         ensures cause { result ≡ Went.WriteFault → Rose (O.faults output.old) (O.faults output.new) }
@@ -189,8 +193,8 @@ impl<J: Judge> Server<J> {
         requires room { LINE_ROOM ≤ self.old.line.room }
         requires within { at < length self.old.held.items }
         ensures same { (self.new.limits ≡ self.old.limits) × (self.new.line.room ≡ self.old.line.room) × (self.new.spent ≡ self.old.spent) }
-        ensures goes { (set : Setting) → Goes J J.rules (H.tells hub.old) (H.tells hub.new) (O.written output.old) (O.written output.new) set
-            (λ ended m. Stands J J.rules set no_more self.old.held.items ended at 0 m × ((e : Entry J) → slice_get self.old.held.items at ≡ Some e → IsOutcome set outcome (m.session e.number))) self.new.held.items result }
+        ensures spent { (i : ℕ) → result ≡ Went.Spent i → ⊥ }
+        ensures goes { (set : Setting) → Goes J J.rules (H.tells hub.old) (H.tells hub.new) (O.written output.old) (O.written output.new) set (λ begun. HasEndedAt J J.rules set begun self.old.spent at outcome self.old.held.items) self.new.spent self.new.held.items result }
         ensures later { Later (H.counts hub.old) (H.counts hub.new) }
         ensures output_later { O.faults output.old ≤ O.faults output.new }
         ensures cause { result ≡ Went.WriteFault → Rose (O.faults output.old) (O.faults output.new) }
@@ -204,23 +208,24 @@ impl<J: Judge> Server<J> {
     /// Turns the session at a place until it is settled or has ended, or the budget is spent.
     fn settle<H: Hub, O: Sink>(&mut self, at: usize, hub: &mut H, output: &mut O) -> Went
         requires room { LINE_ROOM ≤ self.old.line.room }
+        requires budget { self.old.spent ≤ self.old.limits.events }
         requires within { at < length self.old.held.items }
-        ensures same { (self.new.limits ≡ self.old.limits) × (self.new.line.room ≡ self.old.line.room) × (self.old.spent ≤ self.new.spent) }
-        ensures goes { (set : Setting) → Goes J J.rules (H.tells hub.old) (H.tells hub.new) (O.written output.old) (O.written output.new) set (IsBusy J J.rules set at self.old.held.items) self.new.held.items result }
+        ensures same { (self.new.limits ≡ self.old.limits) × (self.new.line.room ≡ self.old.line.room) × (self.old.spent ≤ self.new.spent) × (self.new.spent ≤ self.old.limits.events) }
+        ensures spent { (i : ℕ) → result ≡ Went.Spent i → self.new.spent ≡ self.old.limits.events }
+        ensures goes { (set : Setting) → Goes J J.rules (H.tells hub.old) (H.tells hub.new) (O.written output.old) (O.written output.new) set (λ begun. IsBusy J J.rules set begun self.old.spent at self.old.held.items) self.new.spent self.new.held.items result }
         ensures later { Later (H.counts hub.old) (H.counts hub.new) }
         ensures output_later { O.faults output.old ≤ O.faults output.new }
         ensures cause { result ≡ Went.WriteFault → Rose (O.faults output.old) (O.faults output.new) }
     {
-        'turns: loop {
+        let events = self.limits.events;
+        'turns: while self.spent < events {
             match self.held[at].turn(hub) {
                 Turn::Settled => return Went::On,
                 Turn::Ended(outcome) => return self.finish(at, outcome, hub, output),
-                Turn::More => self.spent = self.spent.saturating_add(1),
-            }
-            if self.spent >= self.limits.events {
-                return Went::Spent(at);
+                Turn::More => self.spent += 1,
             }
         }
+        Went::Spent(at)
     }
 
     /// Opens a session that was announced and turns it, or closes it.
@@ -233,9 +238,11 @@ impl<J: Judge> Server<J> {
         output: &mut O,
     ) -> Went
         requires room { LINE_ROOM ≤ self.old.line.room }
+        requires budget { self.old.spent ≤ self.old.limits.events }
         requires good { AreGood self.old.limits (P.longest judges.now) }
-        ensures same { (self.new.limits ≡ self.old.limits) × (self.new.line.room ≡ self.old.line.room) × (self.old.spent ≤ self.new.spent) }
-        ensures goes { Goes J J.rules (H.tells hub.old) (H.tells hub.new) (O.written output.old) (O.written output.new) (setting_of (P.rules judges.now) self.old.limits) (Awaits J J.rules (setting_of (P.rules judges.now) self.old.limits) number self.old.held.items) self.new.held.items result }
+        ensures same { (self.new.limits ≡ self.old.limits) × (self.new.line.room ≡ self.old.line.room) × (self.old.spent ≤ self.new.spent) × (self.new.spent ≤ self.old.limits.events) }
+        ensures spent { (i : ℕ) → result ≡ Went.Spent i → self.new.spent ≡ self.old.limits.events }
+        ensures goes { Goes J J.rules (H.tells hub.old) (H.tells hub.new) (O.written output.old) (O.written output.new) (setting_of (P.rules judges.now) self.old.limits) (λ begun. Awaits J J.rules (setting_of (P.rules judges.now) self.old.limits) begun self.old.spent number self.old.held.items) self.new.spent self.new.held.items result }
         ensures later { Later (H.counts hub.old) (H.counts hub.new) }
         ensures output_later { O.faults output.old ≤ O.faults output.new }
         ensures cause { result ≡ Went.WriteFault → Rose (O.faults output.old) (O.faults output.new) }
@@ -268,8 +275,10 @@ impl<J: Judge> Server<J> {
     /// Turns a session that an event names.
     fn resume<H: Hub, O: Sink>(&mut self, number: u64, hub: &mut H, output: &mut O) -> Went
         requires room { LINE_ROOM ≤ self.old.line.room }
-        ensures same { (self.new.limits ≡ self.old.limits) × (self.new.line.room ≡ self.old.line.room) × (self.old.spent ≤ self.new.spent) }
-        ensures goes { (set : Setting) → Goes J J.rules (H.tells hub.old) (H.tells hub.new) (O.written output.old) (O.written output.new) set (IsNamed J J.rules set number self.old.held.items) self.new.held.items result }
+        requires budget { self.old.spent ≤ self.old.limits.events }
+        ensures same { (self.new.limits ≡ self.old.limits) × (self.new.line.room ≡ self.old.line.room) × (self.old.spent ≤ self.new.spent) × (self.new.spent ≤ self.old.limits.events) }
+        ensures spent { (i : ℕ) → result ≡ Went.Spent i → self.new.spent ≡ self.old.limits.events }
+        ensures goes { (set : Setting) → Goes J J.rules (H.tells hub.old) (H.tells hub.new) (O.written output.old) (O.written output.new) set (λ begun. IsNamed J J.rules set begun self.old.spent number self.old.held.items) self.new.spent self.new.held.items result }
         ensures later { Later (H.counts hub.old) (H.counts hub.new) }
         ensures output_later { O.faults output.old ≤ O.faults output.new }
         ensures cause { result ≡ Went.WriteFault → Rose (O.faults output.old) (O.faults output.new) }
@@ -289,9 +298,14 @@ impl<J: Judge> Server<J> {
         output: &mut O,
     ) -> Stepped
         requires room { LINE_ROOM ≤ self.old.line.room }
+        requires budget { self.old.spent < self.old.limits.events }
+        requires range { self.old.limits.events < 2 ^ 64 }
         requires good { AreGood self.old.limits (P.longest judges.now) }
-        ensures same { (self.new.limits ≡ self.old.limits) × (self.new.line.room ≡ self.old.line.room) × (self.old.spent ≤ self.new.spent) }
-        ensures goes { StepsOn J J.rules (H.tells hub.old) (H.tells hub.new) (O.written output.old) (O.written output.new) (setting_of (P.rules judges.now) self.old.limits) self.old.held.items self.new.held.items result }
+        ensures same { (self.new.limits ≡ self.old.limits) × (self.new.line.room ≡ self.old.line.room) × (self.old.spent ≤ self.new.spent) × (self.new.spent ≤ self.old.limits.events) }
+        ensures more { (went : Went) → result ≡ Stepped.Event went → self.old.spent < self.new.spent }
+        ensures spent { (i : ℕ) → result ≡ Stepped.Event (Went.Spent i) → self.new.spent ≡ self.old.limits.events }
+        ensures none { (result ≡ Stepped.Stopped) ⊎ (result ≡ Stepped.HubFault) → self.new.spent ≡ self.old.spent }
+        ensures goes { StepsOn J J.rules (H.tells hub.old) (H.tells hub.new) (O.written output.old) (O.written output.new) (setting_of (P.rules judges.now) self.old.limits) self.old.spent self.new.spent self.old.held.items self.new.held.items result }
         ensures later { Later (H.counts hub.old) (H.counts hub.new) }
         ensures output_later { O.faults output.old ≤ O.faults output.new }
         ensures hub_cause { result ≡ Stepped.HubFault → Rose (H.counts hub.old).faults (H.counts hub.new).faults }
@@ -301,9 +315,13 @@ impl<J: Judge> Server<J> {
             HubNext::Stopped => Stepped::Stopped,
             HubNext::Failed => Stepped::HubFault,
             HubNext::Opened(number) => {
+                self.spent += 1;
                 Stepped::Event(self.admit(alloc, judges, number, hub, output))
             }
-            HubNext::Ready(number) => Stepped::Event(self.resume(number, hub, output)),
+            HubNext::Ready(number) => {
+                self.spent += 1;
+                Stepped::Event(self.resume(number, hub, output))
+            }
         }
     }
 }

@@ -15,12 +15,14 @@ use std::alloc::Global;
 
 /// Serves until the hub stops or fails, a line can't be written or the budget of `limits.events` is spent.
 ///
-/// The hub was started and `next` was not called. `next` is called only when every open session is settled. A session
-/// above the number of `limits.sessions` is closed as full, one whose memory is not found as having none; each other one
-/// is turned until it is settled or has ended. One line is written for each session as soon as it ends, and at the end one
-/// for each that is still open, by rising number. Nothing is written after a write that failed; where the hub had failed
+/// The hub was started and `next` was not called. `next` is called only when every open session is settled. A session that
+/// is announced while `limits.sessions` are open is closed as full, one whose memory is not found as having none; each other
+/// one is turned until it is settled or has ended. One line is written for each session as soon as it ends, and at the end
+/// one for each that is still open, by rising number. Nothing is written after a write that failed; where the hub had failed
 /// or the budget was spent before it, the answer stays so.
 ///
+/// `Stopped`, `HubFault`: `next` answered so. `Budget`: its answers that named a session and the turns that ended with `More`
+/// have reached `limits.events`; the last session that was named may be unsettled. `WriteFault`: the output's count rose.
 /// `OutOfMemory`: the memory for the server was not found, before the first event.
 pub fn serve<J: Judge, P: Judges<J>, H: Hub, O: Sink>(
     alloc: Global,
@@ -46,7 +48,7 @@ pub fn serve<J: Judge, P: Judges<J>, H: Hub, O: Sink>(
 
 /// A server that holds no session.
 fn open_server<J: Judge>(alloc: Global, limits: Limits) -> Option<Server<J>>
-    ensures { IfSome result (λ s. (s.limits ≡ limits) × (s.held.items ≡ []) × (LINE_ROOM ≤ s.line.room)) }
+    ensures { IfSome result (λ s. (s.limits ≡ limits) × (s.held.items ≡ []) × (LINE_ROOM ≤ s.line.room) × (s.spent ≡ 0)) }
 {
     let Ok(held) = Vec::with_capacity(alloc, limits.sessions) else {
         return None;

@@ -66,6 +66,7 @@ pub fn open_session<J: Judge, P: Judges<J>>(
     requires { AreGood limits (P.longest judges.now) }
     ensures given { IfOk result (λ s. (J.rules s.judge ≡ P.rules judges.now) × (s.limit ≡ limits.frame) × (s.most ≡ limits.calls)) }
     ensures matches { IfOk result (λ s. Matches J J.rules s nothing) }
+    ensures going { IfOk result (λ s. s.outcome ≡ None) }
 {
     let judge = judges.open(alloc)?;
     Session::open(alloc, judge, limits.frame, limits.calls)

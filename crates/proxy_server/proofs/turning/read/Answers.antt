@@ -1,7 +1,7 @@
 use Rattle.std.proofs.Common.{rules, sym, ◌∙◌, subst, drop}
 use Rattle.std.proofs.lemmas.List.{take-append-le}
 use Rattle.proxy_server.specs.Matching.{Matches, and_received}
-use Rattle.proxy_server.proofs.Running.{goes_by, got_bytes, got_end, read_waited, not_ended}
+use Rattle.proxy_server.proofs.Running.{goes_by, got_bytes, got_end, read_waited, read_failed, not_ended}
 use Rattle.proxy_server.proofs.turning.read.Goals as goal
 
 pub returns-in-Bytes-clause-goes : goal.returns-in-Bytes-clause-goes
@@ -30,3 +30,9 @@ returns-in-NotReady-clause-goes g c =
     let matches = Matches _ g.J.Judge.rules c.args.session.now in
     goes_by _ _ matches matches c.args.k _ _ c.in-NotReady.ensures.leads
     (λ s t fit does. read_waited c.args.side c.read-2.new.into c.args.waits.now c.mark_read.new.self matches s t c.mark_read.ensures fit does)
+
+pub returns-in-Failed-clause-goes : goal.returns-in-Failed-clause-goes
+returns-in-Failed-clause-goes g c =
+    let matches = Matches _ g.J.Judge.rules c.args.session.now in
+    goes_by _ _ matches matches c.args.k _ _ c.in-Failed.ensures.leads
+    (λ s t fit does. read_failed c.args.side c.read-2.new.into matches s t fit does)

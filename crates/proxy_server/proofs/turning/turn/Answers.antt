@@ -16,7 +16,7 @@ returns-in-Err-clause-turned g c =
     let w = c.loop-moved.waits in
     goes_on (tells c.args.hub.now) (tells c.loop-moved.hub) (tells new.hub) (matches c.args.session.now) (matches c.loop-moved.session) (matches new.session) c.args.k (Runs n no_waits w) (Breaks c.in-Err.side) _
     (λ s t p. (p.grows.announced, p.grows.closed))
-    (λ r s t p q _. let all = breaks_on n no_waits w c.in-Err.side r s t p q in (all.grows, ByLink c.in-Err.side refl all.failed))
+    (λ r s t p q _. let all = breaks_on n no_waits w c.in-Err.side r s t p q in (all.grows, ByLink c.in-Err.side refl all.failed all.others))
     c.loop-moved.invariant.goes c.in-Err.ensures.goes
 
 pub returns-in-Err-clause-ending : goal.returns-in-Err-clause-ending

@@ -1,28 +1,51 @@
-use Rattle.std.proofs.Common.{◌++◌, ◌∷◌, [], subst, sym, refl}
-use Rattle.proxy_server.specs.Serving.{Entry, Awaits, IsBusy}
+use Rattle.std.proofs.Common.{rules, ◌≡◌, ◌++◌, ◌∷◌, [], length, subst, sym, refl, ap, arith}
+use Rattle.proxy_server.specs.Serving.{Entry}
+use Rattle.proxy_server.specs.Working.{Awaits, IsBusy}
 use Rattle.proxy_server.specs.Steps.{setting_of, Goes}
-use Rattle.proxy_server.proofs.Standing.{goes_after, stays_so, opens_busy}
+use Rattle.proxy_server.proofs.Standing.{opens_busy}
+use Rattle.proxy_server.proofs.Calls.{goes_after, stays_so}
 use Rattle.proxy_server.proofs.server.Server.admit.Goals as goal
 
 pub returns-in-Some-clause-goes : goal.returns-in-Some-clause-goes
 returns-in-Some-clause-goes g c =
     let tells = g.H.Hub.tells in
-    let rules = g.J.Judge.rules in
+    let judge_rules = g.J.Judge.rules in
     let held = c.args.self.now.held.items in
+    let spent = c.args.self.now.spent in
     let k = c.args.number in
+    let at = c.in-Some.at in
     let set = setting_of (g.P.Judges.rules c.args.judges.now) c.args.self.now.limits in
     let some = c.in-Some.ensures.some in
     let given = c.in-Ok.ensures.given in
     let e : Entry _ = record { number = k; session = c.in-Ok.session } in
-    goes_after _ rules (tells c.args.hub.now) (tells c.args.hub.now) (tells c.settle.new.hub) _ _ set (Awaits _ rules set k held) (IsBusy _ rules set c.in-Some.at c.hold.new.self.held.items) c.settle.new.self.held.items c.settle.result
-    (λ past. stays_so (tells c.args.hub.now) (Awaits _ rules set k held past) (IsBusy _ rules set c.in-Some.at c.hold.new.self.held.items past)
-    (λ m a. subst (λ xs. IsBusy _ rules set c.in-Some.at xs past m) (sym some.1) (subst (λ j. IsBusy _ rules set j (held ++ e ∷ []) past m) (sym some.0)
-    (opens_busy _ rules set held past e m a given.0 given.1 given.2 c.in-Ok.ensures.matches))))
+    let count : c.len.result ≡ length held = search rules in
+    let held' = c.hold.new.self.held.items in
+    goes_after _ judge_rules (tells c.args.hub.now) (tells c.args.hub.now) (tells c.settle.new.hub) _ _ set (λ begun. Awaits _ judge_rules set begun spent k held) (λ begun. IsBusy _ judge_rules set begun c.hold.new.self.spent at held') c.settle.new.self.spent c.settle.new.self.held.items c.settle.result
+    (λ begun past. stays_so (tells c.args.hub.now) (Awaits _ judge_rules set begun spent k held past) (IsBusy _ judge_rules set begun c.hold.new.self.spent at held' past)
+    (λ m a. subst (λ n. IsBusy _ judge_rules set begun n at held' past m) (sym c.hold.ensures.same.2)
+    (subst (λ xs. IsBusy _ judge_rules set begun spent at xs past m) (sym some.1)
+    (subst (λ j. IsBusy _ judge_rules set begun spent j (held ++ e ∷ []) past m) (sym some.0)
+    (opens_busy _ judge_rules set begun spent held past e m a given.0 given.1 given.2 c.in-Ok.ensures.matches c.in-Ok.ensures.going (omega (arith, count, c.if-len-self.false)))))))
     (c.settle.ensures.goes set)
+
+pub returns-then-len-self-clause-goes : goal.returns-then-len-self-clause-goes
+returns-then-len-self-clause-goes g c =
+    let set = setting_of (g.P.Judges.rules c.args.judges.now) c.args.self.now.limits in
+    c.refuse.ensures.goes set refl
+
+pub returns-in_default-clause-goes : goal.returns-in_default-clause-goes
+returns-in_default-clause-goes g c =
+    let set = setting_of (g.P.Judges.rules c.args.judges.now) c.args.self.now.limits in
+    c.refuse-in_default.ensures.goes set refl
 
 pub returns-in-None-clause-goes : goal.returns-in-None-clause-goes
 returns-in-None-clause-goes g c =
     let tells = g.H.Hub.tells in
-    let rules = g.J.Judge.rules in
+    let judge_rules = g.J.Judge.rules in
+    let held = c.args.self.now.held.items in
+    let k = c.args.number in
     let set = setting_of (g.P.Judges.rules c.args.judges.now) c.args.self.now.limits in
-    subst (λ xs. Goes _ rules (tells c.args.hub.now) (tells c.refuse-in-None.new.hub) (g.O.Sink.written c.args.output.now) (g.O.Sink.written c.refuse-in-None.new.output) set (Awaits _ rules set c.args.number xs) c.refuse-in-None.new.self.held.items c.refuse-in-None.result) (c.in-None.ensures.none refl) (c.refuse-in-None.ensures.goes set)
+    let r = c.refuse-in-None in
+    let goes = r.ensures.goes set (sym (ap (λ l. l.sessions) c.hold.ensures.same.0)) in
+    subst (λ n. Goes _ judge_rules (tells c.args.hub.now) (tells r.new.hub) (g.O.Sink.written c.args.output.now) (g.O.Sink.written r.new.output) set (λ begun. Awaits _ judge_rules set begun n k held) r.new.self.spent r.new.self.held.items r.result) c.hold.ensures.same.2
+    (subst (λ xs. Goes _ judge_rules (tells c.args.hub.now) (tells r.new.hub) (g.O.Sink.written c.args.output.now) (g.O.Sink.written r.new.output) set (λ begun. Awaits _ judge_rules set begun c.hold.new.self.spent k xs) r.new.self.spent r.new.self.held.items r.result) (c.in-None.ensures.none refl) goes)

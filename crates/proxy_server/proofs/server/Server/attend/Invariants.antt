@@ -1,8 +1,10 @@
 use Rattle.std.proofs.Common.{◌≡◌, ◌++◌, List, ◌-◌, ◌≤◌}
 use Rattle.std.specs.Io.KnownBytes.{Appends}
+use Rattle.gate_io.specs.Meaning.{Meaning}
 use Rattle.gate_io.specs.Hubs.{Later}
 use Rattle.proxy_server.specs.Serving.{Closing, Keeps, closing_lines}
-use Rattle.proxy_server.specs.Steps.{setting_of, Waits}
+use Rattle.proxy_server.specs.Working.{Waits}
+use Rattle.proxy_server.specs.Steps.{setting_of}
 use Rattle.proxy_server.proofs.server.Server.attend.Given as goal
 
 -- every open session is settled, and the lines of those that have ended were written
@@ -16,7 +18,8 @@ invariant-serving g l =
       limits : l.self.limits ≡ l.fn.self.limits;
       room : l.self.line.room ≡ l.fn.self.line.room;
       goes : (more : List Closing) × Appends (sink.written l.fn.output) (sink.written l.output) (closing_lines more)
-          × ((ended : List Closing) → Keeps (hub.tells l.fn.hub) (hub.tells l.hub) (Waits _ rules set l.fn.self.held.items ended) (Waits _ rules set l.self.held.items (ended ++ more)));
+          × ((begun : Meaning) (past : List Closing) → Keeps (hub.tells l.fn.hub) (hub.tells l.hub) (Waits _ rules set begun l.fn.self.spent l.fn.self.held.items past) (Waits _ rules set begun l.self.spent l.self.held.items (past ++ more)));
+      budget : l.self.spent ≤ l.fn.self.limits.events;
       later : Later (hub.counts l.fn.hub) (hub.counts l.hub);
       output_later : sink.faults l.fn.output ≤ sink.faults l.output;
     }

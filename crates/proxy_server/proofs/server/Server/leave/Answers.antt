@@ -7,7 +7,7 @@ use Rattle.proxy_server.specs.Steps.{Writes, Leaves}
 use Rattle.proxy_server.proofs.Places.{get_some}
 use Rattle.proxy_server.proofs.Running.{later_on, later_not}
 use Rattle.proxy_server.proofs.Streams.{appends_none}
-use Rattle.proxy_server.proofs.Standing.{keeps_then, left_more, left_on, cause_on}
+use Rattle.proxy_server.proofs.Calls.{keeps_then, left_more, left_on, cause_on}
 use Rattle.proxy_server.proofs.server.Server.leave.Goals as goal
 
 pub leaving-init : goal.leaving-init
@@ -17,7 +17,7 @@ leaving-init g c = record {
   within = omega arith;
   lines = λ all. subst (λ w. Writes w (g.O.Sink.written c.args.output.now) (g.O.Sink.written c.args.output.now) []) (sym all) (appends_none _);
   none = λ f. (f, refl);
-  keeps = λ set ended busy last m tells s. (m, tells, s);
+  keeps = λ set begun spent past busy last m tells s. (m, tells, s);
   later = later_not _;
   output_later = omega arith;
   cause = λ f. inl f;
@@ -47,8 +47,8 @@ leaving-preserved g c =
           let n = i.none f in
           let l = c.leave_at-wrote.ensures.none n.0 in
           (l.0, l.1 ∙ n.1);
-      keeps = λ set ended busy last. keeps_then (tells c.args.hub.now) (tells c.leaving.hub) (tells c.leave_at-wrote.new.hub) (Leaves _ rules set held ended busy last 0) (Leaves _ rules set held ended busy last at) (Leaves _ rules set held ended busy last (at + 1)) (i.keeps set ended busy last)
-          (subst (λ xs. Keeps (tells c.leaving.hub) (tells c.leave_at-wrote.new.hub) (Leaves _ rules set xs ended busy last at) (Leaves _ rules set xs ended busy last (at + 1))) same (c.leave_at-wrote.ensures.keeps set ended busy last));
+      keeps = λ set begun spent past busy last. keeps_then (tells c.args.hub.now) (tells c.leaving.hub) (tells c.leave_at-wrote.new.hub) (Leaves _ rules set begun spent held past busy last 0) (Leaves _ rules set begun spent held past busy last at) (Leaves _ rules set begun spent held past busy last (at + 1)) (i.keeps set begun spent past busy last)
+          (subst (λ xs. Keeps (tells c.leaving.hub) (tells c.leave_at-wrote.new.hub) (Leaves _ rules set begun spent xs past busy last at) (Leaves _ rules set begun spent xs past busy last (at + 1))) same (c.leave_at-wrote.ensures.keeps set begun spent past busy last));
       later = later_on _ _ _ i.later c.leave_at-wrote.ensures.later;
       output_later = omega (arith, i.output_later, c.leave_at-wrote.ensures.output_later);
       cause = λ f. cause_on (c.args.first ≡ wrote.Failed) (c.leaving.wrote ≡ wrote.Failed) _ _ _ i.cause i.output_later c.leave_at-wrote.ensures.output_later (c.leave_at-wrote.ensures.cause f);
@@ -72,4 +72,4 @@ returns-clause-keeps g c =
     let whole : c.len.result ≡ length c.leaving.self.held.items = search rules in
     let past : length c.leaving.self.held.items ≤ c.leaving.at = omega (arith, c.leaving-test.false, whole) in
     let end : c.leaving.at ≡ length held = omega (arith, past, i.within, ap (λ v. length v.items) i.kept) in
-    λ set ended busy last. subst (λ k. Keeps (tells c.args.hub.now) (tells c.leaving.hub) (Leaves _ rules set held ended busy last 0) (Leaves _ rules set held ended busy last k)) end (i.keeps set ended busy last)
+    λ set begun spent past busy last. subst (λ k. Keeps (tells c.args.hub.now) (tells c.leaving.hub) (Leaves _ rules set begun spent held past busy last 0) (Leaves _ rules set begun spent held past busy last k)) end (i.keeps set begun spent past busy last)

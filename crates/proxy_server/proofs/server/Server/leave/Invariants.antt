@@ -1,5 +1,6 @@
 use Rattle.std.proofs.Common.{◌≡◌, ℕ, List, Option, ◌-◌, ◌≤◌, ◌⊎◌, length, take}
 use Rattle.gate_io.specs.Causes.{Rose}
+use Rattle.gate_io.specs.Meaning.{Meaning}
 use Rattle.gate_io.specs.Hubs.{Later}
 use Rattle.gate_io.specs.declared.hub.HubNext.{HubNext}
 use Rattle.proxy_server.specs.declared.writing.Wrote.TheVariants as wrote
@@ -20,7 +21,7 @@ invariant-leaving g l =
       within : l.at ≤ length held;
       lines : l.fn.first ≡ wrote.All → Writes l.wrote (sink.written l.fn.output) (sink.written l.output) (left_lines (take l.at held));
       none : l.fn.first ≡ wrote.Failed → (l.wrote ≡ wrote.Failed) × (l.output ≡ l.fn.output);
-      keeps : (set : Setting) (ended : List Closing) (busy : ℕ) (last : Option HubNext) → Keeps (hub.tells l.fn.hub) (hub.tells l.hub) (Leaves _ rules set held ended busy last 0) (Leaves _ rules set held ended busy last l.at);
+      keeps : (set : Setting) (begun : Meaning) (spent : ℕ) (past : List Closing) (busy : ℕ) (last : Option HubNext) → Keeps (hub.tells l.fn.hub) (hub.tells l.hub) (Leaves _ rules set begun spent held past busy last 0) (Leaves _ rules set begun spent held past busy last l.at);
       later : Later (hub.counts l.fn.hub) (hub.counts l.hub);
       output_later : sink.faults l.fn.output ≤ sink.faults l.output;
       cause : l.wrote ≡ wrote.Failed → (l.fn.first ≡ wrote.Failed) ⊎ Rose (sink.faults l.fn.output) (sink.faults l.output);

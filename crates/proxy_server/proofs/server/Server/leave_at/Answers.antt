@@ -5,7 +5,7 @@ use Rattle.proxy_server.specs.Lines.{line_text}
 use Rattle.proxy_server.specs.Serving.{Entry}
 use Rattle.proxy_server.specs.Steps.{Writes}
 use Rattle.proxy_server.proofs.Places.{some_same}
-use Rattle.proxy_server.proofs.Standing.{leaves_next}
+use Rattle.proxy_server.proofs.Calls.{leaves_next}
 use Rattle.proxy_server.proofs.server.Server.leave_at.Goals as goal
 
 pub returns-in-All-clause-lines : goal.returns-in-All-clause-lines
@@ -18,10 +18,10 @@ pub returns-in-All-clause-keeps : goal.returns-in-All-clause-keeps
 returns-in-All-clause-keeps g c =
     let held = c.args.self.now.held.items in
     let was = slice_get_read held (length held) c.args.at c.index.result.now refl c.requires.within c.index.ensures in
-    λ set ended busy last. leaves_next _ g.J.Judge.rules set held ended c.args.at busy c.number-number.result last c.index.result.now _ _ was c.number-number.ensures c.close.ensures.leads
+    λ set begun spent past busy last. leaves_next _ g.J.Judge.rules set begun spent held past c.args.at busy c.number-number.result last c.index.result.now _ _ was c.number-number.ensures c.close.ensures.leads
 
 pub returns-in-Failed-clause-keeps : goal.returns-in-Failed-clause-keeps
 returns-in-Failed-clause-keeps g c =
     let held = c.args.self.now.held.items in
     let was = slice_get_read held (length held) c.args.at c.index.result.now refl c.requires.within c.index.ensures in
-    λ set ended busy last. leaves_next _ g.J.Judge.rules set held ended c.args.at busy c.number-number.result last c.index.result.now _ _ was c.number-number.ensures c.close.ensures.leads
+    λ set begun spent past busy last. leaves_next _ g.J.Judge.rules set begun spent held past c.args.at busy c.number-number.result last c.index.result.now _ _ was c.number-number.ensures c.close.ensures.leads

@@ -1,6 +1,8 @@
 use Rattle.std.proofs.Common.{◌≡◌, List, ◌-◌, ◌<◌, ◌≤◌, length}
+use Rattle.gate_io.specs.Meaning.{Meaning}
 use Rattle.gate_io.specs.Hubs.{Later}
-use Rattle.proxy_server.specs.Serving.{Setting, Closing, IsBusy, Keeps}
+use Rattle.proxy_server.specs.Serving.{Setting, Closing, Keeps}
+use Rattle.proxy_server.specs.Working.{IsBusy}
 use Rattle.proxy_server.proofs.server.Server.settle.Given as goal
 
 -- the session at the place was turned some times, and nothing was written
@@ -14,7 +16,8 @@ invariant-turns g l =
       within : l.fn.at < length l.self.held.items;
       output : l.output ≡ l.fn.output;
       spent : l.fn.self.spent ≤ l.self.spent;
-      keeps : (set : Setting) (ended : List Closing) → Keeps (hub.tells l.fn.hub) (hub.tells l.hub) (IsBusy _ rules set l.fn.at l.fn.self.held.items ended) (IsBusy _ rules set l.fn.at l.self.held.items ended);
+      budget : l.self.spent ≤ l.fn.self.limits.events;
+      keeps : (set : Setting) (begun : Meaning) (past : List Closing) → Keeps (hub.tells l.fn.hub) (hub.tells l.hub) (IsBusy _ rules set begun l.fn.self.spent l.fn.at l.fn.self.held.items past) (IsBusy _ rules set begun l.self.spent l.fn.at l.self.held.items past);
       later : Later (hub.counts l.fn.hub) (hub.counts l.hub);
     }
 
