@@ -20,7 +20,7 @@ pub struct SideCounts {
 
 /// A hub over real sockets.
 ///
-/// It reserves `sessions + 1` places in `start`, each of 131,072 bytes for the buffers of its
+/// It reserves `sessions + 1` places in `start`, each of 262,144 bytes for the buffers of its
 /// two ports and some hundreds, and takes no memory after it.
 #[derive(Drop)]
 pub struct MioHub<'n, N> {

@@ -4,11 +4,11 @@
 //! the client and whose further ports are connections to the upstreams, one address a port. `MioHub`
 //! is the hub of sessions with one upstream.
 //!
-//! All sockets are non-blocking. Each port has a buffer each way, taken in `start`, of 32 KiB where a
+//! All sockets are non-blocking. Each port has a buffer each way, taken in `start`, of 64 KiB where a
 //! session has one upstream: bytes are read from a socket in pieces as large as the buffer and handed
-//! out as they are asked for, and what is written is gathered and sent in one system call before the
-//! hub goes on to the next event.
-//! A session that moved 64 KiB since it was last named waits until the others that are ready had
+//! out as they are asked for, and what is written is gathered, and sent in one system call a port before the
+//! hub waits, or once 16 sessions were written to.
+//! A session that moved 128 KiB since it was last named waits until the others that are ready had
 //! their turn.
 //!
 //! What peers sent, and when a socket is ready, is the system's word: the hub tells no content. What

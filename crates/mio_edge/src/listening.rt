@@ -159,9 +159,19 @@ impl Listening {
         }
     }
 
-    /// Waits until something is reported. It doesn't wait where a session is to have a turn, or a
-    /// connection may be accepted.
-    pub(crate) fn wait(&mut self) -> io::Result<()> {
+    /// Sends what was written, and waits until something is reported where no session is to have a
+    /// turn for that.
+    pub(crate) fn rest(&mut self) -> io::Result<()> {
+        self.table.send();
+        if self.table.has_ready() {
+            return Ok(());
+        }
+        self.wait()
+    }
+
+    // Waits until something is reported. It doesn't wait where a session is to have a turn behind the
+    // others, or a connection may be accepted.
+    fn wait(&mut self) -> io::Result<()> {
         let timeout = self.timeout();
         self.poll.poll(&mut self.events, timeout)?;
         if self.accepting == Accepting::Short {

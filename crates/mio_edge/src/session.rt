@@ -6,7 +6,7 @@ use crate::port::{Port, Rest};
 use gate_io::{LinkGot, LinkPut};
 
 /// The bytes that a session may read and write before the others that are ready have their turn.
-pub(crate) const QUANTUM: usize = 65_536;
+pub(crate) const QUANTUM: usize = 131_072;
 
 /// The ports of one accepted connection.
 #[derive(Drop)]

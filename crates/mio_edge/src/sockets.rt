@@ -16,8 +16,8 @@ use std::net::{Net, SocketAddr};
 /// to each upstream.
 ///
 /// All memory is taken in `start`, for `sessions + 1` sessions: each port has two buffers of
-/// 65,536 bytes divided by the number of ports, but of 8,192 at least, and a session takes some
-/// hundreds of bytes beside them. With one upstream that is 131,072 bytes of buffers a session.
+/// 131,072 bytes divided by the number of ports, but of 8,192 at least, and a session takes some
+/// hundreds of bytes beside them. With one upstream that is 262,144 bytes of buffers a session.
 ///
 /// A session that is closed keeps its place until what was written to it is sent or can't be; a new
 /// connection waits for a place. Once it has sent everything it waits for its peers to end too, lest
@@ -82,7 +82,7 @@ impl<'n, N: Net> Sockets<'n, N> {
 
     /// The next event. Sessions are numbered from 0.
     ///
-    /// `Ready(k)`: something came for session k, or it is its turn again after it had moved 64 KiB.
+    /// `Ready(k)`: something came for session k, or it is its turn again after it had moved 128 KiB.
     /// `Stopped`: as many connections as `start` was given were announced, all are closed, what was
     /// written to them is sent or can't be, and the peers have ended too or a second went by in which
     /// nothing came of them. `Failed`: the count of `start` and `next` rose; the
@@ -119,7 +119,7 @@ impl<'n, N: Net> Sockets<'n, N> {
     }
 
     /// Writes the front of a slice that isn't empty to a port of session k. It is sent before `next`
-    /// answers.
+    /// waits, and before it answers where 16 sessions were written to since the last send.
     ///
     /// `NotReady`: the buffer and the socket are full, or it is the others' turn; `next` names k
     /// when it may be written again. `Failed`: the connection failed, maybe at an earlier send, or
@@ -155,7 +155,7 @@ impl<'n, N: Net> Sockets<'n, N> {
         let Some(listening) = &mut self.listening else {
             return Some(self.fails());
         };
-        listening.table.send();
+        listening.table.send_where_many();
         if self.accept > 0 && self.announced >= self.accept {
             listening.stop_accepting();
             if listening.is_over() {
@@ -197,7 +197,7 @@ impl<'n, N: Net> Sockets<'n, N> {
         if let Some(number) = listening.table.next_ready() {
             return Some(HubNext::Ready(number));
         }
-        match listening.wait() {
+        match listening.rest() {
             Ok(()) => None,
             Err(_) => Some(self.fails()),
         }

@@ -13,10 +13,13 @@ use slab::Slab;
 use std::alloc::Global;
 
 /// The bytes of a session's buffers each way, which its ports share alike.
-const BUFFERS: usize = 65_536;
+const BUFFERS: usize = 131_072;
 
 /// The least bytes of a buffer.
 const LEAST_BUFFER: usize = 8192;
+
+/// Once so many sessions were written to, all of that is sent.
+const MOST_WRITTEN: usize = 16;
 
 // Where an open session stands.
 #[derive(Clone, Copy)]
@@ -165,6 +168,11 @@ impl Table {
         }
     }
 
+    /// Whether a session is to have a turn before the next wait.
+    pub(crate) fn has_ready(&self) -> bool {
+        !self.ready.is_empty()
+    }
+
     /// The number of the next open session that is to have a turn.
     pub(crate) fn next_ready(&mut self) -> Option<u64> {
         for _ in 0..self.ready.len() {
@@ -189,6 +197,13 @@ impl Table {
             session.is_written = self.written.push(place);
         }
         Some(session.number)
+    }
+
+    /// Sends what the sessions wrote, where these are many.
+    pub(crate) fn send_where_many(&mut self) {
+        if self.written.len() >= MOST_WRITTEN {
+            self.send();
+        }
     }
 
     /// Sends what the sessions wrote. One whose connection fails in that is to have a turn.
