@@ -1,0 +1,59 @@
+-- What is shown of a frame, from its parts.
+use Rattle.std.proofs.Common.{◌≡◌, ℕ, List, ◌++◌, Ok, Err, refl}
+use Rattle.protocol_traits.specs.declared.fault.Fault.{Fault}
+use Rattle.protocol_traits.specs.Heads.{Header}
+use Rattle.protocol_traits.specs.Steps.{Step, told}
+use Rattle.thrift_value.specs.Items.{Item, field, stop, bool_value, i8_value, i16_value, i32_value, i64_value, double_value, text, number_text, unknown_text, struct_begin, empty_map, map_begin, set_begin, list_begin, end, uuid_value}
+use Rattle.type_walk.specs.Positions.{Position, after}
+use Rattle.translate_core.specs.Body.{Source, Going, Ended}
+use Rattle.message_show.specs.declared.checking.Checked.TheVariants as checked
+use Rattle.message_show.specs.Line.{line_end}
+use Rattle.message_show.specs.Shown.{Place, Line, closed, after_body, after_head, shown_by, IsChecked, HasLine}
+
+pub closed_whole : {S : Type 0} (bytes : List ℕ) (step : Step S (Unit {0})) (u : Unit {0}) → Ok u ≡ told step → IsChecked checked.Message (closed bytes step)
+closed_whole bytes (Ok x) u e = tt
+closed_whole bytes (Err f) u e = absurd (cc)
+
+pub closed_fault : {S : Type 0} (bytes : List ℕ) (step : Step S (Unit {0})) (f : Fault) → Err f ≡ told step → IsChecked (checked.Refused f) (closed bytes step)
+closed_fault bytes (Ok x) f e = absurd (cc)
+closed_fault bytes (Err g) f e = cc
+
+module _ {S : Type 0} (source : Source S) (start : Header → Position) (frame : List ℕ) where
+  pub shown_err : (f : Fault) → source.reads_head (source.begun frame) ≡ Err f → shown_by source start frame ≡ after_head source start (Err f)
+  unfolding shown_by
+  shown_err f e = rw e refl
+
+  pub shown_ok : (header : Header) (new : S) → source.reads_head (source.begun frame) ≡ Ok (header, new) → shown_by source start frame ≡ after_head source start (Ok (header, new))
+  unfolding shown_by
+  shown_ok header new e = rw e refl
+
+line_of : {S : Type 0} (bytes : List ℕ) (step : Step S (Unit {0})) → HasLine (closed bytes step) → closed bytes step ≡ Line (bytes ++ line_end)
+line_of bytes (Ok x) has = refl
+line_of bytes (Err f) has = absurd has
+
+-- a body that has a line was read to its end
+pub read_whole : {S : Type 0} (source : Source S) (ended : Ended S Position Place) → HasLine (after_body source ended)
+    → (g : Going S Position Place) × (ended ≡ Ok g) × (after_body source ended ≡ Line (g.bytes ++ line_end))
+read_whole source (Ok g) has = (g, refl, line_of g.bytes (source.reads_end g.reader) has)
+read_whole source (Err f) has = absurd has
+
+-- no item changes what is declared
+pub same_schema : (p : Position) (item : Item) → (after p item).schema ≡ p.schema
+same_schema p (field id kind) = refl
+same_schema p stop = refl
+same_schema p (bool_value b) = refl
+same_schema p (i8_value n) = refl
+same_schema p (i16_value n) = refl
+same_schema p (i32_value n) = refl
+same_schema p (i64_value n) = refl
+same_schema p (double_value bytes) = refl
+same_schema p (text bytes) = refl
+same_schema p (number_text bytes) = refl
+same_schema p (unknown_text bytes) = refl
+same_schema p struct_begin = refl
+same_schema p empty_map = refl
+same_schema p (map_begin key value size) = refl
+same_schema p (set_begin kind size) = refl
+same_schema p (list_begin kind size) = refl
+same_schema p end = refl
+same_schema p (uuid_value bytes) = refl

@@ -1,0 +1,8 @@
+-- Lemmas.
+pub mod Appending
+pub mod Told
+pub mod Strings
+pub mod Items
+pub mod Frames
+pub mod Ends
+pub mod Ending

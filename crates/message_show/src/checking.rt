@@ -1,0 +1,147 @@
+//! The first pass through a frame: whether it is a message.
+ghost use Rattle.std.specs.Prelude.{refl, ◌≡◌, ◌≤◌, ◌<◌, ◌^◌, ℕ, List, IfSome, length};
+ghost use Rattle.protocol_traits.specs.declared.proto.Hint.{Hint};
+ghost use Rattle.type_walk.specs.Positions.{Position, start};
+ghost use Rattle.translate_core.specs.Body.{source_of};
+ghost use Rattle.translate_core.specs.Routes.{start_of};
+ghost use Rattle.translate_core.specs.declared.route.Route.TheVariants.{ByName};
+ghost use Rattle.message_show.specs.Shown.{shown_by, after_body, body_from, IsService, IsChecked};
+
+use crate::bodies::body_struct;
+use binary_protocol::BinaryRead;
+use compact_protocol::CompactRead;
+use protocol_traits::{Fault, Hint, ReadRules, WireRead};
+use type_tables::{Schema, ServiceId, StructId};
+use type_walk::{Undeclared, Walk, Walking};
+
+/// What a frame was found to be.
+#[derive(Clone, Copy)]
+pub enum Checked {
+    Message,
+    Refused(Fault),
+    Unread(Fault),
+}
+
+/// A reader that reads a string alike whatever is declared of its position.
+pub trait Blind: ReadRules {
+    ghost blind: { (s : Self) (a b : Hint) → Self.ReadRules.reads s a ≡ Self.ReadRules.reads s b };
+}
+
+impl<'f> Blind for BinaryRead<'f> {
+    ghost blind = { λ s a b. refl };
+}
+
+impl<'f> Blind for CompactRead<'f> {
+    ghost blind = { λ s a b. refl };
+}
+
+/// Whether a frame is a message, or the fault that stands in it. Nothing declared is looked at.
+pub fn check_blind<'f, R: WireRead<'f> + Blind>(
+    schema: &Schema,
+    service: Option<ServiceId>,
+    frame: &'f [u8],
+    room: &'f mut [u8],
+) -> Checked
+    requires room { length frame.now ≤ length room.old }
+    requires size { length frame.now < 2 ^ 31 }
+    ensures { IsChecked result (shown_by (source_of R.begun R.reads_head R.reads R.reads_end R.value_place R.ahead) (start_of schema.now (ByName service)) frame.now) }
+{
+    let mut reader = R::over(frame, room);
+    match reader.head() {
+        Ok(_) => {}
+        Err(fault) => return Checked::Unread(fault),
+    }
+    check_any(schema, &mut reader)
+}
+
+/// Whether the rest of a message follows, whatever its body's struct, or the fault that stands in it.
+fn check_any<'f, R: WireRead<'f> + Blind>(schema: &Schema, reader: &mut R) -> Checked
+    requires begins { R.depth reader.old ≡ 1 }
+    ensures { (position : Position) (told : List ℕ) → IsChecked result (after_body (source_of R.begun R.reads_head R.reads R.reads_end R.value_place R.ahead) (body_from (source_of R.begun R.reads_head R.reads R.reads_end R.value_place R.ahead) reader.old position told)) }
+{
+    let mut walk = Undeclared::start(schema);
+    'events: while walk.is_open() {
+        match reader.next(Hint::Unknown) {
+            Ok(event) => {
+                walk.step(&event);
+            }
+            Err(fault) => return Checked::Refused(fault),
+        }
+    }
+    match reader.finish() {
+        Ok(()) => Checked::Message,
+        Err(fault) => Checked::Refused(fault),
+    }
+}
+
+/// Whether a frame is a message, or the fault that stands in it.
+pub fn check<'f, R: WireRead<'f>>(
+    schema: &Schema,
+    service: Option<ServiceId>,
+    frame: &'f [u8],
+    room: &'f mut [u8],
+) -> Checked
+    requires service { IsService schema.now service }
+    requires room { length frame.now ≤ length room.old }
+    requires size { length frame.now < 2 ^ 31 }
+    ensures { IsChecked result (shown_by (source_of R.begun R.reads_head R.reads R.reads_end R.value_place R.ahead) (start_of schema.now (ByName service)) frame.now) }
+{
+    let mut reader = R::over(frame, room);
+    let body = match reader.head() {
+        Ok(head) => body_struct(schema, service, &head),
+        Err(fault) => return Checked::Unread(fault),
+    };
+    check_body(schema, body, &mut reader)
+}
+
+/// Whether a body of this struct, if any, and the end of a message follow.
+fn check_body<'f, R: WireRead<'f>>(
+    schema: &Schema,
+    body: Option<StructId>,
+    reader: &mut R,
+) -> Checked
+    requires known { IfSome body (λ s. s.0 < length schema.now.structs) }
+    requires begins { R.depth reader.old ≡ 1 }
+    ensures { (told : List ℕ) → IsChecked result (after_body (source_of R.begun R.reads_head R.reads R.reads_end R.value_place R.ahead) (body_from (source_of R.begun R.reads_head R.reads R.reads_end R.value_place R.ahead) reader.old (start schema.now body) told)) }
+{
+    if body.is_none() {
+        let mut walk = Undeclared::start(schema);
+        return check_by(reader, &mut walk);
+    }
+    check_declared(schema, body, reader)
+}
+
+/// The same where the body's struct is declared. A walk is large, so only this function has one.
+#[inline(never)]
+fn check_declared<'f, R: WireRead<'f>>(
+    schema: &Schema,
+    body: Option<StructId>,
+    reader: &mut R,
+) -> Checked
+    requires known { IfSome body (λ s. s.0 < length schema.now.structs) }
+    requires begins { R.depth reader.old ≡ 1 }
+    ensures { (told : List ℕ) → IsChecked result (after_body (source_of R.begun R.reads_head R.reads R.reads_end R.value_place R.ahead) (body_from (source_of R.begun R.reads_head R.reads R.reads_end R.value_place R.ahead) reader.old (start schema.now body) told)) }
+{
+    let mut walk = Walk::start(schema, body);
+    check_by(reader, &mut walk)
+}
+
+/// Whether the rest of a message follows, or the fault that stands in it.
+fn check_by<'f, R: WireRead<'f>, K: Walking>(reader: &mut R, walk: &mut K) -> Checked
+    requires begins { R.depth reader.old ≡ 1 }
+    requires walks { length (K.at walk.old).levels ≡ 1 }
+    ensures { (told : List ℕ) → IsChecked result (after_body (source_of R.begun R.reads_head R.reads R.reads_end R.value_place R.ahead) (body_from (source_of R.begun R.reads_head R.reads R.reads_end R.value_place R.ahead) reader.old (K.at walk.old) told)) }
+{
+    'events: while walk.is_open() {
+        match reader.next(walk.hint()) {
+            Ok(event) => {
+                walk.step(&event);
+            }
+            Err(fault) => return Checked::Refused(fault),
+        }
+    }
+    match reader.finish() {
+        Ok(()) => Checked::Message,
+        Err(fault) => Checked::Refused(fault),
+    }
+}

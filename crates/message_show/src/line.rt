@@ -1,0 +1,150 @@
+//! The end of a line that waits to be written.
+ghost use Rattle.std.specs.Prelude.{◌≡◌, ◌+◌, ◌≤◌, ◌++◌, ◌∷◌, [], length, take, not, false, true};
+ghost use Rattle.message_show.specs.Pieces.{Tells, output};
+
+use crate::writing::{Wrote, write_all};
+use gate_io::Sink;
+use std::marker::Model;
+
+/// How many bytes may wait.
+const ROOM: usize = 512;
+
+/// At least so many bytes of room are made for an event.
+pub const SPARE: usize = 128;
+
+/// What waits of a line. Once a write has failed nothing more is written.
+#[derive(Drop)]
+pub struct Line {
+    cells: [u8; ROOM],
+    len: usize,
+    broken: bool,
+}
+
+/// Clauses see the bytes that wait and whether a write has failed.
+impl Model for Line {
+    ghost use Rattle.std.specs.Prelude.{◌≤◌, take};
+    ghost use Rattle.message_show.specs.Pieces.{Waiting};
+
+    ghost Value = { Waiting };
+
+    ghost view = { λ l. record { bytes = take l.len l.cells; broken = l.broken } };
+
+    ghost invariant = { λ l. l.len ≤ 512 };
+}
+
+impl Line {
+    /// Nothing waits.
+    pub fn new() -> Line
+        ensures { result ≡ record { bytes = []; broken = false } }
+    {
+        Line {
+            cells: [0; ROOM],
+            len: 0,
+            broken: false,
+        }
+    }
+
+    /// Appends bytes, for which there must be room.
+    #[inline(always)]
+    pub fn push(&mut self, piece: &[u8])
+        requires { length self.old.bytes + length piece.now ≤ 512 }
+        ensures { self.new ≡ record self.old { bytes = self.old.bytes ++ piece.now } }
+    {
+        append(&mut self.cells, self.len, piece);
+        self.len += piece.len();
+    }
+
+    /// Appends one byte, for which there must be room.
+    #[inline(always)]
+    pub fn push_byte(&mut self, byte: u8)
+        requires { length self.old.bytes + 1 ≤ 512 }
+        ensures { self.new ≡ record self.old { bytes = self.old.bytes ++ byte ∷ [] } }
+    {
+        self.push(&[byte]);
+    }
+
+    /// Makes room for the texts of an event.
+    #[inline(always)]
+    pub fn make_room<O: Sink>(&mut self, out: &mut O)
+        ensures room { length self.new.bytes + SPARE ≤ 512 }
+        ensures told { Tells (output (O.written out.old) (O.faults out.old)) self.old (output (O.written out.new) (O.faults out.new)) self.new [] }
+    {
+        if ROOM - self.len >= SPARE {
+            return;
+        }
+        self.flush(out);
+    }
+
+    /// Appends bytes of any number.
+    #[inline(always)]
+    pub fn put<O: Sink>(&mut self, piece: &[u8], out: &mut O)
+        ensures told { Tells (output (O.written out.old) (O.faults out.old)) self.old (output (O.written out.new) (O.faults out.new)) self.new piece.now }
+    {
+        if piece.len() <= ROOM - self.len {
+            self.push(piece);
+        } else {
+            self.put_long(piece, out);
+        }
+    }
+
+    #[inline(never)]
+    fn put_long<O: Sink>(&mut self, piece: &[u8], out: &mut O)
+        ensures told { Tells (output (O.written out.old) (O.faults out.old)) self.old (output (O.written out.new) (O.faults out.new)) self.new piece.now }
+    {
+        self.flush(out);
+        if piece.len() <= ROOM {
+            self.push(piece);
+        } else {
+            self.pass(piece, out);
+        }
+    }
+
+    /// Writes what waits.
+    #[inline(never)]
+    pub fn flush<O: Sink>(&mut self, out: &mut O)
+        ensures empty { self.new.bytes ≡ [] }
+        ensures told { Tells (output (O.written out.old) (O.faults out.old)) self.old (output (O.written out.new) (O.faults out.new)) self.new [] }
+    {
+        if self.broken {
+            self.len = 0;
+            return;
+        }
+        match write_all(out, &self.cells[..self.len]) {
+            Wrote::All => self.len = 0,
+            Wrote::Failed => {
+                self.broken = true;
+                self.len = 0;
+            }
+        }
+    }
+
+    /// Writes bytes before which none wait.
+    fn pass<O: Sink>(&mut self, piece: &[u8], out: &mut O)
+        requires { self.old.bytes ≡ [] }
+        ensures told { Tells (output (O.written out.old) (O.faults out.old)) self.old (output (O.written out.new) (O.faults out.new)) self.new piece.now }
+    {
+        if self.broken {
+            return;
+        }
+        match write_all(out, piece) {
+            Wrote::All => {}
+            Wrote::Failed => self.broken = true,
+        }
+    }
+
+    /// Whether no write has failed.
+    pub fn is_whole(&self) -> bool
+        ensures { result ≡ not self.now.broken }
+    {
+        !self.broken
+    }
+}
+
+// Writes bytes behind those that wait.
+#[inline(always)]
+fn append(cells: &mut [u8], len: usize, piece: &[u8])
+    requires { len + length piece.now ≤ length cells.old }
+    ensures appended { take (len + length piece.now) cells.new ≡ take len cells.old ++ piece.now }
+{
+    cells[len..len + piece.len()].copy_from_slice(piece);
+}
