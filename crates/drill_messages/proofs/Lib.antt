@@ -1,0 +1,5 @@
+mod Drawing
+mod Spelling
+mod Streams
+mod Rounds
+mod Takes

@@ -1,0 +1,16 @@
+use Rattle.std.proofs.Common.{◌-◌, ◌≤◌, length, take}
+use Rattle.std.specs.Io.KnownBytes.{Appends}
+use Rattle.drill_messages.proofs.writing.write_all.Given as goal
+
+-- the bytes before the place were written
+abbrev pub invariant-loop-at : goal.invariant-loop-at
+invariant-loop-at g l =
+    let sink = g.O.Sink in
+    record {
+      within : l.at ≤ length l.bytes;
+      written : Appends (sink.written l.fn.output) (sink.written l.output) (take l.at l.bytes);
+      later : sink.faults l.fn.output ≤ sink.faults l.output;
+    }
+
+abbrev pub decreases-loop-at : goal.decreases-loop-at
+decreases-loop-at g l = length l.bytes - l.at

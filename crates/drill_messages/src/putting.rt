@@ -1,0 +1,248 @@
+//! A message, event by event, by the writer of any protocol.
+ghost use Rattle.std.specs.Prelude.{◌≡◌, ◌≤◌, ◌<◌, ◌+◌, pos, None, [], ◌∷◌, ◌++◌, length};
+ghost use Rattle.std.specs.List.{flat_map};
+ghost use Rattle.std.specs.Str.{IsAscii};
+ghost use Rattle.thrift_value.specs.Items.{item_of, end};
+ghost use Rattle.protocol_traits.specs.Heads.{header_of};
+ghost use Rattle.protocol_traits.specs.Follow.{depth_after};
+ghost use Rattle.protocol_traits.specs.Room.{weight, IsSized};
+ghost use Rattle.drill_messages.specs.Events.{other, id_events, name_events, raw_events, numbers, marks_events, pairs, flags_events, item_events, body_events, call};
+ghost use Rattle.drill_messages.specs.Spellings.{spelled};
+ghost use Rattle.drill_messages.specs.Views.{fields_of, all_fields};
+ghost use Rattle.drill_messages.specs.Writers.{TakesAll, Writes};
+
+use crate::item::Item;
+use gate_io::Out;
+use protocol_traits::{Head, Hint, Mark, WireWrite};
+use thrift_value::{Event, Kind, MessageType};
+
+/// The most bytes that any protocol spells a message in.
+pub const MESSAGE_ROOM: usize = 3244;
+
+/// Nothing about the position matters to the event.
+const OTHER: Mark = Mark {
+    hint: Hint::Unknown,
+    key: Kind::I8,
+    value: Kind::I8,
+};
+
+const TEXT: Mark = Mark {
+    hint: Hint::Text,
+    key: Kind::I8,
+    value: Kind::I8,
+};
+
+const BYTES: Mark = Mark {
+    hint: Hint::Blob,
+    key: Kind::I8,
+    value: Kind::I8,
+};
+
+const FLAGS: Mark = Mark {
+    hint: Hint::Unknown,
+    key: Kind::Str,
+    value: Kind::Bool,
+};
+
+/// Appends a call of `put` with these items.
+pub fn put_message<W: WireWrite>(seq: u64, items: &[Item], out: &mut Out)
+    requires seq { seq < 1000000 }
+    requires takes { TakesAll W.name_bar W.bar }
+    requires few { length items.now ≤ 7 }
+    requires room { length out.old.bytes + MESSAGE_ROOM ≤ out.old.room }
+    ensures out { out.new ≡ record out.old { bytes = out.old.bytes ++ (W.plain_head (call (pos seq)) ++ spelled W.plain W.after W.begun (body_events (all_fields items.now))) } }
+    ensures short { length out.new.bytes ≤ length out.old.bytes + MESSAGE_ROOM }
+{
+    let mut writer = W::over();
+    writer.head(&call(seq), out);
+    put_event(&Event::Field(1, Kind::List), OTHER, &mut writer, out);
+    put_event(
+        &Event::ListBegin(Kind::Struct, items.len() as u32),
+        OTHER,
+        &mut writer,
+        out,
+    );
+    put_items(items, &mut writer, out);
+    put_event(&Event::End, OTHER, &mut writer, out);
+    put_event(&Event::Stop, OTHER, &mut writer, out);
+}
+
+/// The header of a call of `put`.
+fn call(seq: u64) -> Head<'static>
+    requires { seq < 1000000 }
+    ensures head { header_of result ≡ call (pos seq) }
+    ensures name { length result.name.now ≡ 3 }
+{
+    Head {
+        name: b"put",
+        mtype: MessageType::Call,
+        seq: seq as i32,
+    }
+}
+
+fn put_items<W: WireWrite>(items: &[Item], writer: &mut W, out: &mut Out)
+    requires takes { TakesAll W.name_bar W.bar }
+    requires few { length items.now ≤ 7 }
+    requires open { W.depth writer.old ≡ 2 }
+    requires room { length out.old.bytes + 3164 ≤ out.old.room }
+    ensures written { Writes W.plain W.after writer.old out.old writer.new out.new (flat_map item_events (all_fields items.now)) }
+    ensures depth { W.depth writer.new ≡ 2 }
+    ensures short { length out.new.bytes ≤ length out.old.bytes + 3164 }
+{
+    for item in items {
+        put_item(item, writer, out);
+    }
+}
+
+fn put_item<W: WireWrite>(item: &Item, writer: &mut W, out: &mut Out)
+    requires takes { TakesAll W.name_bar W.bar }
+    requires open { W.depth writer.old ≡ 2 }
+    requires room { length out.old.bytes + 452 ≤ out.old.room }
+    ensures written { Writes W.plain W.after writer.old out.old writer.new out.new (item_events (fields_of item.now)) }
+    ensures depth { W.depth writer.new ≡ 2 }
+    ensures short { length out.new.bytes ≤ length out.old.bytes + 452 }
+{
+    put_event(&Event::StructBegin, OTHER, writer, out);
+    put_id(item.id, writer, out);
+    put_name(&item.name, writer, out);
+    put_raw(&item.raw, writer, out);
+    put_marks(&item.marks, writer, out);
+    put_flags(&item.flags, writer, out);
+    put_event(&Event::Stop, OTHER, writer, out);
+}
+
+#[inline(always)]
+fn put_id<W: WireWrite>(id: i64, writer: &mut W, out: &mut Out)
+    requires takes { TakesAll W.name_bar W.bar }
+    requires open { W.depth writer.old ≡ 3 }
+    requires room { length out.old.bytes + 41 ≤ out.old.room }
+    ensures written { Writes W.plain W.after writer.old out.old writer.new out.new (id_events id) }
+    ensures depth { W.depth writer.new ≡ 3 }
+    ensures short { length out.new.bytes ≤ length out.old.bytes + 41 }
+{
+    put_event(&Event::Field(1, Kind::I64), OTHER, writer, out);
+    put_event(&Event::I64(id), OTHER, writer, out);
+}
+
+#[inline(always)]
+fn put_name<W: WireWrite>(name: &[u8], writer: &mut W, out: &mut Out)
+    requires takes { TakesAll W.name_bar W.bar }
+    requires text { IsAscii name.now }
+    requires few { length name.now ≤ 11 }
+    requires open { W.depth writer.old ≡ 3 }
+    requires room { length out.old.bytes + 88 ≤ out.old.room }
+    ensures written { Writes W.plain W.after writer.old out.old writer.new out.new (name_events name.now) }
+    ensures depth { W.depth writer.new ≡ 3 }
+    ensures short { length out.new.bytes ≤ length out.old.bytes + 88 }
+{
+    put_event(&Event::Field(2, Kind::Str), OTHER, writer, out);
+    put_event(&Event::Str(name), TEXT, writer, out);
+}
+
+#[inline(always)]
+fn put_raw<W: WireWrite>(raw: &[u8], writer: &mut W, out: &mut Out)
+    requires takes { TakesAll W.name_bar W.bar }
+    requires few { length raw.now ≤ 15 }
+    requires open { W.depth writer.old ≡ 3 }
+    requires room { length out.old.bytes + 112 ≤ out.old.room }
+    ensures written { Writes W.plain W.after writer.old out.old writer.new out.new (raw_events raw.now) }
+    ensures depth { W.depth writer.new ≡ 3 }
+    ensures short { length out.new.bytes ≤ length out.old.bytes + 112 }
+{
+    put_event(&Event::Field(3, Kind::Str), OTHER, writer, out);
+    put_event(&Event::Str(raw), BYTES, writer, out);
+}
+
+#[inline(always)]
+fn put_marks<W: WireWrite>(marks: &[i32], writer: &mut W, out: &mut Out)
+    requires takes { TakesAll W.name_bar W.bar }
+    requires few { length marks.now ≤ 5 }
+    requires open { W.depth writer.old ≡ 3 }
+    requires room { length out.old.bytes + 113 ≤ out.old.room }
+    ensures written { Writes W.plain W.after writer.old out.old writer.new out.new (marks_events marks.now) }
+    ensures depth { W.depth writer.new ≡ 3 }
+    ensures short { length out.new.bytes ≤ length out.old.bytes + 113 }
+{
+    put_event(&Event::Field(4, Kind::List), OTHER, writer, out);
+    put_event(
+        &Event::ListBegin(Kind::I32, marks.len() as u32),
+        OTHER,
+        writer,
+        out,
+    );
+    put_numbers(marks, writer, out);
+}
+
+#[inline(always)]
+fn put_numbers<W: WireWrite>(marks: &[i32], writer: &mut W, out: &mut Out)
+    requires takes { TakesAll W.name_bar W.bar }
+    requires few { length marks.now ≤ 5 }
+    requires open { W.depth writer.old ≡ 4 }
+    requires room { length out.old.bytes + 77 ≤ out.old.room }
+    ensures written { Writes W.plain W.after writer.old out.old writer.new out.new (numbers marks.now ++ (end, other) ∷ []) }
+    ensures depth { W.depth writer.new ≡ 3 }
+    ensures short { length out.new.bytes ≤ length out.old.bytes + 77 }
+{
+    for mark in marks {
+        put_event(&Event::I32(*mark), OTHER, writer, out);
+    }
+    put_event(&Event::End, OTHER, writer, out);
+}
+
+#[inline(always)]
+fn put_flags<W: WireWrite>(flags: &[bool], writer: &mut W, out: &mut Out)
+    requires takes { TakesAll W.name_bar W.bar }
+    requires few { length flags.now ≤ 3 }
+    requires open { W.depth writer.old ≡ 3 }
+    requires room { length out.old.bytes + 92 ≤ out.old.room }
+    ensures written { Writes W.plain W.after writer.old out.old writer.new out.new (flags_events flags.now) }
+    ensures depth { W.depth writer.new ≡ 3 }
+    ensures short { length out.new.bytes ≤ length out.old.bytes + 92 }
+{
+    put_event(&Event::Field(5, Kind::Map), OTHER, writer, out);
+    if flags.is_empty() {
+        put_event(&Event::EmptyMap, FLAGS, writer, out);
+        return;
+    }
+    put_event(
+        &Event::MapBegin(Kind::Str, Kind::Bool, flags.len() as u32),
+        OTHER,
+        writer,
+        out,
+    );
+    put_pairs(flags, writer, out);
+}
+
+#[inline(always)]
+fn put_pairs<W: WireWrite>(flags: &[bool], writer: &mut W, out: &mut Out)
+    requires takes { TakesAll W.name_bar W.bar }
+    requires few { length flags.now ≤ 3 }
+    requires open { W.depth writer.old ≡ 4 }
+    requires room { length out.old.bytes + 50 ≤ out.old.room }
+    ensures written { Writes W.plain W.after writer.old out.old writer.new out.new (pairs 97 flags.now ++ (end, other) ∷ []) }
+    ensures depth { W.depth writer.new ≡ 3 }
+    ensures short { length out.new.bytes ≤ length out.old.bytes + 50 }
+{
+    let mut key = b'a';
+    for flag in flags {
+        put_event(&Event::Str(&[key]), TEXT, writer, out);
+        put_event(&Event::Bool(*flag), OTHER, writer, out);
+        key += 1;
+    }
+    put_event(&Event::End, OTHER, writer, out);
+}
+
+/// Appends one event.
+#[inline(always)]
+fn put_event<W: WireWrite>(event: &Event<'_>, mark: Mark, writer: &mut W, out: &mut Out)
+    requires sized { IsSized (item_of event.now) }
+    requires taken { W.bar (item_of event.now) mark ≡ None }
+    requires open { 0 < W.depth writer.old }
+    requires shallow { W.depth writer.old ≤ 4 }
+    requires room { length out.old.bytes + weight (item_of event.now) ≤ out.old.room }
+    ensures written { Writes W.plain W.after writer.old out.old writer.new out.new ((item_of event.now, mark) ∷ []) }
+    ensures depth { W.depth writer.new ≡ depth_after (item_of event.now) (W.depth writer.old) }
+    ensures short { length out.new.bytes ≤ length out.old.bytes + weight (item_of event.now) }
+{
+    writer.put(event, mark, out);
+}
