@@ -1,5 +1,5 @@
--- A good stream is converted.
-use Rattle.std.proofs.Common.{◌≡◌, ℕ, ◌==◌, ◌-◌, ◌^◌, ◌<◌, ◌⊎◌, inl, inr, ℤ, List, [], ◌∷◌, ◌++◌, length, true, false, Option, None, Some, arith, refl, sym, ◌∙◌, ap, subst, append_assoc, length-append, IsTrue}
+-- What a command does where nothing fails.
+use Rattle.std.proofs.Common.{◌≡◌, ℕ, ◌==◌, ◌-◌, ◌^◌, ◌<◌, ◌⊎◌, inl, inr, ℤ, List, [], ◌∷◌, ◌++◌, length, true, false, Option, None, Some, arith, refl, sym, ◌∙◌, ap, subst, append_assoc, length-append, IsTrue, codes}
 use Rattle.std.specs.List.{flat_map, list_any}
 use Rattle.std.specs.Io.KnownBytes.{Consumes, IsAtEnd}
 use Rattle.std.proofs.lemmas.Bool.Decides.{nat_tests}
@@ -9,10 +9,14 @@ use Rattle.framed_transport.specs.Frames.{framed, Splits}
 use Rattle.framed_transport.specs.Front.{front, is_whole, Part, Large}
 use Rattle.framed_transport.proofs.Cutting.{large_stays}
 use Rattle.framed_transport.proofs.Splitting.{one_splitting}
+use Rattle.gate_words.specs.declared.command.Drilling.{Drilling}
 use Rattle.gate_run.specs.Terms.{Terms}
-use Rattle.gate_run.specs.Conversion.{any_refused}
+use Rattle.gate_run.specs.Drilling.{Drills, Whole, Unwritten, Unreported, NoMemory}
+use Rattle.gate_run.specs.Starting.{SaysLast}
+use Rattle.gate_run.specs.Writing.{Tells}
+use Rattle.gate_run.specs.Handling.{any_refused}
 use Rattle.gate_run.specs.Progress.{IsStreamLine}
-use Rattle.gate_run.specs.Outcome.{Streams, ConvertsAll, EndsWithinAFrame, StopsWith, WriteFailed, Converted}
+use Rattle.gate_run.specs.Outcome.{Streams, CoversAll, EndsWithinAFrame, StopsWith, WriteFailed, Streamed}
 
 -- the code is one of seven
 no_other : (code : ℕ) → IsTrue (list_any (λ c. c == code) (0 ∷ 1 ∷ 3 ∷ 4 ∷ 5 ∷ 8 ∷ 9 ∷ [])) → (code ≡ 1 → ⊥) → (code ≡ 3 → ⊥) → (code ≡ 4 → ⊥) → (code ≡ 5 → ⊥) → (code ≡ 8 → ⊥) → (code ≡ 0) ⊎ (code ≡ 9)
@@ -32,7 +36,7 @@ front_read None b bytes read e p = absurd (cc)
 front_read (Some x) None bytes read e p = absurd p
 front_read (Some x) (Some y) bytes read e p = (let same : x ≡ bytes = cc in (y, sym same ∙ p))
 
-none_refused : (k : Terms) (a b : Streams) (bytes : List ℕ) (frames : List (List ℕ)) → k.limit < 2 ^ 31 → a.left ≡ Some bytes → Splits k.limit bytes frames [] → any_refused k frames ≡ false → ConvertsAll k a b true → ⊥
+none_refused : (k : Terms) (a b : Streams) (bytes : List ℕ) (frames : List (List ℕ)) → k.limit < 2 ^ 31 → a.left ≡ Some bytes → Splits k.limit bytes frames [] → any_refused k frames ≡ false → CoversAll k a b true → ⊥
 none_refused k a b bytes frames small told splits passed c =
     let same : c.0 ≡ bytes = all_read a.left b.left bytes c.0 told c.2.consumed c.4 in
     let one = one_splitting k.limit bytes c.1 frames [] [] small (subst (λ (xs : List ℕ). Splits k.limit xs c.1 []) same c.2.splits) splits in
@@ -72,7 +76,7 @@ too_few k a b text bytes told few s =
     let more = front_read a.left b.left bytes s.0 told s.4.consumed in
     omega (arith, s.6, few, ap length more.1, length-append s.0 more.0)
 
-pub good_stream : (k : Terms) (a b : Streams) (code : ℕ) (bytes : List ℕ) (frames : List (List ℕ)) → k.limit < 2 ^ 31 → Converted k a b code → a.left ≡ Some bytes → length bytes < 2 ^ 63 - 1 → Splits k.limit bytes frames [] → any_refused k frames ≡ false → (Rose a.input_faults b.input_faults → ⊥) → (WriteFailed a b → ⊥) → (code ≡ 0) ⊎ (code ≡ 9)
+pub good_stream : (k : Terms) (a b : Streams) (code : ℕ) (bytes : List ℕ) (frames : List (List ℕ)) → k.limit < 2 ^ 31 → Streamed k a b code → a.left ≡ Some bytes → length bytes < 2 ^ 63 - 1 → Splits k.limit bytes frames [] → any_refused k frames ≡ false → (Rose a.input_faults b.input_faults → ⊥) → (WriteFailed a b → ⊥) → (code ≡ 0) ⊎ (code ≡ 9)
 good_stream k a b code bytes frames small c told few splits passed no_read_fault no_write_fault =
     no_other code c.known
     (λ e. none_refused k a b bytes frames small told splits passed (c.refused e))
@@ -80,3 +84,19 @@ good_stream k a b code bytes frames small c told few splits passed no_read_fault
     (λ e. no_read_fault (c.read_fault e).0)
     (λ e. no_write_fault (c.write_fault e).0)
     (λ e. too_few k a b _ bytes told few (c.budget e))
+
+-- ---- one text, and messages
+
+done_or_failed : (code before now : ℕ) (Done : Type 0) → ((code ≡ 0) × Done) ⊎ ((code ≡ 5) × Rose before now) → (Rose before now → ⊥) → (code ≡ 0) ⊎ (code ≡ 9)
+done_or_failed code before now Done (inl done) no_fault = inl done.0
+done_or_failed code before now Done (inr failed) no_fault = absurd (no_fault failed.1)
+
+pub text_written : (text : List ℕ) (a b : Streams) (code : ℕ) → Tells text a b code ⊎ SaysLast (codes "no memory\n") 9 a b code → (Rose a.output_faults b.output_faults → ⊥) → (code ≡ 0) ⊎ (code ≡ 9)
+text_written text a b code (inl t) no_fault = done_or_failed code a.output_faults b.output_faults _ t.ends no_fault
+text_written text a b code (inr s) no_fault = inr s.code_is
+
+pub messages_made : (k : Drilling) (a b : Streams) (code : ℕ) → Drills k a b code → (WriteFailed a b → ⊥) → (code ≡ 0) ⊎ (code ≡ 9)
+messages_made k a b code (Whole e left written reported) no_fault = inl e
+messages_made k a b code (Unwritten e left front same rose) no_fault = absurd (no_fault (inl rose))
+messages_made k a b code (Unreported e left written front rose) no_fault = absurd (no_fault (inr rose))
+messages_made k a b code (NoMemory s) no_fault = inr s.code_is

@@ -4,5 +4,8 @@ pub mod Draining
 pub mod Ending
 pub mod Outcome
 pub mod Progress
+pub mod Served
+pub mod Started
 pub mod Starts
 pub mod Streams
+pub mod Treating

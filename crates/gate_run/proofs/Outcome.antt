@@ -9,10 +9,10 @@ use Rattle.gate_io.specs.Causes.{Rose}
 use Rattle.framed_transport.specs.Front.{front, is_whole}
 use Rattle.gate_run.specs.Terms.{Terms}
 use Rattle.gate_run.specs.Fronts.{AppendsFront}
-use Rattle.gate_run.specs.Conversion.{lines, any_refused}
+use Rattle.gate_run.specs.Handling.{lines, any_refused}
 use Rattle.gate_run.specs.Progress.{Moment, Goes, Breaks, IsStreamLine}
 use Rattle.gate_run.specs.Working.{EndsInRest, IsWaiting}
-use Rattle.gate_run.specs.Outcome.{Streams, streams, Converts, IsLastLine, ConvertsAll, IsTooLargeOrAtEnd, EndsWithinAFrame, StopsWith, BreaksOff, WriteFailed, Converted}
+use Rattle.gate_run.specs.Outcome.{Streams, streams, Covers, IsLastLine, CoversAll, IsTooLargeOrAtEnd, EndsWithinAFrame, StopsWith, BreaksOff, WriteFailed, Streamed}
 use Rattle.gate_run.proofs.Streams.{appends_on, appends_none, consumes_none}
 
 -- where nothing is held, less than a frame is
@@ -23,8 +23,8 @@ nothing_waits k bytes none = rw none (record { part = refl; room = omega arith }
 abbrev at : Moment → ℕ → ℕ → ℕ → Streams
 at m i o e = streams m.left m.written m.reported i o e
 
-converts : (k : Terms) (a b : Moment) (i o e i' o' e' : ℕ) (reported : Option (List ℕ)) (line : List ℕ) → a.held ≡ [] → a.frames ≡ 0 → (goes : Goes k a b) → is_whole (front k.limit b.held) ≡ false → Appends b.reported reported line → Converts k (at a i o e) (streams b.left b.written reported i' o' e') goes.read goes.frames b.held line
-converts k a b i o e i' o' e' reported line none first goes no_frame last = record {
+covers : (k : Terms) (a b : Moment) (i o e i' o' e' : ℕ) (reported : Option (List ℕ)) (line : List ℕ) → a.held ≡ [] → a.frames ≡ 0 → (goes : Goes k a b) → is_whole (front k.limit b.held) ≡ false → Appends b.reported reported line → Covers k (at a i o e) (streams b.left b.written reported i' o' e') goes.read goes.frames b.held line
+covers k a b i o e i' o' e' reported line none first goes no_frame last = record {
   consumed = goes.consumed;
   splits = record {
     whole = ap (λ t. t ++ goes.read) (sym none) ∙ goes.split;
@@ -39,11 +39,11 @@ no_frame_in_part : (k : Terms) (bytes : List ℕ) → IsWaiting k bytes → is_w
 no_frame_in_part k bytes w = ap is_whole w.part
 
 -- at the end of the input nothing is held
-pub converts_all : (k : Terms) (a b : Moment) (i o e i' o' e' : ℕ) (refused : Bool) → a.held ≡ [] → a.frames ≡ 0 → a.refused ≡ false → Goes k a b → b.held ≡ [] → b.refused ≡ refused → IsAtEnd b.left → ConvertsAll k (at a i o e) (at b i' o' e') refused
-converts_all k a b i o e i' o' e' refused none first unrefused goes nothing is at_end = (
+pub covers_all : (k : Terms) (a b : Moment) (i o e i' o' e' : ℕ) (refused : Bool) → a.held ≡ [] → a.frames ≡ 0 → a.refused ≡ false → Goes k a b → b.held ≡ [] → b.refused ≡ refused → IsAtEnd b.left → CoversAll k (at a i o e) (at b i' o' e') refused
+covers_all k a b i o e i' o' e' refused none first unrefused goes nothing is at_end = (
   goes.read,
   goes.frames,
-  subst (λ (rest : List ℕ). Converts k (at a i o e) (at b i' o' e') goes.read goes.frames rest []) nothing (converts k a b i o e i' o' e' b.reported [] none first goes (no_frame_in_part k b.held (nothing_waits k b.held nothing)) (appends_none b.reported)),
+  subst (λ (rest : List ℕ). Covers k (at a i o e) (at b i' o' e') goes.read goes.frames rest []) nothing (covers k a b i o e i' o' e' b.reported [] none first goes (no_frame_in_part k b.held (nothing_waits k b.held nothing)) (appends_none b.reported)),
   sym (ap (λ t. t || any_refused k goes.frames) unrefused) ∙ (sym goes.refused ∙ is),
   at_end,
 )
@@ -54,21 +54,21 @@ no_frame_in_rest limit frames rest line (inl large) = ap is_whole large.1
 no_frame_in_rest limit frames rest line (inr partial) = ap is_whole partial.0
 
 -- the rest is no frame
-pub converts_rest : (k : Terms) (a b : Moment) (i o e i' o' e' : ℕ) → a.held ≡ [] → a.frames ≡ 0 → EndsInRest k a b → EndsWithinAFrame k (at a i o e) (at b i' o' e')
-converts_rest k a b i o e i' o' e' none first end =
-    let made = converts k a end.mid i o e i' o' e' b.reported end.line none first end.goes (no_frame_in_rest k.limit end.mid.frames end.mid.held end.line end.line_is) end.reported in
+pub covers_rest : (k : Terms) (a b : Moment) (i o e i' o' e' : ℕ) → a.held ≡ [] → a.frames ≡ 0 → EndsInRest k a b → EndsWithinAFrame k (at a i o e) (at b i' o' e')
+covers_rest k a b i o e i' o' e' none first end =
+    let made = covers k a end.mid i o e i' o' e' b.reported end.line none first end.goes (no_frame_in_rest k.limit end.mid.frames end.mid.held end.line end.line_is) end.reported in
     let count : end.mid.frames ≡ length end.goes.frames = omega (arith, end.goes.counted, first) in (
       end.goes.read,
       end.goes.frames,
       end.mid.held,
       end.line,
-      subst (λ (w : Option (List ℕ)). Converts k (at a i o e) (streams b.left w b.reported i' o' e') end.goes.read end.goes.frames end.mid.held end.line) (sym end.written)
-          (subst (λ (l : Option (List ℕ)). Converts k (at a i o e) (streams l end.mid.written b.reported i' o' e') end.goes.read end.goes.frames end.mid.held end.line) (sym end.left) made),
+      subst (λ (w : Option (List ℕ)). Covers k (at a i o e) (streams b.left w b.reported i' o' e') end.goes.read end.goes.frames end.mid.held end.line) (sym end.written)
+          (subst (λ (l : Option (List ℕ)). Covers k (at a i o e) (streams l end.mid.written b.reported i' o' e') end.goes.read end.goes.frames end.mid.held end.line) (sym end.left) made),
       subst (λ (n : ℕ). IsStreamLine k.limit n end.mid.held end.line) count end.line_is,
       subst (λ (l : Option (List ℕ)). IsTooLargeOrAtEnd k.limit end.mid.held l) (sym end.left) end.at_end,
     )
 
-rose_earlier : (before mid now : ℕ) → before ≤ mid → Rose mid now → Rose before now
+pub rose_earlier : (before mid now : ℕ) → before ≤ mid → Rose mid now → Rose before now
 rose_earlier before mid now h rose = omega arith
 
 -- the last line, or a front of it
@@ -81,7 +81,7 @@ pub stops_with : (k : Terms) (a b : Moment) (i o e i' o' mid e' : ℕ) (reported
 stops_with k a b i o e i' o' mid e' reported text Many none first untaken goes waits later front whole many =
     let last = last_line b.reported reported text e mid e' later front whole in
     let taken : b.taken ≡ length goes.read = omega (arith, goes.taken, untaken) in
-    (goes.read, goes.frames, b.held, last.0, converts k a b i o e i' o' e' reported last.0 none first goes (no_frame_in_part k b.held waits) last.1, last.2, subst Many taken many)
+    (goes.read, goes.frames, b.held, last.0, covers k a b i o e i' o' e' reported last.0 none first goes (no_frame_in_part k b.held waits) last.1, last.2, subst Many taken many)
 
 -- before anything was read
 pub stops_at_once : (k : Terms) (left written r r' : Option (List ℕ)) (i o e e' : ℕ) (text : List ℕ) → AppendsFront r r' text → Appends r r' text ⊎ Rose e e' → StopsWith k (streams left written r i o e) (streams left written r' i o e') text (λ n. n ≡ 0)
@@ -123,7 +123,7 @@ not_that n m h e = (let less : n < m = grind (arith, nat_tests, h) in omega (ari
 not_this : (n m : ℕ) → nat_lt m n ≡ true → n ≡ m → ⊥
 not_this n m h e = (let less : m < n = grind (arith, nat_tests, h) in omega (arith, less, e))
 
-pub at_done : (k : Terms) (a b : Streams) → ConvertsAll k a b false → Converted k a b 0
+pub at_done : (k : Terms) (a b : Streams) → CoversAll k a b false → Streamed k a b 0
 at_done k a b h = record {
   known = refl;
   done = λ _. h;
@@ -135,7 +135,7 @@ at_done k a b h = record {
   memory = λ e. absurd (not_that 0 9 refl e);
 }
 
-pub at_refused : (k : Terms) (a b : Streams) → ConvertsAll k a b true → Converted k a b 1
+pub at_refused : (k : Terms) (a b : Streams) → CoversAll k a b true → Streamed k a b 1
 at_refused k a b h = record {
   known = refl;
   done = λ e. absurd (not_this 1 0 refl e);
@@ -147,7 +147,7 @@ at_refused k a b h = record {
   memory = λ e. absurd (not_that 1 9 refl e);
 }
 
-pub at_stream_fault : (k : Terms) (a b : Streams) → EndsWithinAFrame k a b → Converted k a b 3
+pub at_stream_fault : (k : Terms) (a b : Streams) → EndsWithinAFrame k a b → Streamed k a b 3
 at_stream_fault k a b h = record {
   known = refl;
   done = λ e. absurd (not_this 3 0 refl e);
@@ -159,8 +159,8 @@ at_stream_fault k a b h = record {
   memory = λ e. absurd (not_that 3 9 refl e);
 }
 
-pub at_read_fault : (k : Terms) (a b : Streams) (code : ℕ) → code ≡ 4 → Rose a.input_faults b.input_faults → StopsWith k a b (codes "read fault\n") (λ _. ⊤) → Converted k a b code
-at_read_fault k a b code is rose h = subst (λ (n : ℕ). Converted k a b n) (sym is) (record {
+pub at_read_fault : (k : Terms) (a b : Streams) (code : ℕ) → code ≡ 4 → Rose a.input_faults b.input_faults → StopsWith k a b (codes "read fault\n") (λ _. ⊤) → Streamed k a b code
+at_read_fault k a b code is rose h = subst (λ (n : ℕ). Streamed k a b n) (sym is) (record {
   known = refl;
   done = λ e. absurd (not_this 4 0 refl e);
   refused = λ e. absurd (not_this 4 1 refl e);
@@ -171,7 +171,7 @@ at_read_fault k a b code is rose h = subst (λ (n : ℕ). Converted k a b n) (sy
   memory = λ e. absurd (not_that 4 9 refl e);
 })
 
-pub at_write_fault : (k : Terms) (a b : Streams) → WriteFailed a b → BreaksOff k a b → Converted k a b 5
+pub at_write_fault : (k : Terms) (a b : Streams) → WriteFailed a b → BreaksOff k a b → Streamed k a b 5
 at_write_fault k a b failed h = record {
   known = refl;
   done = λ e. absurd (not_this 5 0 refl e);
@@ -183,8 +183,8 @@ at_write_fault k a b failed h = record {
   memory = λ e. absurd (not_that 5 9 refl e);
 }
 
-pub at_budget : (k : Terms) (a b : Streams) (code : ℕ) → code ≡ 8 → StopsWith k a b (codes "budget spent\n") (λ n. n ≡ 2 ^ 63 - 1) → Converted k a b code
-at_budget k a b code is h = subst (λ (n : ℕ). Converted k a b n) (sym is) (record {
+pub at_budget : (k : Terms) (a b : Streams) (code : ℕ) → code ≡ 8 → StopsWith k a b (codes "budget spent\n") (λ n. n ≡ 2 ^ 63 - 1) → Streamed k a b code
+at_budget k a b code is h = subst (λ (n : ℕ). Streamed k a b n) (sym is) (record {
   known = refl;
   done = λ e. absurd (not_this 8 0 refl e);
   refused = λ e. absurd (not_this 8 1 refl e);
@@ -195,8 +195,8 @@ at_budget k a b code is h = subst (λ (n : ℕ). Converted k a b n) (sym is) (re
   memory = λ e. absurd (not_that 8 9 refl e);
 })
 
-pub at_memory : (k : Terms) (a b : Streams) (code : ℕ) → code ≡ 9 → StopsWith k a b (codes "no memory\n") (λ n. n ≡ 0) → Converted k a b code
-at_memory k a b code is h = subst (λ (n : ℕ). Converted k a b n) (sym is) (record {
+pub at_memory : (k : Terms) (a b : Streams) (code : ℕ) → code ≡ 9 → StopsWith k a b (codes "no memory\n") (λ n. n ≡ 0) → Streamed k a b code
+at_memory k a b code is h = subst (λ (n : ℕ). Streamed k a b n) (sym is) (record {
   known = refl;
   done = λ e. absurd (not_this 9 0 refl e);
   refused = λ e. absurd (not_this 9 1 refl e);

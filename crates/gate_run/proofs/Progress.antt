@@ -13,9 +13,9 @@ use Rattle.gate_run.specs.Working.{EndsInRest, Ends, Waits}
 use Rattle.gate_run.specs.declared.work.End.{End}
 use Rattle.gate_run.specs.declared.work.End.TheVariants as ends
 use Rattle.gate_run.specs.Fronts.{AppendsFront, Flushed}
-use Rattle.gate_run.specs.Conversion.{passes, output_of, line_of, lines, any_refused}
+use Rattle.gate_run.specs.Handling.{passes, output_of, line_of, lines, any_refused}
 use Rattle.gate_run.specs.Progress.{Moment, Goes, Breaks, IsStreamLine}
-use Rattle.gate_run.proofs.Streams.{appends_on, appends_none, consumes_on, consumes_none, then_front, front_of_more, keeps_consumes, some_wait, flush_kept, front_of_gathered, all_written, one_waits}
+use Rattle.gate_run.proofs.Streams.{appends_on, appends_none, consumes_on, consumes_none, then_front, front_of_more, keeps_consumes, some_wait, flush_kept, front_of_gathered, all_written, one_waits, gathered, flushed_none, none_front}
 
 pub lines_on : (k : Terms) (before : ℕ) (xs ys : List (List ℕ)) → lines k before (xs ++ ys) ≡ lines k before xs ++ lines k (before + length xs) ys
 lines_on k before [] ys = ap (λ n. lines k n ys) (sym (add-zero before))
@@ -230,12 +230,20 @@ waits_broken k a b c out more w left f r = record {
   last_is = inl refl;
 }
 
--- one frame more was handled, and what is to be written of it waits
-pub waits_one : (k : Terms) (a b c : Moment) (out more out' more' frame rest : List ℕ) → Waits k a b out more → IsCut k.limit b.held frame rest → c.held ≡ rest → c.left ≡ b.left → c.written ≡ b.written → c.reported ≡ b.reported → c.frames ≡ b.frames + 1 → c.taken ≡ b.taken → c.refused ≡ (b.refused || not (passes k frame)) → out' ≡ out ++ output_of k frame → more' ≡ more ++ line_of k (b.frames + 1) frame → Waits k a c out' more'
-waits_one k a b c out more out' more' frame rest w cut held left written reported frames taken refused o m = record {
+-- what is written of one frame more waits behind what waited, of which a front may have been written
+pub waits_one : (k : Terms) (a b c : Moment) (out more out' more' frame rest : List ℕ) → Waits k a b out more → IsCut k.limit b.held frame rest → c.held ≡ rest → c.left ≡ b.left → Flushed b.written (out ++ output_of k frame) c.written out' → c.reported ≡ b.reported → c.frames ≡ b.frames + 1 → c.taken ≡ b.taken → c.refused ≡ (b.refused || not (passes k frame)) → more' ≡ more ++ line_of k (b.frames + 1) frame → Waits k a c out' more'
+waits_one k a b c out more out' more' frame rest w cut held left written reported frames taken refused m = record {
   goes = goes_on k a (record b { written = append_known b.written out; reported = append_known b.reported more }) (record c { written = append_known c.written out'; reported = append_known c.reported more' }) w.goes
       (handled_one k (record b { written = append_known b.written out; reported = append_known b.reported more }) (record c { written = append_known c.written out'; reported = append_known c.reported more' }) frame cut.within (cut.whole ∙ ap (λ t. framed frame ++ t) (sym held)) left
-      (one_waits b.written c.written out out' (output_of k frame) written o) (one_waits b.reported c.reported more more' (line_of k (b.frames + 1) frame) reported m) frames taken refused);
-  sent = (w.sent.0, subst (λ (x : Option (List ℕ)). Appends a.written x w.sent.0) (sym written) w.sent.1);
+      (gathered b.written c.written out out' (output_of k frame) written) (one_waits b.reported c.reported more more' (line_of k (b.frames + 1) frame) reported m) frames taken refused);
+  sent = (w.sent.0 ++ written.0, appends_on a.written b.written c.written w.sent.0 written.0 w.sent.1 written.1);
   told = (w.told.0, subst (λ (x : Option (List ℕ)). Appends a.reported x w.told.0) (sym reported) w.told.1);
 }
+
+-- a front of what waited and of what is written of one frame more was written
+pub one_broken : (k : Terms) (a b c : Moment) (out more frame rest : List ℕ) → Waits k a b out more → IsCut k.limit b.held frame rest → c.left ≡ b.left → c.reported ≡ b.reported → AppendsFront b.written c.written (out ++ output_of k frame) → Breaks k a c
+one_broken k a b c out more frame rest w cut left reported front =
+    let d = record b { held = rest; frames = b.frames + 1; refused = b.refused || not (passes k frame) } in
+    waits_broken k a d c (out ++ output_of k frame) (more ++ line_of k (b.frames + 1) frame)
+    (waits_one k a b d out more (out ++ output_of k frame) (more ++ line_of k (b.frames + 1) frame) frame rest w cut refl refl (flushed_none b.written (out ++ output_of k frame)) refl refl refl refl refl)
+    left front (none_front d.reported c.reported (more ++ line_of k (b.frames + 1) frame) (same_appends d.reported c.reported reported))

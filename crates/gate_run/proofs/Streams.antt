@@ -111,3 +111,14 @@ flushed_all w w' p p' none f = (p, f, sym (ap (λ t. p ++ t) none ∙ append-nil
 
 pub flushed_none : (w : Option (List ℕ)) (p : List ℕ) → Flushed w p w p
 flushed_none w p = ([], appends_none w, refl)
+
+-- more bytes wait, or the first were written
+pub gathered : (w w' : Option (List ℕ)) (p p' xs : List ℕ) → Flushed w (p ++ xs) w' p' → Appends (append_known w p) (append_known w' p') xs
+gathered None w' p p' xs f = tt
+gathered (Some x) None p p' xs f = absurd f.1
+gathered (Some x) (Some y) p p' xs f =
+    ap (λ t. t ++ p') f.1 ∙ (append_assoc x f.0 p' ∙ (ap (λ t. x ++ t) (sym f.2) ∙ sym (append_assoc x p xs)))
+
+-- more bytes wait
+pub wait_more : (w : Option (List ℕ)) (p p' xs : List ℕ) → p' ≡ p ++ xs → Flushed w (p ++ xs) w p'
+wait_more w p p' xs e = ([], appends_none w, sym e)

@@ -1,11 +1,9 @@
 -- What the check of an IDL says.
-use Rattle.std.specs.Prelude.{◌≡◌, ◌⊎◌, ℕ, List, Option, Some, Result, Ok, Err, ◌++◌, length, codes, decimal}
-use Rattle.std.specs.Io.KnownBytes.{Appends}
-use Rattle.gate_io.specs.Causes.{Rose}
+use Rattle.std.specs.Prelude.{◌≡◌, ℕ, List, Option, Some, Ok, Err, ◌++◌, length, codes, decimal}
 use Rattle.type_tables.specs.Declarations.{Declarations}
 use Rattle.type_tables.specs.Structs.{declared_structs}
-use Rattle.gate_run.specs.Fronts.{AppendsFront}
 use Rattle.gate_run.specs.Outcome.{Streams}
+use Rattle.gate_run.specs.Writing.{Tells}
 use Rattle.gate_run.specs.Starting.{Holds, IsRead, HasCause, Halts}
 use Rattle.gate_run.specs.declared.starting.NoStart.{NoStart}
 
@@ -16,13 +14,6 @@ ok_text files structs services = codes "ok files=" ++ decimal files ++ codes " s
 -- the files, the structs, unions and exceptions, and the services that are declared
 abbrev pub declared_text : Declarations → List ℕ
 declared_text d = ok_text d.files (declared_structs d.structs) (length d.services)
-
--- nothing was read or reported, and this line was written; where the output failed a front of it was, and the code is 5
-pub record Tells (line : List ℕ) (a b : Streams) (code : ℕ) : Type 0 where
-  pub left : b.left ≡ a.left
-  pub reported : b.reported ≡ a.reported
-  pub front : AppendsFront a.written b.written line
-  pub ends : ((code ≡ 0) × Appends a.written b.written line) ⊎ ((code ≡ 5) × Rose a.output_faults b.output_faults)
 
 -- the IDL of this root file is good, and how much it declares was written; or it is refused, or can't be read
 pub data Checks (told : Option Holds) (file : List ℕ) (before now : ℕ) (a b : Streams) (code : ℕ) : Type 0 where

@@ -1,8 +1,8 @@
 -- What is read, written and reported at each command.
 pub mod Checking
-pub mod Commands
-pub mod Conversion
+pub mod Drilling
 pub mod Fronts
+pub mod Handling
 pub mod Lines
 pub mod Outcome
 pub mod Progress
@@ -10,3 +10,4 @@ pub mod Serving
 pub mod Starting
 pub mod Terms
 pub mod Working
+pub mod Writing

@@ -16,3 +16,14 @@ left_text frames count = codes "stream: " ++ decimal count ++ codes " bytes afte
 
 unfoldable pub usage_text : List ℕ
 usage_text = codes "usage: thrift_gate check|convert|show|serve|drill|help\n"
+
+-- each command with its words and options, a line each
+unfoldable pub help_text : List ℕ
+help_text =
+    codes "usage: thrift_gate check|convert|show|serve|drill|help\n"
+    ++ codes "check FILE\n"
+    ++ codes "convert FROM TO [--idl FILE] [--service NAME] [--limit F]\n"
+    ++ codes "show FROM [--idl FILE] [--service NAME] [--limit F]\n"
+    ++ codes "serve CLIENT UPSTREAM LISTEN TARGET [--idl FILE] [--service NAME] [--limit F] [--sessions N] [--accept C] [--events E] [--calls P]\n"
+    ++ codes "drill SEED COUNT\n"
+    ++ codes "help\n"

@@ -6,7 +6,7 @@ use Rattle.framed_transport.specs.Frames.{framed}
 use Rattle.framed_transport.specs.Front.{front, Part, Large}
 use Rattle.gate_run.specs.Fronts.{AppendsFront}
 use Rattle.gate_run.specs.Lines.{too_large_text, left_text}
-use Rattle.gate_run.specs.Conversion.{output_of, lines, any_refused}
+use Rattle.gate_run.specs.Handling.{output_of, lines, any_refused}
 use Rattle.gate_run.specs.Terms.{Terms}
 
 -- a moment: what the source has left and the sinks hold, the bytes held, and how many frames and bytes there were

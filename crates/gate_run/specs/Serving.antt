@@ -1,17 +1,21 @@
 -- What a server does, from its start to its last line.
-use Rattle.std.specs.Prelude.{◌≡◌, ◌⊎◌, ℕ, List, Option, codes}
+use Rattle.std.specs.Prelude.{◌≡◌, ◌⊎◌, ℕ, List, true, false, Option, Some, codes}
 use Rattle.std.specs.Io.KnownBytes.{Appends}
 use Rattle.gate_io.specs.Causes.{Rose}
 use Rattle.gate_io.specs.Meaning.{Meaning, Started}
-use Rattle.gate_io.specs.Hubs.{Counts, Leads, NotStarted, StartLeads}
+use Rattle.gate_io.specs.Hubs.{Counts, Later, Leads, NotStarted, StartLeads}
 use Rattle.gate_io.specs.declared.hub.Began.TheVariants as began
+use Rattle.gate_io.specs.declared.hub.HubNext.TheVariants as event
 use Rattle.gate_io.specs.declared.hub.Served.{Served}
 use Rattle.gate_io.specs.declared.hub.Served.TheVariants as served
 use Rattle.type_tables.specs.declared.declared.ServiceId.{ServiceId}
 use Rattle.type_tables.specs.Declarations.{Declarations}
 use Rattle.session_judge.specs.Setting.{Setting}
 use Rattle.session_judge.specs.Rules.{rules_of}
-use Rattle.proxy_server.specs.Serving.{Setting as Sessions}
+use Rattle.session_core.specs.Session.{Seen}
+use Rattle.session_core.specs.declared.outcome.Outcome.{Outcome}
+use Rattle.proxy_server.specs.Serving.{IsHeld, HasClosed, is_over, Setting as Sessions}
+use Rattle.proxy_server.specs.Turning.{IsSettled}
 use Rattle.proxy_server.specs.Steps.{Serves}
 use Rattle.gate_words.specs.declared.serving.Serving.{Serving}
 use Rattle.gate_run.specs.Fronts.{AppendsFront}
@@ -26,9 +30,9 @@ started_by s = record { listen = s.listen; upstream = s.target; accept = s.accep
 abbrev pub setting_by : Serving → Declarations → Option ServiceId → Setting
 setting_by s d service = record { declarations = d; service = service; client = s.client; upstream = s.upstream; longest = s.limit }
 
--- the rules, the most bytes of a frame and the most open calls of each session
+-- the rules of each session, its most bytes of a frame and open calls, how many may be open, and how much may be spent
 abbrev pub settings : Serving → Declarations → Option ServiceId → Sessions
-settings s d service = record { rules = rules_of (setting_by s d service); limit = s.limit; most = s.calls }
+settings s d service = record { rules = rules_of (setting_by s d service); limit = s.limit; most = s.calls; sessions = s.sessions; events = s.events }
 
 -- this last line was reported, or a front of it where the report failed
 pub record Reports (line : List ℕ) (a b : Streams) : Type 0 where
@@ -46,10 +50,20 @@ EndsBy served.OutOfMemory before now a b code = (code ≡ 9) × Reports (codes "
 -- the hub was started with what the words say, and from there it and the output are as a server of this setting leaves
 -- them; or it could not be started, and nothing was written
 pub data ServesAll {H : Type 0} (tells : H → Meaning → Type 0) (counts : H → Counts) (s : Serving) (d : Declarations) (service : Option ServiceId) (h h' : H) (a b : Streams) (code : ℕ) : Type 0 where
-  Began : (mid : H) (result : Served) → b.left ≡ a.left → Leads (tells h) (tells mid) NotStarted (StartLeads (started_by s) began.Done)
+  Began : (mid : H) (result : Served) → b.left ≡ a.left → Later (counts h) (counts mid) → Leads (tells h) (tells mid) NotStarted (StartLeads (started_by s) began.Done)
       → Serves Setting rules_of (tells mid) (tells h') a.written b.written a.output_faults b.output_faults (settings s d service) result
       → EndsBy result (counts mid).faults (counts h').faults a b code → ServesAll tells counts s d service h h' a b code
   NotBegun : Leads (tells h) (tells h') NotStarted (StartLeads (started_by s) began.Failed) → Rose (counts h).faults (counts h').faults → SaysLast (codes "hub fault\n") 7 a b code
       → ServesAll tells counts s d service h h' a b code
   NoMemory : Leads (tells h) (tells h') NotStarted (StartLeads (started_by s) began.OutOfMemory) → SaysLast (codes "no memory\n") 9 a b code
       → ServesAll tells counts s d service h h' a b code
+
+-- the hub has stopped, and each session that it announced was closed and has an outcome, or is settled
+abbrev pub HasServed : (Meaning → Type 0) → Serving → Declarations → Option ServiceId → Type 0
+HasServed told s d service =
+    (m : Meaning) × told m × (m.last_event ≡ Some event.Stopped)
+    × ((k : ℕ) → (m.session k).announced ≡ true → ((o : Outcome) × HasClosed (settings s d service) o (m.session k)) ⊎ ((session : Seen Setting) × IsHeld Setting rules_of (settings s d service) session (m.session k) × IsSettled Setting rules_of session (m.session k)))
+
+-- the hub has neither stopped nor failed
+abbrev pub GoesOn : (Meaning → Type 0) → Type 0
+GoesOn told = (m : Meaning) × told m × (is_over m.last_event ≡ false)

@@ -1,4 +1,4 @@
--- By what a stream is converted.
+-- By what a stream is gone through.
 use Rattle.std.specs.Prelude.{ℕ, List, Option}
 use Rattle.protocol_traits.specs.declared.proto.Proto.{Proto}
 use Rattle.type_tables.specs.declared.declared.ServiceId.{ServiceId}
@@ -6,19 +6,32 @@ use Rattle.type_tables.specs.Declarations.{Declarations}
 use Rattle.translate_core.specs.declared.route.Route.TheVariants.{ByName}
 use Rattle.translate_core.specs.Judged.{Judged}
 use Rattle.protocol_pairs.specs.Pairs.{judged}
+use Rattle.message_show.specs.Shown.{Showing, shown}
 use Rattle.gate_words.specs.declared.command.Conversion.{Conversion}
+use Rattle.gate_words.specs.declared.command.Showing.{Showing as ShowWords}
+use Rattle.gate_run.specs.declared.doing.Doing.{Doing}
+use Rattle.gate_run.specs.declared.doing.Doing.TheVariants.{Convert, Show}
 
--- what is declared, the service of names that have none before them, the protocols and the most bytes of a frame
+-- what is declared, the service of names that have none before them, what is done with a frame, and the most bytes of one
 pub record Terms : Type 0 where
   pub declarations : Declarations
   pub service : Option ServiceId
-  pub from : Proto
-  pub to : Proto
+  pub doing : Doing
   pub limit : ℕ
 
-abbrev pub terms : Declarations → Option ServiceId → Conversion → Terms
-terms d service c = record { declarations = d; service = service; from = c.from; to = c.to; limit = c.limit }
+abbrev pub terms : Declarations → Option ServiceId → Doing → ℕ → Terms
+terms d service doing limit = record { declarations = d; service = service; doing = doing; limit = limit }
 
--- the verdict on a frame, with what is written of it
-abbrev pub judged_by : Terms → List ℕ → Judged
-judged_by k frame = judged k.declarations (ByName k.service) k.from k.to frame
+abbrev pub converting : Declarations → Option ServiceId → Conversion → Terms
+converting d service c = terms d service (Convert c.from c.to) c.limit
+
+abbrev pub showing : Declarations → Option ServiceId → ShowWords → Terms
+showing d service s = terms d service (Show s.from) s.limit
+
+-- the verdict on a frame that is translated, with what is written of it
+abbrev pub judged_by : Terms → Proto → Proto → List ℕ → Judged
+judged_by k from to frame = judged k.declarations (ByName k.service) from to frame
+
+-- the line of a frame that is shown, or the fault in it
+abbrev pub shown_by : Terms → Proto → List ℕ → Showing
+shown_by k from frame = shown k.declarations k.service from frame

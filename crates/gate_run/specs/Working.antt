@@ -1,9 +1,16 @@
--- The work and what its calls do.
-use Rattle.std.specs.Prelude.{◌≡◌, ℕ, ◌+◌, ◌*◌, ◌-◌, ◌^◌, ◌<◌, ◌≤◌, ◌⊎◌, ℤ, List, [], length, true, false, Option}
+-- The work on a stream and what its calls do.
+use Rattle.std.specs.Prelude.{◌≡◌, ℕ, ◌+◌, ◌*◌, ◌-◌, ◌^◌, ◌<◌, ◌≤◌, ◌⊎◌, ℤ, List, [], ◌++◌, length, true, false, Option, ⊤}
 use Rattle.std.specs.Io.KnownBytes.{Appends, IsAtEnd, append_known}
 use Rattle.framed_transport.specs.Front.{front, Part, Large}
 use Rattle.gate_run.specs.Progress.{Moment, Goes, Breaks, IsStreamLine}
+use Rattle.gate_io.specs.Buffer.{Buffer}
 use Rattle.gate_run.specs.Terms.{Terms}
+use Rattle.gate_run.specs.Fronts.{AppendsFront, Flushed}
+use Rattle.gate_run.specs.Handling.{Treated, Passes, Fails}
+use Rattle.gate_run.specs.declared.doing.Doing.{Doing}
+use Rattle.gate_run.specs.declared.doing.Doing.TheVariants.{Convert, Show}
+use Rattle.gate_run.specs.declared.handling.Treatment.{Treatment}
+use Rattle.gate_run.specs.declared.handling.Treatment.TheVariants as treatment
 use Rattle.gate_run.specs.declared.work.Work.{Work}
 use Rattle.gate_run.specs.declared.work.Drained.{Drained}
 use Rattle.gate_run.specs.declared.work.Drained.TheVariants as drained
@@ -12,17 +19,41 @@ use Rattle.gate_run.specs.declared.work.Taken.TheVariants as taken
 use Rattle.gate_run.specs.declared.work.End.{End}
 use Rattle.gate_run.specs.declared.work.End.TheVariants as ends
 
+-- ---- one frame
+
+-- what is written of the frame waits behind what waited, of which a front may have been written; or nothing has changed; or a
+-- front of all this was written before the output failed
+abbrev pub Treats : Treatment → Treated → Option (List ℕ) → List ℕ → Option (List ℕ) → List ℕ → Type 0
+Treats treatment.Passed (Passes bytes) written waiting written' waiting' = Flushed written (waiting ++ bytes) written' waiting'
+Treats (treatment.Refused cause) (Fails own) written waiting written' waiting' = (cause ≡ own) × (written' ≡ written) × (waiting' ≡ waiting)
+Treats treatment.WriteFault (Passes bytes) written waiting written' waiting' = AppendsFront written written' (waiting ++ bytes)
+Treats treatment.Passed (Fails own) written waiting written' waiting' = ⊥
+Treats (treatment.Refused cause) (Passes bytes) written waiting written' waiting' = ⊥
+Treats treatment.WriteFault (Fails own) written waiting written' waiting' = ⊥
+
+-- a page has room for all that may be sent of a frame of so many bytes; a line goes past the page where it doesn't fit
+abbrev pub HasRoom : Doing → ℕ → Buffer → Type 0
+HasRoom (Convert from to) n page = (length page.bytes + (24 * n + 260) ≤ page.room) × (page.room < 2 ^ 31)
+HasRoom (Show from) n page = ⊤
+
+-- so an empty page has for frames of this limit
+abbrev pub IsRoomy : Doing → ℕ → ℕ → Type 0
+IsRoomy (Convert from to) limit room = room ≡ 24 * limit + 260
+IsRoomy (Show from) limit room = ⊤
+
+-- ---- the work
+
 -- its rooms serve for frames of the limit, and its counts are at most the bytes taken
 pub record IsReady (k : Terms) (work : Work) : Type 0 where
   pub limit_is : work.frames.limit ≡ k.limit
-  pub out : work.out.room ≡ 24 * k.limit + 260
+  pub page : IsRoomy k.doing k.limit work.page.out.room
   pub lines : work.lines.room ≡ 4096
   pub counted : work.number + length work.frames.held ≤ work.taken
   pub taken : work.taken < 2 ^ 63
 
 -- nothing waits to be written
 pub record IsFlushed (work : Work) : Type 0 where
-  pub out : work.out.bytes ≡ []
+  pub page : work.page.out.bytes ≡ []
   pub lines : work.lines.bytes ≡ []
 
 pub record IsStart (work : Work) : Type 0 where

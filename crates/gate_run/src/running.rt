@@ -3,34 +3,42 @@ ghost use Rattle.std.specs.Prelude.{◌≡◌, ◌≤◌, ◌⊎◌, ℕ, List, 
 ghost use Rattle.gate_words.specs.Commands.{command};
 ghost use Rattle.gate_words.specs.declared.command.Command.TheVariants as commands;
 ghost use Rattle.gate_words.specs.declared.command.Conversion.{Conversion};
+ghost use Rattle.gate_words.specs.declared.command.Drilling.{Drilling};
+ghost use Rattle.gate_words.specs.declared.command.Showing.{Showing};
 ghost use Rattle.gate_words.specs.declared.options.Declared.{Declared};
 ghost use Rattle.gate_words.specs.declared.serving.Serving.{Serving};
 ghost use Rattle.gate_io.specs.Hubs.{Later};
 ghost use Rattle.gate_run.specs.Serving.{ServesAll};
 ghost use Rattle.gate_run.specs.Checking.{Checks};
-ghost use Rattle.gate_run.specs.Commands.{named};
-ghost use Rattle.gate_run.specs.Lines.{usage_text};
-ghost use Rattle.gate_run.specs.Outcome.{Converted, streams};
+ghost use Rattle.gate_run.specs.Drilling.{Drills};
+ghost use Rattle.gate_run.specs.Lines.{usage_text, help_text};
+ghost use Rattle.gate_run.specs.Outcome.{Streamed, streams};
 ghost use Rattle.gate_run.specs.Starting.{Starting, Says, SaysLast};
-ghost use Rattle.gate_run.specs.Terms.{terms};
+ghost use Rattle.gate_run.specs.Terms.{terms, converting, showing};
+ghost use Rattle.gate_run.specs.Writing.{Tells};
 
 use crate::checking::check;
-use crate::conversion::convert;
+use crate::doing::Doing;
+use crate::drilling::drill_all;
+use crate::helping::help;
 use crate::serving::serve_all;
 use crate::starting::{NoStart, halt, prepare};
 use crate::status::{Status, usage};
+use crate::streaming::stream;
 use crate::task::Task;
 use gate_io::{Files, Hub, OutOfMemory, Sink, Source, Word};
-use gate_words::{Command, Conversion, Declared, Serving, read_command};
+use gate_words::{Command, Declared, Serving, read_command};
 use std::alloc::Global;
 
-/// Does what the words say. So far `check`, `convert` and `serve` are commands, and all else is usage.
+/// Does what the words say. Words that are no command are answered with the usage.
 ///
 /// `check FILE` reads an IDL and what it includes, and writes how much is declared or reports the first thing that is wrong.
 /// `convert FROM TO [--idl FILE] [--service NAME] [--limit F]` reads frames of at most F bytes from the input, writes each
 /// message that passes, framed and in the plain spelling of the protocol TO, to the output, and reports each other frame.
-/// `serve CLIENT UPSTREAM LISTEN TARGET` starts the hub, lets clients of one protocol talk to an upstream of another, and writes
-/// one line for each session as soon as it ends.
+/// `show FROM` does the same with a line of text for each message in place of its frame. `serve CLIENT UPSTREAM LISTEN TARGET`
+/// starts the hub, lets clients of one protocol talk to an upstream of another, and writes one line for each session as soon as
+/// it ends. `drill SEED COUNT` writes messages that are drawn from a number, and reports how long they are. `help` writes what
+/// the commands are.
 pub fn run<I: Source, O: Sink, E: Sink, F: Files, H: Hub>(
     alloc: Global,
     words: &[Word],
@@ -49,7 +57,15 @@ pub fn run<I: Source, O: Sink, E: Sink, F: Files, H: Hub>(
     ensures converts { (k : Conversion) (d : Declared) → command words.now ≡ Some (commands.Convert k d) → Starting (F.holds files.old) d (F.faults files.old) (F.faults files.new)
         (streams (I.left input.old) (O.written output.old) (E.written report.old) (I.faults input.old) (O.faults output.old) (E.faults report.old))
         (streams (I.left input.new) (O.written output.new) (E.written report.new) (I.faults input.new) (O.faults output.new) (E.faults report.new)) result.code
-        (λ declarations service. Converted (terms declarations service k)
+        (λ declarations service. Streamed (converting declarations service k)
+        (streams (I.left input.old) (O.written output.old) (E.written report.old) (I.faults input.old) (O.faults output.old) (E.faults report.old))
+        (streams (I.left input.new) (O.written output.new) (E.written report.new) (I.faults input.new) (O.faults output.new) (E.faults report.new)) result.code) }
+
+    // The words are a showing, and it was made, or it did not start.
+    ensures shows { (k : Showing) (d : Declared) → command words.now ≡ Some (commands.Show k d) → Starting (F.holds files.old) d (F.faults files.old) (F.faults files.new)
+        (streams (I.left input.old) (O.written output.old) (E.written report.old) (I.faults input.old) (O.faults output.old) (E.faults report.old))
+        (streams (I.left input.new) (O.written output.new) (E.written report.new) (I.faults input.new) (O.faults output.new) (E.faults report.new)) result.code
+        (λ declarations service. Streamed (showing declarations service k)
         (streams (I.left input.old) (O.written output.old) (E.written report.old) (I.faults input.old) (O.faults output.old) (E.faults report.old))
         (streams (I.left input.new) (O.written output.new) (E.written report.new) (I.faults input.new) (O.faults output.new) (E.faults report.new)) result.code) }
 
@@ -61,9 +77,20 @@ pub fn run<I: Source, O: Sink, E: Sink, F: Files, H: Hub>(
         (streams (I.left input.old) (O.written output.old) (E.written report.old) (I.faults input.old) (O.faults output.old) (E.faults report.old))
         (streams (I.left input.new) (O.written output.new) (E.written report.new) (I.faults input.new) (O.faults output.new) (E.faults report.new)) result.code) }
 
-    // The words are no command that is built: nothing was read or written, and the usage was reported, or there was no memory to
-    // read the words.
-    ensures usage { named words.now ≡ None →
+    // The words ask for messages, and they were made.
+    ensures drills { (k : Drilling) → command words.now ≡ Some (commands.Drill k) → Drills k
+        (streams (I.left input.old) (O.written output.old) (E.written report.old) (I.faults input.old) (O.faults output.old) (E.faults report.old))
+        (streams (I.left input.new) (O.written output.new) (E.written report.new) (I.faults input.new) (O.faults output.new) (E.faults report.new)) result.code }
+
+    // The words ask for help, and it was written, or there was no memory to read the words.
+    ensures helps { command words.now ≡ Some commands.Help →
+        Tells help_text (streams (I.left input.old) (O.written output.old) (E.written report.old) (I.faults input.old) (O.faults output.old) (E.faults report.old))
+        (streams (I.left input.new) (O.written output.new) (E.written report.new) (I.faults input.new) (O.faults output.new) (E.faults report.new)) result.code
+        ⊎ SaysLast (codes "no memory\n") 9 (streams (I.left input.old) (O.written output.old) (E.written report.old) (I.faults input.old) (O.faults output.old) (E.faults report.old))
+        (streams (I.left input.new) (O.written output.new) (E.written report.new) (I.faults input.new) (O.faults output.new) (E.faults report.new)) result.code }
+
+    // The words are no command: nothing was read or written, and the usage was reported, or there was no memory to read the words.
+    ensures usage { command words.now ≡ None →
         Says usage_text 2 (streams (I.left input.old) (O.written output.old) (E.written report.old) (I.faults input.old) (O.faults output.old) (E.faults report.old))
         (streams (I.left input.new) (O.written output.new) (E.written report.new) (I.faults input.new) (O.faults output.new) (E.faults report.new)) result.code
         ⊎ SaysLast (codes "no memory\n") 9 (streams (I.left input.old) (O.written output.old) (E.written report.old) (I.faults input.old) (O.faults output.old) (E.faults report.old))
@@ -79,32 +106,47 @@ pub fn run<I: Source, O: Sink, E: Sink, F: Files, H: Hub>(
 {
     match read_command(alloc, words) {
         Ok(Some(Command::Check(file))) => check(alloc, file.as_slice(), files, output, report),
-        Ok(Some(Command::Convert(conversion, declared))) => {
-            start_conversion(alloc, conversion, &declared, files, input, output, report)
+        Ok(Some(Command::Convert(k, declared))) => {
+            let doing = Doing::Convert {
+                from: k.from,
+                to: k.to,
+            };
+            start_stream(
+                alloc, doing, k.limit, &declared, files, input, output, report,
+            )
+        }
+        Ok(Some(Command::Show(k, declared))) => {
+            let doing = Doing::Show { from: k.from };
+            start_stream(
+                alloc, doing, k.limit, &declared, files, input, output, report,
+            )
         }
         Ok(Some(Command::Serve(serving, declared))) => {
             start_server(alloc, &serving, &declared, files, output, report, hub)
         }
-        Ok(_) => usage(report),
+        Ok(Some(Command::Drill(drilling))) => drill_all(alloc, drilling, output, report),
+        Ok(Some(Command::Help)) => help(output),
+        Ok(None) => usage(report),
         Err(OutOfMemory) => halt(alloc, &NoStart::OutOfMemory, report),
     }
 }
 
-// Converts by what the words declare.
-fn start_conversion<I: Source, O: Sink, E: Sink, F: Files>(
+// Goes through the input by what the words declare.
+fn start_stream<I: Source, O: Sink, E: Sink, F: Files>(
     alloc: Global,
-    conversion: Conversion,
+    doing: Doing,
+    limit: usize,
     declared: &Declared,
     files: &mut F,
     input: &mut I,
     output: &mut O,
     report: &mut E,
 ) -> Status
-    requires { conversion.limit ≤ 16384000 }
-    ensures converts { Starting (F.holds files.old) declared.now (F.faults files.old) (F.faults files.new)
+    requires { limit ≤ 16384000 }
+    ensures streamed { Starting (F.holds files.old) declared.now (F.faults files.old) (F.faults files.new)
         (streams (I.left input.old) (O.written output.old) (E.written report.old) (I.faults input.old) (O.faults output.old) (E.faults report.old))
         (streams (I.left input.new) (O.written output.new) (E.written report.new) (I.faults input.new) (O.faults output.new) (E.faults report.new)) result.code
-        (λ declarations service. Converted (terms declarations service conversion)
+        (λ declarations service. Streamed (terms declarations service doing limit)
         (streams (I.left input.old) (O.written output.old) (E.written report.old) (I.faults input.old) (O.faults output.old) (E.faults report.old))
         (streams (I.left input.new) (O.written output.new) (E.written report.new) (I.faults input.new) (O.faults output.new) (E.faults report.new)) result.code) }
     ensures holds { F.holds files.new ≡ F.holds files.old }
@@ -115,8 +157,8 @@ fn start_conversion<I: Source, O: Sink, E: Sink, F: Files>(
 {
     match prepare(alloc, files, declared) {
         Ok(start) => {
-            let task = Task::new(&start.schema, start.service, conversion);
-            convert(alloc, &task, input, output, report)
+            let task = Task::new(&start.schema, start.service, doing, limit);
+            stream(alloc, &task, input, output, report)
         }
         Err(stop) => halt(alloc, &stop, report),
     }

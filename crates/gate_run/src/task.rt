@@ -1,21 +1,26 @@
-//! What a stream is converted by.
+//! By what a stream is gone through.
 ghost use Rattle.std.specs.Prelude.{◌≡◌, ◌+◌, ◌*◌, ◌^◌, ◌<◌, ◌≤◌, IfSome, length};
+ghost use Rattle.gate_io.specs.Causes.{Rose};
 ghost use Rattle.translate_core.specs.Judged.{IsJudged};
-ghost use Rattle.gate_run.specs.Terms.{terms, judged_by};
+ghost use Rattle.message_show.specs.Shown.{IsShown};
+ghost use Rattle.gate_run.specs.Terms.{terms, judged_by, shown_by};
 
-use gate_io::Out;
-use gate_words::Conversion;
+use crate::doing::Doing;
+use gate_io::{Out, Sink};
+use message_show::{Shown, show};
 use protocol_pairs::translate;
+use protocol_traits::Proto;
 use std::marker::Model;
 use translate_core::{Route, Verdict};
 use type_tables::{Schema, ServiceId};
 
-/// A conversion, with what is declared for its messages.
+/// What is done with each frame of a stream, with what is declared for its messages.
 #[derive(Drop)]
 pub struct Task<'s> {
     schema: &'s Schema,
     service: Option<ServiceId>,
-    conversion: Conversion,
+    doing: Doing,
+    limit: usize,
 }
 
 impl<'s> Model for Task<'s> {
@@ -24,21 +29,28 @@ impl<'s> Model for Task<'s> {
 
     ghost Value = { Terms };
 
-    ghost view = { λ t. terms t.schema.now t.service t.conversion };
+    ghost view = { λ t. terms t.schema.now t.service t.doing t.limit };
 
     ghost invariant = { λ t. IfSome t.service (λ s. s.0 < length t.schema.now.services) };
 }
 
 impl<'s> Task<'s> {
-    /// A conversion in which names without a service before them are those of this service of the schema.
-    pub fn new(schema: &'s Schema, service: Option<ServiceId>, conversion: Conversion) -> Task<'s>
+    /// A task for frames of at most `limit` bytes, in which names without a service before them are those of this service
+    /// of the schema.
+    pub fn new(
+        schema: &'s Schema,
+        service: Option<ServiceId>,
+        doing: Doing,
+        limit: usize,
+    ) -> Task<'s>
         requires { IfSome service (λ s. s.0 < length schema.now.services) }
-        ensures { result ≡ terms schema.now service conversion }
+        ensures { result ≡ terms schema.now service doing limit }
     {
         Task {
             schema,
             service,
-            conversion,
+            doing,
+            limit,
         }
     }
 
@@ -46,19 +58,43 @@ impl<'s> Task<'s> {
     pub fn limit(&self) -> usize
         ensures { result ≡ self.now.limit }
     {
-        self.conversion.limit
+        self.limit
+    }
+
+    /// What is done with a frame.
+    pub fn doing(&self) -> Doing
+        ensures { result ≡ self.now.doing }
+    {
+        self.doing
     }
 
     /// Translates a frame to the end of `out`, or leaves `out` as it was.
-    pub fn translate(&self, frame: &[u8], room: &mut [u8], out: &mut Out) -> Verdict
+    pub fn translate(
+        &self,
+        from: Proto,
+        to: Proto,
+        frame: &[u8],
+        room: &mut [u8],
+        out: &mut Out,
+    ) -> Verdict
         requires room { length frame.now ≤ length room.old }
         requires size { length frame.now < 2 ^ 31 }
         requires fits { length out.old.bytes + (24 * length frame.now + 256) ≤ out.old.room }
-        ensures exact { IsJudged result out.old.bytes out.new.bytes (judged_by self.now frame.now) }
+        ensures exact { IsJudged result out.old.bytes out.new.bytes (judged_by self.now from to frame.now) }
         ensures room { out.new.room ≡ out.old.room }
     {
-        let Conversion { from, to, limit: _ } = self.conversion;
         let route = Route::ByName(self.service);
         translate(self.schema, route, from, to, frame, room, out)
+    }
+
+    /// Writes the line of a frame, or nothing where it is no message.
+    pub fn show<O: Sink>(&self, from: Proto, frame: &[u8], room: &mut [u8], output: &mut O) -> Shown
+        requires room { length frame.now ≤ length room.old }
+        requires size { length frame.now < 2 ^ 31 }
+        ensures exact { IsShown result (O.written output.old) (O.written output.new) (shown_by self.now from frame.now) }
+        ensures later { O.faults output.old ≤ O.faults output.new }
+        ensures cause { result ≡ Shown.WriteFault → Rose (O.faults output.old) (O.faults output.new) }
+    {
+        show(self.schema, self.service, from, frame, room, output)
     }
 }

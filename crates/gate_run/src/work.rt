@@ -7,8 +7,9 @@ ghost use Rattle.gate_run.specs.Fronts.{AppendsFront, Flushed};
 ghost use Rattle.gate_run.specs.Progress.{Goes};
 ghost use Rattle.gate_run.specs.Working.{IsReady, IsFlushed, IsStart, IsWaiting, moment, Handles, Drains, Takes, Ends};
 
-use crate::handling::handle;
+use crate::handling::{WriteFault, handle};
 use crate::lines::{self, LINE_ROOM};
+use crate::page::Page;
 use crate::task::Task;
 use crate::writing::{Wrote, flush, write_all};
 use framed_transport::{FrameBuf, Next};
@@ -27,7 +28,7 @@ pub struct Work {
     /// The bytes that were read and not handled.
     frames: FrameBuf,
     /// What waits for the output.
-    out: Out,
+    page: Page,
     /// The lines that wait for the report.
     lines: Out,
     /// How many bytes were read.
@@ -77,7 +78,7 @@ impl Work {
     {
         Ok(Work {
             frames: FrameBuf::open(alloc, task.limit())?,
-            out: Out::open(alloc, 24 * task.limit() + 260)?,
+            page: Page::open(alloc, 24 * task.limit() + 260)?,
             lines: Out::open(alloc, LINES_ROOM)?,
             taken: 0,
             number: 0,
@@ -86,7 +87,7 @@ impl Work {
     }
 
     /// Reads to the end or to a fault, and handles each frame. `room` is the readers'.
-    pub fn convert<I: Source, O: Sink, E: Sink>(
+    pub fn process<I: Source, O: Sink, E: Sink>(
         &mut self,
         task: &Task<'_>,
         room: &mut [u8],
@@ -128,7 +129,7 @@ impl Work {
         requires waiting { IsWaiting task.now self.old.frames.held }
         requires budget { self.old.taken < MOST_BYTES }
         ensures ready { IsReady task.now self.new }
-        ensures out { self.new.out ≡ self.old.out }
+        ensures page { self.new.page ≡ self.old.page }
         ensures lines { self.new.lines ≡ self.old.lines }
         ensures taken { (written reported : Option (List ℕ)) → Takes task.now
             (moment self.old (I.left input.old) written reported)
@@ -172,7 +173,7 @@ impl Work {
         if let Drained::WriteFault = drained {
             return Drained::WriteFault;
         }
-        match flush_both(&mut self.out, &mut self.lines, output, report) {
+        match flush_both(&mut self.page, &mut self.lines, output, report) {
             Wrote::All => drained,
             Wrote::Failed => Drained::WriteFault,
         }
@@ -193,7 +194,7 @@ impl Work {
         ensures ready { IsReady task.now self.new }
         ensures handled { (left : Option (List ℕ)) → Handles task.now
             (moment self.old left (O.written output.old) (E.written report.old))
-            (moment self.new left (O.written output.new) (E.written report.new)) self.new.out.bytes self.new.lines.bytes result }
+            (moment self.new left (O.written output.new) (E.written report.new)) self.new.page.out.bytes self.new.lines.bytes result }
         ensures later { O.faults output.old ≤ O.faults output.new }
         ensures report_later { E.faults report.old ≤ E.faults report.new }
         ensures cause { result ≡ Drained.WriteFault → Rose (O.faults output.old) (O.faults output.new) ⊎ Rose (E.faults report.old) (E.faults report.new) }
@@ -205,12 +206,23 @@ impl Work {
                 Next::Frame(frame) => frame,
             };
             let wanted = 24 * frame.len() + 260;
-            match make_room(&mut self.out, &mut self.lines, wanted, output, report) {
+            match make_room(&mut self.page, &mut self.lines, wanted, output, report) {
                 Wrote::All => (),
                 Wrote::Failed => return Drained::WriteFault,
             }
             let number = self.number + 1;
-            let passed = handle(task, frame, number, room, &mut self.out, &mut self.lines);
+            let passed = match handle(
+                task,
+                frame,
+                number,
+                room,
+                &mut self.page,
+                &mut self.lines,
+                output,
+            ) {
+                Ok(passed) => passed,
+                Err(WriteFault) => return Drained::WriteFault,
+            };
             self.number = number;
             self.refused |= !passed;
             self.frames.drop_frame();
@@ -264,50 +276,50 @@ impl Work {
 
 // Writes what was gathered, where there isn't so much room for the output or room for a line.
 fn make_room<O: Sink, E: Sink>(
-    out: &mut Out,
+    page: &mut Page,
     lines: &mut Out,
     wanted: usize,
     output: &mut O,
     report: &mut E,
 ) -> Wrote
-    requires out { wanted ≤ out.old.room }
     requires lines { LINE_ROOM ≤ lines.old.room }
-    ensures all { result ≡ Wrote.All → (length out.new.bytes + wanted ≤ out.new.room) × (length lines.new.bytes + LINE_ROOM ≤ lines.new.room) }
-    ensures out { result ≡ Wrote.All → Flushed (O.written output.old) out.old.bytes (O.written output.new) out.new.bytes }
+    ensures all { result ≡ Wrote.All → wanted ≤ page.old.out.room → length page.new.out.bytes + wanted ≤ page.new.out.room }
+    ensures all_lines { result ≡ Wrote.All → length lines.new.bytes + LINE_ROOM ≤ lines.new.room }
+    ensures page { result ≡ Wrote.All → Flushed (O.written output.old) page.old.out.bytes (O.written output.new) page.new.out.bytes }
     ensures lines { result ≡ Wrote.All → Flushed (E.written report.old) lines.old.bytes (E.written report.new) lines.new.bytes }
-    ensures room { out.new.room ≡ out.old.room }
+    ensures room { page.new.out.room ≡ page.old.out.room }
     ensures lines_room { lines.new.room ≡ lines.old.room }
-    ensures front { AppendsFront (O.written output.old) (O.written output.new) out.old.bytes }
+    ensures front { AppendsFront (O.written output.old) (O.written output.new) page.old.out.bytes }
     ensures lines_front { AppendsFront (E.written report.old) (E.written report.new) lines.old.bytes }
     ensures later { O.faults output.old ≤ O.faults output.new }
     ensures report_later { E.faults report.old ≤ E.faults report.new }
     ensures cause { result ≡ Wrote.Failed → Rose (O.faults output.old) (O.faults output.new) ⊎ Rose (E.faults report.old) (E.faults report.new) }
 {
-    if wanted <= out.spare() && LINE_ROOM <= lines.spare() {
+    if wanted <= page.spare() && LINE_ROOM <= lines.spare() {
         return Wrote::All;
     }
-    flush_both(out, lines, output, report)
+    flush_both(page, lines, output, report)
 }
 
 // Writes what was gathered for the output, and then what was gathered for the report.
 fn flush_both<O: Sink, E: Sink>(
-    out: &mut Out,
+    page: &mut Page,
     lines: &mut Out,
     output: &mut O,
     report: &mut E,
 ) -> Wrote
-    ensures all { result ≡ Wrote.All → (out.new.bytes ≡ []) × (lines.new.bytes ≡ []) }
-    ensures out { result ≡ Wrote.All → Appends (O.written output.old) (O.written output.new) out.old.bytes }
+    ensures all { result ≡ Wrote.All → (page.new.out.bytes ≡ []) × (lines.new.bytes ≡ []) }
+    ensures page { result ≡ Wrote.All → Appends (O.written output.old) (O.written output.new) page.old.out.bytes }
     ensures lines { result ≡ Wrote.All → Appends (E.written report.old) (E.written report.new) lines.old.bytes }
-    ensures room { out.new.room ≡ out.old.room }
+    ensures room { page.new.out.room ≡ page.old.out.room }
     ensures lines_room { lines.new.room ≡ lines.old.room }
-    ensures front { AppendsFront (O.written output.old) (O.written output.new) out.old.bytes }
+    ensures front { AppendsFront (O.written output.old) (O.written output.new) page.old.out.bytes }
     ensures lines_front { AppendsFront (E.written report.old) (E.written report.new) lines.old.bytes }
     ensures later { O.faults output.old ≤ O.faults output.new }
     ensures report_later { E.faults report.old ≤ E.faults report.new }
     ensures cause { result ≡ Wrote.Failed → Rose (O.faults output.old) (O.faults output.new) ⊎ Rose (E.faults report.old) (E.faults report.new) }
 {
-    match flush(out, output) {
+    match page.flush(output) {
         Wrote::All => flush(lines, report),
         Wrote::Failed => Wrote::Failed,
     }

@@ -1,5 +1,6 @@
 use Rattle.std.proofs.Common.{◌≡◌, ℕ, List, refl, subst, rules}
-use Rattle.gate_run.specs.Checking.{Tells, Good, Bad, declared_text}
+use Rattle.gate_run.specs.Checking.{Good, Bad, declared_text}
+use Rattle.gate_run.specs.Writing.{Tells}
 use Rattle.gate_run.specs.Outcome.{streams}
 use Rattle.gate_run.specs.declared.starting.NoStart.TheVariants.{OutOfMemory}
 use Rattle.gate_run.proofs.checking.check.Goals as goal

@@ -1,4 +1,4 @@
-use Rattle.std.proofs.Common.{refl, rules}
+use Rattle.std.proofs.Common.{refl}
 use Rattle.gate_run.proofs.starting.halt.Goals as goal
 
 pub returns-in-Refused-clause-halts : goal.returns-in-Refused-clause-halts

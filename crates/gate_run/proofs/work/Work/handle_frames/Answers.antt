@@ -7,8 +7,9 @@ use Rattle.framed_transport.specs.Held.{Held}
 use Rattle.framed_transport.specs.Frames.{IsCut}
 use Rattle.framed_transport.specs.Front.{front, behind, Part, Whole}
 use Rattle.gate_run.specs.Terms.{Terms}
-use Rattle.gate_run.specs.Working.{IsWaiting, moment}
-use Rattle.gate_run.proofs.Progress.{waits_nowhere, waits_flushed, waits_broken, waits_one, framed_longer}
+use Rattle.gate_run.specs.Working.{IsWaiting, IsRoomy, moment}
+use Rattle.gate_run.proofs.Progress.{waits_nowhere, waits_flushed, waits_broken, waits_one, one_broken, framed_longer}
+use Rattle.gate_run.proofs.Treating.{has_room}
 use Rattle.gate_run.proofs.work.Work.handle_frames.Goals as goal
 
 waiting : (k : Terms) (limit : ℕ) (held : List ℕ) → limit ≡ k.limit → front limit held ≡ Part → (front limit held ≡ Part → length held < limit + 4) → IsWaiting k held
@@ -26,7 +27,7 @@ gone a b frame rest e whole = ap (λ (h : Held). h.held) e ∙ ap (behind a.held
 pub frames-init : goal.frames-init
 frames-init g c = record {
   ready = c.requires.ready;
-  waits = λ left. waits_nowhere c.args.task.now (moment c.args.self.now left (g.O.Sink.written c.args.output.now) (g.E.Sink.written c.args.report.now)) c.args.self.now.out.bytes c.args.self.now.lines.bytes c.requires.flushed.out c.requires.flushed.lines;
+  waits = λ left. waits_nowhere c.args.task.now (moment c.args.self.now left (g.O.Sink.written c.args.output.now) (g.E.Sink.written c.args.report.now)) c.args.self.now.page.out.bytes c.args.self.now.lines.bytes c.requires.flushed.page c.requires.flushed.lines;
   later = omega arith;
   report_later = omega arith;
 }
@@ -55,16 +56,37 @@ overflow_add-wanted g c =
     let cut = cut_at c.args.task.now.limit c.frames.self.frames.limit c.frames.self.frames.held c.in-Frame.frame.now c.in-Frame.ensures.exact.0 i.ready.limit_is c.in-Frame.ensures.exact.1 c.in-Frame.ensures.cut in
     omega (arith, cut.within, c.requires.limit)
 
-pub make_room-requires-clause-out : goal.make_room-requires-clause-out
-make_room-requires-clause-out g c =
-    let i = c.frames.invariant in
-    let cut = cut_at c.args.task.now.limit c.frames.self.frames.limit c.frames.self.frames.held c.in-Frame.frame.now c.in-Frame.ensures.exact.0 i.ready.limit_is c.in-Frame.ensures.exact.1 c.in-Frame.ensures.cut in
-    omega (arith, cut.within, i.ready.out)
-
 pub returns-in-Failed-clause-handled : goal.returns-in-Failed-clause-handled
 returns-in-Failed-clause-handled g c = λ left.
     let i = c.frames.invariant in
-    waits_broken c.args.task.now _ _ _ c.frames.self.out.bytes c.frames.self.lines.bytes (i.waits left) refl c.make_room.ensures.front c.make_room.ensures.lines_front
+    waits_broken c.args.task.now _ _ _ c.frames.self.page.out.bytes c.frames.self.lines.bytes (i.waits left) refl c.make_room.ensures.front c.make_room.ensures.lines_front
+
+pub handle-requires-clause-fits : goal.handle-requires-clause-fits
+handle-requires-clause-fits g c =
+    let i = c.frames.invariant in
+    let cut = cut_at c.args.task.now.limit c.frames.self.frames.limit c.frames.self.frames.held c.in-Frame.frame.now c.in-Frame.ensures.exact.0 i.ready.limit_is c.in-Frame.ensures.exact.1 c.in-Frame.ensures.cut in
+    has_room c.args.task.now.doing c.args.task.now.limit (length c.in-Frame.frame.now) c.frames.self.page.out.room c.make_room.new.page.out cut.within c.requires.limit i.ready.page c.make_room.ensures.room (c.in-All.ensures.all refl)
+
+pub handle-requires-clause-room : goal.handle-requires-clause-room
+handle-requires-clause-room g c =
+    let i = c.frames.invariant in
+    let cut = cut_at c.args.task.now.limit c.frames.self.frames.limit c.frames.self.frames.held c.in-Frame.frame.now c.in-Frame.ensures.exact.0 i.ready.limit_is c.in-Frame.ensures.exact.1 c.in-Frame.ensures.cut in
+    omega (arith, cut.within, c.requires.room)
+
+pub handle-requires-clause-size : goal.handle-requires-clause-size
+handle-requires-clause-size g c =
+    let i = c.frames.invariant in
+    let cut = cut_at c.args.task.now.limit c.frames.self.frames.limit c.frames.self.frames.held c.in-Frame.frame.now c.in-Frame.ensures.exact.0 i.ready.limit_is c.in-Frame.ensures.exact.1 c.in-Frame.ensures.cut in
+    omega (arith, cut.within, c.requires.limit)
+
+pub returns-in-Err-clause-handled : goal.returns-in-Err-clause-handled
+returns-in-Err-clause-handled g c = λ left.
+    let i = c.frames.invariant in
+    let cut = cut_at c.args.task.now.limit c.frames.self.frames.limit c.frames.self.frames.held c.in-Frame.frame.now c.in-Frame.ensures.exact.0 i.ready.limit_is c.in-Frame.ensures.exact.1 c.in-Frame.ensures.cut in
+    let mid = moment c.frames.self left (g.O.Sink.written c.make_room.new.output) (g.E.Sink.written c.make_room.new.report) in
+    one_broken c.args.task.now _ mid _ c.make_room.new.page.out.bytes c.make_room.new.lines.bytes c.in-Frame.frame.now c.in-Frame.ensures.exact.0
+    (waits_flushed c.args.task.now _ (moment c.frames.self left (g.O.Sink.written c.frames.output) (g.E.Sink.written c.frames.report)) mid c.frames.self.page.out.bytes c.frames.self.lines.bytes c.make_room.new.page.out.bytes c.make_room.new.lines.bytes (i.waits left) refl refl refl refl refl (c.in-All.ensures.page refl) (c.in-All.ensures.lines refl))
+    cut refl refl c.handle.ensures.front
 
 pub frames-smaller : goal.frames-smaller
 frames-smaller g c =
@@ -84,17 +106,17 @@ frames-preserved g c =
     record {
       ready = record {
         limit_is = ap (λ (h : Held). h.limit) c.drop_frame.ensures ∙ i.ready.limit_is;
-        out = ap (λ (b : Buffer). b.room) c.handle-passed.ensures.appended ∙ (c.make_room.ensures.room ∙ i.ready.out);
-        lines = ap (λ (b : Buffer). b.room) c.handle-passed.ensures.reported ∙ (c.make_room.ensures.lines_room ∙ i.ready.lines);
+        page = c.handle.ensures.roomy k.limit (subst (λ (n : ℕ). IsRoomy k.doing k.limit n) (sym c.make_room.ensures.room) i.ready.page);
+        lines = c.handle.ensures.lines_room ∙ (c.make_room.ensures.lines_room ∙ i.ready.lines);
         counted = omega (arith, i.ready.counted, ap length e, framed_longer c.args.task.now.limit c.in-Frame.frame.now c.in-Frame.ensures.exact.0 c.frames.self.frames.held cut);
         taken = i.ready.taken;
       };
       waits = λ left.
           let mid = moment c.frames.self left (g.O.Sink.written c.make_room.new.output) (g.E.Sink.written c.make_room.new.report) in
-          waits_one k _ mid _ c.make_room.new.out.bytes c.make_room.new.lines.bytes _ _ frame rest
-          (waits_flushed k _ (moment c.frames.self left (g.O.Sink.written c.frames.output) (g.E.Sink.written c.frames.report)) mid c.frames.self.out.bytes c.frames.self.lines.bytes c.make_room.new.out.bytes c.make_room.new.lines.bytes (i.waits left) refl refl refl refl refl (c.in-All.ensures.out refl) (c.in-All.ensures.lines refl))
-          cut e refl refl refl refl refl (ap (λ t. c.frames.self.refused || not t) c.handle-passed.ensures.passed)
-          (ap (λ (b : Buffer). b.bytes) c.handle-passed.ensures.appended) (ap (λ (b : Buffer). b.bytes) c.handle-passed.ensures.reported);
-      later = omega (arith, i.later, c.make_room.ensures.later);
+          waits_one k _ mid _ c.make_room.new.page.out.bytes c.make_room.new.lines.bytes _ _ frame rest
+          (waits_flushed k _ (moment c.frames.self left (g.O.Sink.written c.frames.output) (g.E.Sink.written c.frames.report)) mid c.frames.self.page.out.bytes c.frames.self.lines.bytes c.make_room.new.page.out.bytes c.make_room.new.lines.bytes (i.waits left) refl refl refl refl refl (c.in-All.ensures.page refl) (c.in-All.ensures.lines refl))
+          cut e refl c.in-Ok.ensures.gathered refl refl refl (ap (λ t. c.frames.self.refused || not t) c.in-Ok.ensures.passed)
+          (ap (λ (b : Buffer). b.bytes) c.in-Ok.ensures.reported);
+      later = omega (arith, i.later, c.make_room.ensures.later, c.handle.ensures.later);
       report_later = omega (arith, i.report_later, c.make_room.ensures.report_later);
     }

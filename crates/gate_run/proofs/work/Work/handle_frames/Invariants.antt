@@ -9,7 +9,7 @@ invariant-frames g l =
     let report = g.E.Sink in
     record {
       ready : IsReady l.task l.self;
-      waits : (left : Option (List ℕ)) → Waits l.task (moment l.fn.self left (output.written l.fn.output) (report.written l.fn.report)) (moment l.self left (output.written l.output) (report.written l.report)) l.self.out.bytes l.self.lines.bytes;
+      waits : (left : Option (List ℕ)) → Waits l.task (moment l.fn.self left (output.written l.fn.output) (report.written l.fn.report)) (moment l.self left (output.written l.output) (report.written l.report)) l.self.page.out.bytes l.self.lines.bytes;
       later : output.faults l.fn.output ≤ output.faults l.output;
       report_later : report.faults l.fn.report ≤ report.faults l.report;
     }

@@ -6,7 +6,7 @@ use Rattle.gate_run.specs.declared.work.Drained.{Drained}
 use Rattle.gate_run.specs.declared.work.Drained.TheVariants.{NeedMore, WriteFault}
 use Rattle.gate_run.specs.Working.{moment}
 use Rattle.gate_run.proofs.Progress.{goes_nowhere, goes_on, goes_and_breaks, ends_on}
-use Rattle.gate_run.proofs.work.Work.convert.Goals as goal
+use Rattle.gate_run.proofs.work.Work.process.Goals as goal
 
 in_need_more : (d : Drained) → d ≡ NeedMore → d ≡ WriteFault → ⊥
 in_need_more d e f = let h : NeedMore ≡ WriteFault = sym e ∙ f in cc

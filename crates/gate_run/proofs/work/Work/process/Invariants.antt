@@ -1,7 +1,7 @@
 use Rattle.std.proofs.Common.{◌-◌, ◌^◌, ◌≤◌}
 use Rattle.gate_run.specs.Progress.{Goes}
 use Rattle.gate_run.specs.Working.{IsReady, IsFlushed, IsWaiting, moment}
-use Rattle.gate_run.proofs.work.Work.convert.Given as goal
+use Rattle.gate_run.proofs.work.Work.process.Given as goal
 
 -- what the frames so far give was written, and no whole frame is held
 abbrev pub invariant-pieces : goal.invariant-pieces
