@@ -2,8 +2,18 @@
 #![tactic(auto)]
 
 #[cfg(test)]
+mod failing;
+#[cfg(test)]
+mod interrupted;
+#[cfg(test)]
+mod loopback;
+#[cfg(test)]
 mod outside;
 #[cfg(test)]
+mod script;
+#[cfg(test)]
 mod serving;
+#[cfg(test)]
+mod sessions;
 #[cfg(test)]
 mod tests;

@@ -3,6 +3,12 @@ use gate_io::{Fails, HubSteps, MemFiles, MemHub, MemSink, MemSource, OutOfMemory
 use gate_run::run;
 use std::alloc::Global;
 
+/// So many bytes are read in a call.
+pub const READ: usize = 7;
+
+/// So many bytes are written in a call.
+pub const WRITTEN: usize = 5;
+
 /// What a command left behind.
 #[derive(Drop)]
 pub struct Ran {
@@ -12,13 +18,15 @@ pub struct Ran {
     pub hub: MemHub,
 }
 
-/// What a command works on: the files, the bytes of its input, which reads and writes fail, and the hub.
+/// What a command works on: the files, the bytes of its input, which reads and which writes of the output and of the
+/// report fail, and the hub.
 #[derive(Drop)]
 pub struct Outside<'i> {
     pub files: MemFiles,
     pub input: &'i [u8],
     pub reads: Fails,
     pub writes: Fails,
+    pub reports: Fails,
     pub hub: MemHub,
 }
 
@@ -27,10 +35,10 @@ pub fn none(alloc: Global) -> Fails {
     Fails::new(alloc)
 }
 
-/// The first call fails.
-pub fn first(alloc: Global) -> Result<Fails, OutOfMemory> {
+/// The call of this number fails.
+pub fn only(alloc: Global, call: u64) -> Result<Fails, OutOfMemory> {
     let mut fails = Fails::new(alloc);
-    fails.push(0)?;
+    fails.push(call)?;
     Ok(fails)
 }
 
@@ -41,11 +49,13 @@ pub fn with_input(alloc: Global, input: &[u8]) -> Result<Outside<'_>, OutOfMemor
         input,
         reads: none(alloc),
         writes: none(alloc),
+        reports: none(alloc),
         hub: MemHub::new(alloc, HubSteps::new(alloc), 1)?,
     })
 }
 
-fn words_of(alloc: Global, line: &[u8]) -> Result<Vec<Word>, OutOfMemory> {
+/// The words of a line, parted by spaces.
+pub fn words_of(alloc: Global, line: &[u8]) -> Result<Vec<Word>, OutOfMemory> {
     let mut words = Vec::new(alloc);
     for word in line.split(|byte| *byte == b' ') {
         words.push(Word::new(alloc, word)?)?;
@@ -61,11 +71,12 @@ pub fn run_line(alloc: Global, line: &[u8], outside: Outside<'_>) -> Result<Ran,
         input,
         reads,
         writes,
+        reports,
         mut hub,
     } = outside;
-    let mut input = MemSource::new(alloc, input, 7, reads)?;
-    let mut output = MemSink::new(alloc, 5, writes)?;
-    let mut report = MemSink::new(alloc, 100, none(alloc))?;
+    let mut input = MemSource::new(alloc, input, READ, reads)?;
+    let mut output = MemSink::new(alloc, WRITTEN, writes)?;
+    let mut report = MemSink::new(alloc, WRITTEN, reports)?;
     let status = run(
         alloc,
         &words,

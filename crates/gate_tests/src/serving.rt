@@ -1,32 +1,151 @@
-//! The command `serve` over a hub in memory.
+//! The command `serve` over a hub in memory: what each side is sent, and how the session ends.
 ghost use Rattle.std.specs.Prelude.{◌<◌};
 
 use crate::outside::{Ran, run_line, with_input};
-use gate_io::{HubStep, HubSteps, MemHub, OutOfMemory, Side, Text};
+use crate::script::{Act, play};
+use gate_io::{HubStep, HubSteps, MemHub, OutOfMemory, Side};
 use std::alloc::Global;
 use std::test::*;
 
+/// A server between a Compact client and a JSON upstream, of which nothing is declared.
+pub const COMPACT_TO_JSON: &[u8] = b"serve compact json 127.0.0.1:1 127.0.0.1:2 --limit 1024";
+
 /// What a Compact client sends: a call `ping` 1, one of number 2 with a double in it, and a call 3, framed.
-const CALLS: [u8; 48] =
+pub const CALLS: [u8; 48] =
     *b"\0\0\0\x09\x82\x21\x01\x04ping\0\0\0\0\x12\x82\x21\x02\x04ping\x17\x18\x2d\x44\x54\xfb\x21\x09\x40\0\0\0\0\x09\x82\x21\x03\x04ping\0";
 
-/// The answer of a JSON upstream to call 1, framed.
-const REPLY: [u8; 21] = *b"\0\0\0\x11[1,\"ping\",2,1,{}]";
+/// The answers of a JSON upstream to calls 1 and 3, framed.
+pub const REPLIES: [u8; 42] = *b"\0\0\0\x11[1,\"ping\",2,1,{}]\0\0\0\x11[1,\"ping\",2,3,{}]";
 
-/// What the client is sent: that answer, and the refusal of call 2, framed.
-const ANSWERS: [u8; 39] =
-    *b"\0\0\0\x09\x82\x41\x01\x04ping\0\0\0\0\x16\x82\x61\x02\x04ping\x18\x09U1 double\x15\x0e\0";
+/// What the client is sent: the answer to call 1, the refusal of call 2, and the answer to call 3, framed.
+pub const ANSWERS: [u8; 52] =
+    *b"\0\0\0\x09\x82\x41\x01\x04ping\0\0\0\0\x16\x82\x61\x02\x04ping\x18\x09U1 double\x15\x0e\0\0\0\0\x09\x82\x41\x03\x04ping\0";
 
 /// What the upstream is sent: calls 1 and 3, framed.
-const SENT: [u8; 42] = *b"\0\0\0\x11[1,\"ping\",1,1,{}]\0\0\0\x11[1,\"ping\",1,3,{}]";
+pub const PASSED: [u8; 42] = *b"\0\0\0\x11[1,\"ping\",1,1,{}]\0\0\0\x11[1,\"ping\",1,3,{}]";
 
-/// Runs a server over a hub of these steps, which moves so many bytes at most in a call.
-fn served(alloc: Global, line: &[u8], steps: HubSteps, chunk: usize) -> Result<Ran, OutOfMemory>
+/// Methods of a service that is named before them, one of them oneway.
+pub const CALC: &[u8] =
+    b"service Calc { string name(), oneway void log(1: string s), i32 add(1: i32 a, 2: i32 b) }  service Other {}";
+
+/// What a Binary client of it sends: calls `Calc:name` 1, `Calc:log` 2 and `Calc:add` 3, framed.
+pub const NAMED: [u8; 98] =
+    *b"\0\0\0\x16\x80\x01\0\x01\0\0\0\x09Calc:name\0\0\0\x01\0\0\0\0\x1d\x80\x01\0\x04\0\0\0\x08Calc:log\0\0\0\x02\x0b\0\x01\0\0\0\x01x\0\0\0\0\x23\x80\x01\0\x01\0\0\0\x08Calc:add\0\0\0\x03\x08\0\x01\0\0\0\x01\x08\0\x02\0\0\0\x02\0";
+
+/// The answers to `name` and `add`, and one to no call.
+pub const THREE_REPLIES: [u8; 103] =
+    *b"\0\0\0\x21[1,\"name\",2,1,{\"0\":{\"str\":\"hi\"}}]\0\0\0\x1d[1,\"add\",2,3,{\"0\":{\"i32\":3}}]\0\0\0\x1d[1,\"add\",2,4,{\"0\":{\"i32\":4}}]";
+
+/// What the client is sent: the answers to `name` and `add`, framed.
+pub const NAMED_ANSWERS: &[u8] =
+    b"\0\0\0\x1a\x80\x01\0\x02\0\0\0\x04name\0\0\0\x01\x0b\0\0\0\0\0\x02hi\0\0\0\0\x17\x80\x01\0\x02\0\0\0\x03add\0\0\0\x03\x08\0\0\0\0\0\x03\0";
+
+/// What the upstream is sent: all three calls, framed.
+pub const NAMED_PASSED: &[u8] =
+    b"\0\0\0\x16[1,\"Calc:name\",1,1,{}]\0\0\0\x24[1,\"Calc:log\",4,2,{\"1\":{\"str\":\"x\"}}]\0\0\0\x30[1,\"Calc:add\",1,3,{\"1\":{\"i32\":1},\"2\":{\"i32\":2}}]";
+
+/// What a session shows: what came to it, what each side is sent, and the line of its end.
+#[derive(Clone, Copy)]
+struct Case {
+    line: &'static [u8],
+    acts: &'static [Act<'static>],
+    client: &'static [u8],
+    upstream: &'static [u8],
+    ending: &'static [u8],
+}
+
+/// A refused call is answered in its place, and both sides end.
+const IN_PLACE: Case = Case {
+    line: COMPACT_TO_JSON,
+    acts: &[
+        Act::Connects,
+        Act::Sends(Side::Client, &CALLS),
+        Act::Sends(Side::Upstream, &REPLIES),
+        Act::Ends(Side::Upstream),
+        Act::Ends(Side::Client),
+    ],
+    client: &ANSWERS,
+    upstream: &PASSED,
+    ending: b"session 0: clean\n",
+};
+
+/// Calls by the names of services, a oneway one among them, and an answer too many.
+const BY_NAME: Case = Case {
+    line: b"serve binary json 127.0.0.1:1 127.0.0.1:2 --idl m.thrift",
+    acts: &[
+        Act::Connects,
+        Act::Sends(Side::Client, &NAMED),
+        Act::Sends(Side::Upstream, &THREE_REPLIES),
+        Act::Ends(Side::Client),
+    ],
+    client: NAMED_ANSWERS,
+    upstream: NAMED_PASSED,
+    ending: b"session 0: unsolicited: answer 3 to 2 calls\n",
+};
+
+/// The upstream ends while a call is open.
+const UNANSWERED: Case = Case {
+    line: COMPACT_TO_JSON,
+    acts: &[
+        Act::Connects,
+        Act::Sends(Side::Client, b"\0\0\0\x09\x82\x21\x01\x04ping\0"),
+        Act::Ends(Side::Upstream),
+    ],
+    client: b"",
+    upstream: b"\0\0\0\x11[1,\"ping\",1,1,{}]",
+    ending: b"session 0: upstream ended: open calls 1\n",
+};
+
+/// The client sends a reply.
+const WRONG_WAY: Case = Case {
+    line: COMPACT_TO_JSON,
+    acts: &[
+        Act::Connects,
+        Act::Sends(Side::Client, b"\0\0\0\x09\x82\x41\x01\x04ping\0"),
+    ],
+    client: b"",
+    upstream: b"",
+    ending: b"session 0: client fault: frame 1: wrong way\n",
+};
+
+/// One call may be open: the second waits for the answer to the first.
+const ONE_AT_A_TIME: Case = Case {
+    line: b"serve compact compact 127.0.0.1:1 127.0.0.1:2 --calls 1",
+    acts: &[
+        Act::Connects,
+        Act::Sends(
+            Side::Client,
+            b"\0\0\0\x09\x82\x21\x01\x04ping\0\0\0\0\x09\x82\x21\x01\x04ping\0",
+        ),
+    ],
+    client: b"",
+    upstream: b"\0\0\0\x09\x82\x21\x01\x04ping\0",
+    ending: b"session 0: left open\n",
+};
+
+/// Runs a server over the acts of a case, and says whether it shows what the case tells.
+fn shows(alloc: Global, case: &Case, chunk: usize) -> Result<bool, OutOfMemory>
     requires { 0 < chunk }
 {
-    let mut outside = with_input(alloc, b"")?;
-    outside.hub = MemHub::new(alloc, steps, chunk)?;
-    run_line(alloc, line, outside)
+    let ran = play(alloc, case.line, CALC, case.acts, chunk)?;
+    Ok(
+        ran.code == 0
+            && ran.hub.sent_to(0, Side::Client) == case.client
+            && ran.hub.sent_to(0, Side::Upstream) == case.upstream
+            && ran.output.bytes() == case.ending
+            && ran.report.bytes().is_empty(),
+    )
+}
+
+#[test]
+fn sessions_are_served(rt: HostRuntime) -> Result<(), Fail> {
+    for case in [IN_PLACE, BY_NAME, UNANSWERED, WRONG_WAY, ONE_AT_A_TIME] {
+        for chunk in [1, 4096] {
+            let is_shown = shows(rt.alloc(), &case, chunk).ok().ok_or("memory")?;
+            assert!(rt; is_shown, "{:?} at {chunk}", case.ending);
+        }
+    }
+    Ok(())
 }
 
 /// Two connections where one session may be open.
@@ -34,8 +153,13 @@ fn crowd(alloc: Global) -> Result<Ran, OutOfMemory> {
     let mut steps = HubSteps::new(alloc);
     steps.push(HubStep::Connect)?;
     steps.push(HubStep::Connect)?;
-    let line = b"serve binary compact 127.0.0.1:1 127.0.0.1:2 --sessions 1";
-    served(alloc, line, steps, 1)
+    let mut outside = with_input(alloc, b"")?;
+    outside.hub = MemHub::new(alloc, steps, 1)?;
+    run_line(
+        alloc,
+        b"serve binary compact 127.0.0.1:1 127.0.0.1:2 --sessions 1",
+        outside,
+    )
 }
 
 #[test]
@@ -47,37 +171,5 @@ fn one_session_too_many_is_full(rt: HostRuntime) -> Result<(), Fail> {
         b"session 1: full\nsession 0: left open\n".as_slice()
     );
     assert_eq!(rt; ran.report.bytes(), b"".as_slice());
-    Ok(())
-}
-
-/// A client of three calls, of which the second is refused, and an upstream that answers the first.
-fn exchange(alloc: Global, chunk: usize) -> Result<Ran, OutOfMemory>
-    requires { 0 < chunk }
-{
-    let mut steps = HubSteps::new(alloc);
-    steps.push(HubStep::Connect)?;
-    steps.push(HubStep::Arrive {
-        session: 0,
-        side: Side::Client,
-        bytes: Text::new(alloc, &CALLS)?,
-    })?;
-    steps.push(HubStep::Arrive {
-        session: 0,
-        side: Side::Upstream,
-        bytes: Text::new(alloc, &REPLY)?,
-    })?;
-    let line = b"serve compact json 127.0.0.1:1 127.0.0.1:2";
-    served(alloc, line, steps, chunk)
-}
-
-#[test]
-fn a_refused_call_is_answered_in_its_place(rt: HostRuntime) -> Result<(), Fail> {
-    for chunk in [1, 4096] {
-        let ran = exchange(rt.alloc(), chunk).ok().ok_or("memory")?;
-        assert_eq!(rt; ran.code, 0);
-        assert_eq!(rt; ran.hub.sent_to(0, Side::Client), ANSWERS.as_slice());
-        assert_eq!(rt; ran.hub.sent_to(0, Side::Upstream), SENT.as_slice());
-        assert_eq!(rt; ran.output.bytes(), b"session 0: left open\n".as_slice());
-    }
     Ok(())
 }

@@ -1,8 +1,8 @@
-//! The commands `check` and `convert` on small inputs and on an outside that fails, and a body there and back.
+//! The commands `check` and `convert` on small inputs, and a body there and back.
 ghost use Rattle.std.specs.Prelude.{◌≤◌, length};
 
-use crate::outside::{Outside, Ran, first, run_line, with_input};
-use gate_io::{MemFiles, OutOfMemory};
+use crate::outside::{Outside, Ran, run_line, with_input};
+use gate_io::OutOfMemory;
 use std::alloc::Global;
 use std::test::*;
 use thrift_value::{Event, GatherFault, Kind, events_of, gather};
@@ -16,18 +16,6 @@ const COMPACT: [u8; 13] = *b"\0\0\0\x09\x82\x21\x01\x04ping\0";
 /// A call `ping` with the bytes `AB` in field 1, framed.
 const BYTES: [u8; 30] =
     *b"\0\0\0\x1a\x80\x01\0\x01\0\0\0\x04ping\0\0\0\x01\x0b\0\x01\0\0\0\x02AB\0";
-
-/// Runs `convert binary compact` on the call.
-fn converted(alloc: Global, failing_read: bool, failing_write: bool) -> Result<Ran, OutOfMemory> {
-    let mut outside = with_input(alloc, &CALL)?;
-    if failing_read {
-        outside.reads = first(alloc)?;
-    }
-    if failing_write {
-        outside.writes = first(alloc)?;
-    }
-    run_line(alloc, b"convert binary compact", outside)
-}
 
 /// Runs a command where `a.thrift` holds this text.
 fn with_idl<'i>(
@@ -45,45 +33,13 @@ fn with_idl<'i>(
 
 #[test]
 fn the_smallest_call_is_converted(rt: HostRuntime) -> Result<(), Fail> {
-    let ran = converted(rt.alloc(), false, false).ok().ok_or("memory")?;
+    let ran = with_idl(rt.alloc(), b"convert binary compact", b"", &CALL)
+        .ok()
+        .ok_or("memory")?;
     assert_eq!(rt; ran.code, 0);
     assert_eq!(rt; ran.output.bytes(), COMPACT.as_slice());
-    assert_eq!(rt; ran.report.bytes(), b"".as_slice());
-    Ok(())
-}
-
-#[test]
-fn a_failed_read_is_told(rt: HostRuntime) -> Result<(), Fail> {
-    let ran = converted(rt.alloc(), true, false).ok().ok_or("memory")?;
-    assert_eq!(rt; ran.code, 4);
-    assert_eq!(rt; ran.output.bytes(), b"".as_slice());
-    assert_eq!(rt; ran.report.bytes(), b"read fault\n".as_slice());
-    Ok(())
-}
-
-#[test]
-fn a_failed_write_ends_the_run(rt: HostRuntime) -> Result<(), Fail> {
-    let ran = converted(rt.alloc(), false, true).ok().ok_or("memory")?;
-    assert_eq!(rt; ran.code, 5);
-    assert_eq!(rt; ran.output.bytes(), b"".as_slice());
     assert_eq!(rt; ran.output.refused(), 0);
     assert_eq!(rt; ran.report.bytes(), b"".as_slice());
-    Ok(())
-}
-
-/// Runs `check a.thrift` over files whose first fetch fails.
-fn unfetched(alloc: Global) -> Result<Ran, OutOfMemory> {
-    let mut outside = with_input(alloc, b"")?;
-    outside.files = MemFiles::new(alloc, first(alloc)?)?;
-    run_line(alloc, b"check a.thrift", outside)
-}
-
-#[test]
-fn a_failed_fetch_is_told(rt: HostRuntime) -> Result<(), Fail> {
-    let ran = unfetched(rt.alloc()).ok().ok_or("memory")?;
-    assert_eq!(rt; ran.code, 6);
-    assert_eq!(rt; ran.output.bytes(), b"".as_slice());
-    assert_eq!(rt; ran.report.bytes(), b"file fault\n".as_slice());
     Ok(())
 }
 

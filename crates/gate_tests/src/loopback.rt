@@ -1,0 +1,136 @@
+//! The command `serve` over real sockets, in one process with its client and its upstream.
+use crate::outside::words_of;
+use crate::serving::{ANSWERS, CALLS, REPLIES};
+use gate_io::{Fails, MemFiles, MemSink, MemSource, OutOfMemory};
+use gate_run::run;
+use mio_edge::MioHub;
+use std::alloc::Global;
+use std::io::{ErrorKind, Read, Write};
+use std::net::{Net, Shutdown, SocketAddr, TcpListener, TcpStream};
+use std::test::*;
+use std::{io, thread};
+
+/// The client tries so often to connect.
+const MOST_TRIES: u32 = 100_000;
+
+/// The client reads so often in all, without waiting.
+const MOST_READS: u32 = 5_000_000;
+
+/// Calls 1 and 2 of three.
+const FIRST_CALLS: usize = 35;
+
+/// The answers to calls 1 and 2.
+const FIRST_ANSWERS: usize = 39;
+
+/// The bytes of a call and of an answer to it, on the side of the upstream.
+const MESSAGE: usize = 21;
+
+/// Takes one connection, and answers two calls.
+fn answer(listener: &TcpListener) -> io::Result<()> {
+    let (mut stream, _) = listener.accept()?;
+    let mut call = [0; MESSAGE];
+    stream.read_exact(&mut call)?;
+    stream.write_all(&REPLIES[..MESSAGE])?;
+    stream.read_exact(&mut call)?;
+    stream.write_all(&REPLIES[MESSAGE..])
+}
+
+/// Serves one connection.
+fn serve<N: Net>(net: &N, alloc: Global, line: &[u8]) -> Result<u8, OutOfMemory> {
+    let words = words_of(alloc, line)?;
+    let mut files = MemFiles::new(alloc, Fails::new(alloc))?;
+    let mut input = MemSource::new(alloc, b"", 1, Fails::new(alloc))?;
+    let mut output = MemSink::new(alloc, 100, Fails::new(alloc))?;
+    let mut report = MemSink::new(alloc, 100, Fails::new(alloc))?;
+    let mut hub = MioHub::new(net);
+    let status = run(
+        alloc,
+        &words,
+        &mut files,
+        &mut input,
+        &mut output,
+        &mut report,
+        &mut hub,
+    );
+    Ok(status.code)
+}
+
+/// Connects once the server listens.
+fn connect<N: Net<Stream = TcpStream>>(net: &N, address: SocketAddr) -> io::Result<TcpStream> {
+    for _ in 0..MOST_TRIES {
+        if let Ok(stream) = TcpStream::connect(net, address) {
+            return Ok(stream);
+        }
+    }
+    Err(io::Error::from(ErrorKind::ConnectionRefused))
+}
+
+/// Reads once into a slice, and says how many bytes came, where any did or the end is there.
+fn read_once(stream: &mut TcpStream, into: &mut [u8]) -> io::Result<Option<usize>> {
+    match stream.read(into) {
+        Ok(count) => Ok(Some(count)),
+        Err(error) if error.kind() == ErrorKind::WouldBlock => Ok(None),
+        Err(error) => Err(error),
+    }
+}
+
+/// Reads as many bytes as the slice has, without waiting, and says how many reads are left.
+fn read_all(stream: &mut TcpStream, into: &mut [u8], reads: u32) -> io::Result<u32> {
+    let mut got = 0;
+    for left in (0..reads).rev() {
+        if got >= into.len() {
+            return Ok(left);
+        }
+        match read_once(stream, &mut into[got..])? {
+            Some(0) => return Err(io::Error::from(ErrorKind::UnexpectedEof)),
+            Some(count) => got = got.saturating_add(count),
+            None => (),
+        }
+    }
+    Err(io::Error::from(ErrorKind::TimedOut))
+}
+
+/// Whether the end is read, without waiting.
+fn sees_end(stream: &mut TcpStream, reads: u32) -> io::Result<bool> {
+    let mut byte = [0];
+    for _ in 0..reads {
+        if let Some(count) = read_once(stream, &mut byte)? {
+            return Ok(count == 0);
+        }
+    }
+    Ok(false)
+}
+
+/// The client: a later call is sent only behind the answers to the earlier ones.
+fn ask(stream: &mut TcpStream, answers: &mut [u8; 52]) -> io::Result<bool> {
+    stream.write_all(&CALLS[..FIRST_CALLS])?;
+    stream.set_nonblocking(true)?;
+    let left = read_all(stream, &mut answers[..FIRST_ANSWERS], MOST_READS)?;
+    stream.write_all(&CALLS[FIRST_CALLS..])?;
+    let left = read_all(stream, &mut answers[FIRST_ANSWERS..], left)?;
+    stream.shutdown(Shutdown::Write)?;
+    sees_end(stream, left)
+}
+
+/// An address of this machine at which nothing listens. It isn't the one that connections go out from, so that no
+/// connection can meet itself.
+fn free_address<N: Net<Listener = TcpListener, Stream = TcpStream>>(
+    net: &N,
+) -> io::Result<SocketAddr> {
+    TcpListener::bind(net, SocketAddr::from(([127, 0, 0, 2], 0)))?.local_addr()
+}
+
+#[test]
+fn loopback(rt: HostRuntime) -> Result<(), Fail> {
+    let upstream = TcpListener::bind(&rt, SocketAddr::from(([127, 0, 0, 1], 0)))?;
+    let target = upstream.local_addr()?;
+    let listen = free_address(&rt)?;
+    let line = format!(in rt.alloc(); "serve compact json {listen} {target} --accept 1")?;
+    thread::spawn(&rt, move || answer(&upstream).is_ok())?;
+    thread::spawn(&rt, move || serve(&rt, rt.alloc(), line.as_bytes()).is_ok())?;
+    let mut stream = connect(&rt, listen)?;
+    let mut answers = [0; 52];
+    assert!(rt; ask(&mut stream, &mut answers)?);
+    assert_eq!(rt; answers, ANSWERS);
+    Ok(())
+}
