@@ -50,16 +50,16 @@ never_read x f e = absurd (cc)
 pub other_reason : {X : Type 0} → (p : ℕ) (r : Reason) (f : Fault) → (r ≡ reasons.Truncated → ⊥) → is_fault {X = X} (record { place = p; reason = r }) ≡ Err f → f.reason ≡ reasons.Truncated → ⊥
 other_reason {X} p r f differs e t = differs (ap (λ (g : Fault). g.reason) (same_fault {X = X} (record { place = p; reason = r }) f e) ∙ t)
 
-not_kind : reasons.BadKind ≡ reasons.Truncated → ⊥
+pub not_kind : reasons.BadKind ≡ reasons.Truncated → ⊥
 not_kind e = absurd (cc)
 
-not_size : reasons.BadSize ≡ reasons.Truncated → ⊥
+pub not_size : reasons.BadSize ≡ reasons.Truncated → ⊥
 not_size e = absurd (cc)
 
-not_bool : reasons.BadBool ≡ reasons.Truncated → ⊥
+pub not_bool : reasons.BadBool ≡ reasons.Truncated → ⊥
 not_bool e = absurd (cc)
 
-not_deep : reasons.TooDeep ≡ reasons.Truncated → ⊥
+pub not_deep : reasons.TooDeep ≡ reasons.Truncated → ⊥
 not_deep e = absurd (cc)
 
 -- ---- bytes of a number

@@ -17,17 +17,17 @@ use Rattle.binary_laws.proofs.Viable.{is_bad, same_blame}
 -- ---- one way
 
 -- no more items are read here
-abbrev Stops : State → Type 0
+abbrev pub Stops : State → Type 0
 Stops s = (f : Fault) × (reads s ≡ Err f)
 
-no_nest : (s : State) → s.nest ≡ [] → Stops s
+pub no_nest : (s : State) → s.nest ≡ [] → Stops s
 no_nest s e = (_, reads_none s (ap first_of e))
 
-refuses_stops : (s : State) (f : Fault) → Refuses s f → Stops s
+pub refuses_stops : (s : State) (f : Fault) → Refuses s f → Stops s
 refuses_stops s f (inl (some, e)) = (f, e)
 refuses_stops s f (inr (none, e)) = no_nest s none
 
-both : (s t : State) (item : Item) (f : Fault) → reads s ≡ Ok (item, t) → reads s ≡ Err f → ⊥
+pub both : (s t : State) (item : Item) (f : Fault) → reads s ≡ Ok (item, t) → reads s ≡ Err f → ⊥
 both s t item f a b = let wrong = sym a ∙ b in absurd (cc)
 
 record Same (xs ys : List Item) (a b : State) : Type 0 where

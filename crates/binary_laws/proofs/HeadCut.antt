@@ -95,7 +95,7 @@ seq_cut bytes are f e = by_length (either (nat_lt (length bytes) 4) (cut {X = �
 message : List ℕ → MessageType → ℤ → Message
 message name t z = record { name = name; mtype = t; seq = z; body = no_members }
 
-zero_fits : FitsSigned w32 (pos 0)
+pub zero_fits : FitsSigned w32 (pos 0)
 zero_fits = omega (arith, ints)
 
 strict_viable : (bytes more name : List ℕ) (u : ℕ) (t : MessageType) (z : ℤ) → u < 256 → length name < 2 ^ 31 → FitsSigned w32 z → bytes ++ more ≡ 128 ∷ 1 ∷ u ∷ code_of_type t ∷ string name ++ number w32 z → IsViable bytes
@@ -116,11 +116,11 @@ not_version e = absurd (cc)
 not_type : reasons.BadType ≡ reasons.Truncated → ⊥
 not_type e = absurd (cc)
 
-then_fault : {X Y : Type 0} → (scan : Scan X) (go : X × ℕ → Scan Y) (f : Fault) → (scan >>= go) ≡ Err f → (scan ≡ Err f) ⊎ ((x : X × ℕ) × (scan ≡ Ok x) × (go x ≡ Err f))
+pub then_fault : {X Y : Type 0} → (scan : Scan X) (go : X × ℕ → Scan Y) (f : Fault) → (scan >>= go) ≡ Err f → (scan ≡ Err f) ⊎ ((x : X × ℕ) × (scan ≡ Ok x) × (go x ≡ Err f))
 then_fault {X} {Y} (Ok x) go f e = inr (x, refl, e)
 then_fault {X} {Y} (Err g) go f e = inl (ap (λ k. Err k) (same_fault {X = Y} g f e))
 
-shift_fault : {X : Type 0} → (n : ℕ) (scan : Scan X) (f : Fault) → shifted n scan ≡ Err f → (g : Fault) × (scan ≡ Err g) × (n + g.place ≡ f.place) × (g.reason ≡ f.reason)
+pub shift_fault : {X : Type 0} → (n : ℕ) (scan : Scan X) (f : Fault) → shifted n scan ≡ Err f → (g : Fault) × (scan ≡ Err g) × (n + g.place ≡ f.place) × (g.reason ≡ f.reason)
 shift_fault {X} n (Ok x) f e = absurd (never_read (x.0, n + x.1) f e)
 shift_fault {X} n (Err g) f e =
     let same = same_fault {X = X} (record { place = n + g.place; reason = g.reason }) f e in (g, refl, ap (λ (b : Fault). b.place) same, ap (λ (b : Fault). b.reason) same)

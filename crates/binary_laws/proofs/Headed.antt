@@ -65,7 +65,7 @@ shift_read {X} n (Ok y) x taken e = (y.1, ap (λ v. Ok (v, y.1)) (same_value y.0
 shift_read {X} n (Err f) x taken e = absurd (no_fault _ (x, taken) e)
 
 -- what goes on was read
-then_read : {X Y : Type 0} → (scan : Scan X) (go : X × ℕ → Scan Y) (y : Y × ℕ) → (scan >>= go) ≡ Ok y → (x : X × ℕ) × (scan ≡ Ok x) × (go x ≡ Ok y)
+pub then_read : {X Y : Type 0} → (scan : Scan X) (go : X × ℕ → Scan Y) (y : Y × ℕ) → (scan >>= go) ≡ Ok y → (x : X × ℕ) × (scan ≡ Ok x) × (go x ≡ Ok y)
 then_read {X} {Y} (Ok x) go y e = (x, refl, e)
 then_read {X} {Y} (Err f) go y e = absurd (no_fault f y e)
 

@@ -38,7 +38,7 @@ same_answer {X} x y s t e = (ap (λ (r : Step State X). (got (x, s) r).0) e, ap 
 pub no_step : {X : Type 0} → (f : Fault) (x : X × State) → Err f ≡ is_step x → ⊥
 no_step f x e = absurd (cc)
 
-moved_read : (s : State) (scan : Scan Item) (item : Item) (next : State) → moved s scan ≡ Ok (item, next) → (taken : ℕ) × (scan ≡ Ok (item, taken)) × (next ≡ onward s item taken)
+pub moved_read : (s : State) (scan : Scan Item) (item : Item) (next : State) → moved s scan ≡ Ok (item, next) → (taken : ℕ) × (scan ≡ Ok (item, taken)) × (next ≡ onward s item taken)
 moved_read s (Ok x) item next e =
     let same = same_answer x.0 item (onward s x.0 x.1) next e in
     (x.1, ap (λ i. Ok (i, x.1)) same.0, sym same.1 ∙ ap (λ i. onward s i x.1) same.0)

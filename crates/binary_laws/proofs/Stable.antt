@@ -33,10 +33,10 @@ either_stays {X} false x y z w p q = q
 test_stays : {X : Type 0} → (b c : Bool) (x y z w : Scan X) → c ≡ b → Stays x z → Stays y w → Stays (cond b x y) (cond c z w)
 test_stays {X} b c x y z w e p q = subst (λ d. Stays (cond b x y) (cond d z w)) (sym e) (either_stays b x y z w p q)
 
-long_test : (l more : List ℕ) (n : ℕ) → nat_lt (length l) n ≡ false → nat_lt (length (l ++ more)) n ≡ false
+pub long_test : (l more : List ℕ) (n : ℕ) → nat_lt (length l) n ≡ false → nat_lt (length (l ++ more)) n ≡ false
 long_test l more n e = let s = length-append l more in grind (arith, nat_tests)
 
-there : (l : List ℕ) (n : ℕ) → nat_lt (length l) n ≡ false → n ≤ length l
+pub there : (l : List ℕ) (n : ℕ) → nat_lt (length l) n ≡ false → n ≤ length l
 there l n e = grind (arith, nat_tests)
 
 length_stays : {X : Type 0} → (l more : List ℕ) (n : ℕ) (y w : Scan X) → (n ≤ length l → Stays y w) → Stays (cond (nat_lt (length l) n) (cut l) y) (cond (nat_lt (length (l ++ more)) n) (cut (l ++ more)) w)
@@ -46,19 +46,19 @@ length_stays {X} l more n y w f = by_test (nat_lt (length l) n) refl
     by_test true e = cut_short {X = X} l (cut l) _ refl
     by_test false e = subst (λ d. Stays y (cond d (cut (l ++ more)) w)) (sym (long_test l more n e)) (f (there l n e))
 
-then_stays : {X Y : Type 0} → (s r : Scan X) (go on : X × ℕ → Scan Y) → Stays s r → ((x : X × ℕ) → Stays (go x) (on x)) → Stays (s >>= go) (r >>= on)
+pub then_stays : {X Y : Type 0} → (s r : Scan X) (go on : X × ℕ → Scan Y) → Stays s r → ((x : X × ℕ) → Stays (go x) (on x)) → Stays (s >>= go) (r >>= on)
 then_stays {X} {Y} (Ok x) r go on (inl (f, e, t)) h = absurd (cc)
 then_stays {X} {Y} (Ok x) r go on (inr e) h = subst (λ z. Stays (go x) (z >>= on)) (sym e) (h x)
 then_stays {X} {Y} (Err g) r go on (inl (f, e, t)) h = inl (f, ap (λ (z : Scan X). z >>= go) e, t)
 then_stays {X} {Y} (Err g) r go on (inr e) h = inr (ap (λ (z : Scan X). z >>= on) e)
 
-shift_stays : {X : Type 0} → (n : ℕ) (s r : Scan X) → Stays s r → Stays (shifted n s) (shifted n r)
+pub shift_stays : {X : Type 0} → (n : ℕ) (s r : Scan X) → Stays s r → Stays (shifted n s) (shifted n r)
 shift_stays {X} n s r (inl (f, e, t)) = inl (record { place = n + f.place; reason = f.reason }, ap (shifted n) e, t)
 shift_stays {X} n s r (inr e) = inr (ap (shifted n) e)
 
 -- ---- bytes in front
 
-kept : (l more : List ℕ) (i : ℕ) → i < length l → slice_index (l ++ more) i ≡ slice_index l i
+pub kept : (l more : List ℕ) (i : ℕ) → i < length l → slice_index (l ++ more) i ≡ slice_index l i
 kept l more i h = get_or_append_left l more 0 i h
 
 take_kept : (n : ℕ) (l more : List ℕ) → n ≤ length l → take n (l ++ more) ≡ take n l
@@ -66,7 +66,7 @@ take_kept zero l more h = refl
 take_kept (suc n) [] more h = absurd (omega arith)
 take_kept (suc n) (x ∷ l) more h = ap (λ r. x ∷ r) (take_kept n l more (omega arith))
 
-drop_kept : (n : ℕ) (l more : List ℕ) → n ≤ length l → drop n (l ++ more) ≡ drop n l ++ more
+pub drop_kept : (n : ℕ) (l more : List ℕ) → n ≤ length l → drop n (l ++ more) ≡ drop n l ++ more
 drop_kept zero l more h = refl
 drop_kept (suc n) [] more h = absurd (omega arith)
 drop_kept (suc n) (x ∷ l) more h = drop_kept n l more (omega arith)
@@ -77,7 +77,7 @@ drop_none (suc n) [] h = refl
 drop_none (suc n) (x ∷ l) h = drop_none n l (omega arith)
 
 -- a scan that says nothing of no bytes, further on
-drop_stays : {X : Type 0} → (scan : List ℕ → Scan X) → ((l more : List ℕ) → Stays (scan l) (scan (l ++ more))) → scan [] ≡ cut [] → (n : ℕ) (l more : List ℕ) → Stays (scan (drop n l)) (scan (drop n (l ++ more)))
+pub drop_stays : {X : Type 0} → (scan : List ℕ → Scan X) → ((l more : List ℕ) → Stays (scan l) (scan (l ++ more))) → scan [] ≡ cut [] → (n : ℕ) (l more : List ℕ) → Stays (scan (drop n l)) (scan (drop n (l ++ more)))
 drop_stays {X} scan h none n l more = by_test (nat_lt (length l) n) refl
   where
     by_test : (b : Bool) → nat_lt (length l) n ≡ b → Stays (scan (drop n l)) (scan (drop n (l ++ more)))
@@ -169,7 +169,7 @@ size_high l more some high = by_length (nat_lt (length (l ++ more)) 4) refl
         rw (t, u) refl
     by_length false e = rw (big (l ++ more) (there (l ++ more) 4 e) first) refl
 
-size_stays : (l more : List ℕ) → Stays (size_at l) (size_at (l ++ more))
+pub size_stays : (l more : List ℕ) → Stays (size_at l) (size_at (l ++ more))
 unfolding size_at
 size_stays l more = by_length (nat_lt (length l) 4) refl
   where
@@ -210,7 +210,7 @@ and_false false b c d f g e = ap (λ z. z && d) (f refl)
 and_false true b true d f g e = g e
 and_false true b false d f g e = refl
 
-zero_stays : (l more : List ℕ) → Stays (zero_at l) (zero_at (l ++ more))
+pub zero_stays : (l more : List ℕ) → Stays (zero_at l) (zero_at (l ++ more))
 unfolding zero_at
 zero_stays l more = by_tests (all l) refl
   where
@@ -249,7 +249,7 @@ string_of_stays l more (Ok x) r (inr e) =
     subst (λ z. Stays (string_of l (Ok x)) (string_of (l ++ more) z)) (sym e) (length_stays l more (x.0 + 4) _ _ (λ h.
     inr (ap (λ b. is_read (b, x.0 + 4)) (ap (take x.0) (drop_kept 4 l more (omega arith)) ∙ take_kept x.0 (drop 4 l) more (omega (arith, length-drop 4 l, h))))))
 
-string_stays : (l more : List ℕ) → Stays (string_at l) (string_at (l ++ more))
+pub string_stays : (l more : List ℕ) → Stays (string_at l) (string_at (l ++ more))
 unfolding string_at
 string_stays l more = string_of_stays l more (size_at l) (size_at (l ++ more)) (size_stays l more)
 
@@ -268,7 +268,7 @@ no_size : size_at [] ≡ cut []
 unfolding size_at
 no_size = refl
 
-elements_stays : (l more : List ℕ) → Stays (elements_at l) (elements_at (l ++ more))
+pub elements_stays : (l more : List ℕ) → Stays (elements_at l) (elements_at (l ++ more))
 unfolding elements_at
 elements_stays l more = length_stays l more 1 _ _ (λ h.
     subst (λ x. Stays (elements_of (kind_of_code (slice_index l 0)) (size_at (drop 1 l))) (elements_of (kind_of_code x) (size_at (drop 1 (l ++ more))))) (sym (kept l more 0 h))
@@ -348,27 +348,27 @@ item_stays d (slots.Values key value left) l more = value_stays d value l more
 
 -- ---- headers
 
-type_stays : (l more : List ℕ) → Stays (type_at l) (type_at (l ++ more))
+pub type_stays : (l more : List ℕ) → Stays (type_at l) (type_at (l ++ more))
 unfolding type_at
 type_stays l more = length_stays l more 1 _ _ (λ h. inr (ap (λ c. type_of (type_of_code c)) (kept l more 0 h)))
 
-seq_stays : (l more : List ℕ) → Stays (seq_at l) (seq_at (l ++ more))
+pub seq_stays : (l more : List ℕ) → Stays (seq_at l) (seq_at (l ++ more))
 unfolding seq_at
 seq_stays l more = length_stays l more 4 _ _ (λ h. inr (ap (λ n. is_read (cast_signed w32 n, 4)) (cells_4 l more h)))
 
-no_type : type_at [] ≡ cut []
+pub no_type : type_at [] ≡ cut []
 unfolding type_at
 no_type = refl
 
-no_seq : seq_at [] ≡ cut []
+pub no_seq : seq_at [] ≡ cut []
 unfolding seq_at
 no_seq = refl
 
-no_string : string_at [] ≡ cut []
+pub no_string : string_at [] ≡ cut []
 unfolding string_at size_at
 no_string = refl
 
-version_stays : (l more : List ℕ) → 1 ≤ length l → Stays (version_at l) (version_at (l ++ more))
+pub version_stays : (l more : List ℕ) → 1 ≤ length l → Stays (version_at l) (version_at (l ++ more))
 unfolding version_at
 version_stays l more some = by_first (slice_index l 0 == 128) refl
   where

@@ -39,17 +39,17 @@ err_stays {X} scan longer f e other (inr same) = same ∙ e
 -- ---- states over more bytes
 
 module _ (more : List ℕ) where
-  abbrev longer : State → State
+  abbrev pub longer : State → State
   longer s = record { frame = s.frame ++ more; place = s.place; value = s.value; nest = s.nest }
 
-  at_longer : (s : State) (nest : List Slot) (bytes : List ℕ) → At s nest bytes → At (longer s) nest (bytes ++ more)
+  pub at_longer : (s : State) (nest : List Slot) (bytes : List ℕ) → At s nest bytes → At (longer s) nest (bytes ++ more)
   at_longer s nest bytes a = record { front = a.front; open_levels = a.open_levels; laid = ap (λ l. l ++ more) a.laid ∙ append_assoc a.front bytes more; place = a.place }
 
   scan_stays : (nest : List Slot) (bytes : List ℕ) → Stays (scan_at (first_of nest) (length nest) bytes) (scan_at (first_of nest) (length nest) (bytes ++ more))
   scan_stays [] bytes = inr refl
   scan_stays (slot ∷ up) bytes = item_stays (suc (length up)) slot bytes more
 
-  read_longer : (s : State) (nest : List Slot) (bytes : List ℕ) (item : Item) (taken : ℕ) → At s nest bytes → scan_at (first_of nest) (length nest) bytes ≡ Ok (item, taken) → reads (longer s) ≡ Ok (item, longer (onward s item taken))
+  pub read_longer : (s : State) (nest : List Slot) (bytes : List ℕ) (item : Item) (taken : ℕ) → At s nest bytes → scan_at (first_of nest) (length nest) bytes ≡ Ok (item, taken) → reads (longer s) ≡ Ok (item, longer (onward s item taken))
   read_longer s nest bytes item taken a e = reads_is (longer s) nest (bytes ++ more) item taken (at_longer s nest bytes a) (ok_stays _ _ (item, taken) e (scan_stays nest bytes))
 
   -- the fault of a scan is the fault of the call
@@ -111,10 +111,10 @@ module _ (more : List ℕ) where
 
 -- ---- a whole frame
 
-head_longer : (bytes more : List ℕ) (h : Header) (taken : ℕ) → head_at bytes ≡ Ok (h, taken) → head_at (bytes ++ more) ≡ Ok (h, taken)
+pub head_longer : (bytes more : List ℕ) (h : Header) (taken : ℕ) → head_at bytes ≡ Ok (h, taken) → head_at (bytes ++ more) ≡ Ok (h, taken)
 head_longer bytes more h taken e = ok_stays (head_at bytes) (head_at (bytes ++ more)) (h, taken) e (head_stays bytes more)
 
-begun_is : (bytes : List ℕ) (h : Header) (taken : ℕ) → head_at bytes ≡ Ok (h, taken) → reads_head (begun bytes) ≡ Ok (h, headed_state bytes taken)
+pub begun_is : (bytes : List ℕ) (h : Header) (taken : ℕ) → head_at bytes ≡ Ok (h, taken) → reads_head (begun bytes) ≡ Ok (h, headed_state bytes taken)
 unfolding reads_head
 begun_is bytes h taken e = ap (headed (begun bytes)) e
 
@@ -123,11 +123,11 @@ unfolding reads_head
 begun_bad bytes g e = ap (headed (begun bytes)) e
 
 -- the value's place may be another, where the first byte isn't there yet; it is, since the header was read
-same_value_place : (bytes more : List ℕ) (taken : ℕ) → 1 ≤ length bytes → longer more (headed_state bytes taken) ≡ headed_state (bytes ++ more) taken
+pub same_value_place : (bytes more : List ℕ) (taken : ℕ) → 1 ≤ length bytes → longer more (headed_state bytes taken) ≡ headed_state (bytes ++ more) taken
 same_value_place [] more taken h = absurd (omega arith)
 same_value_place (x ∷ bytes) more taken h = refl
 
-some_bytes : (bytes : List ℕ) (h : Header) (taken : ℕ) → head_at bytes ≡ Ok (h, taken) → 1 ≤ length bytes
+pub some_bytes : (bytes : List ℕ) (h : Header) (taken : ℕ) → head_at bytes ≡ Ok (h, taken) → 1 ≤ length bytes
 unfolding head_at
 some_bytes [] h taken e = absurd (cc)
 some_bytes (x ∷ bytes) h taken e = omega arith

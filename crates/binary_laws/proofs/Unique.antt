@@ -30,7 +30,7 @@ split_same (c ∷ a) (d ∷ b) x y l e =
 
 -- ---- numbers, sizes, strings and codes
 
-size_same : (m n : ℕ) (x y : List ℕ) → m < 2 ^ 31 → n < 2 ^ 31 → size m ++ x ≡ size n ++ y → (m ≡ n) × (x ≡ y)
+pub size_same : (m n : ℕ) (x y : List ℕ) → m < 2 ^ 31 → n < 2 ^ 31 → size m ++ x ≡ size n ++ y → (m ≡ n) × (x ≡ y)
 size_same m n x y p q e = (sym (four_again m x (omega arith)) ∙ ap (unsigned_at w32) e ∙ four_again n y (omega arith), ap (drop 4) e)
 
 string_same : (a b x y : List ℕ) → length a < 2 ^ 31 → length b < 2 ^ 31 → string a ++ x ≡ string b ++ y → (a ≡ b) × (x ≡ y)
@@ -272,7 +272,7 @@ record SameHead (m n : Message) (x y : List ℕ) : Type 0 where
   rest : x ≡ y
 
 -- the first byte of a size is below that of a version
-low_first : (n : ℕ) (rest more : List ℕ) → n < 2 ^ 31 → size n ++ rest ≡ 128 ∷ more → ⊥
+pub low_first : (n : ℕ) (rest more : List ℕ) → n < 2 ^ 31 → size n ++ rest ≡ 128 ∷ more → ⊥
 low_first n rest more h e = let first = head_same _ _ _ _ e in omega (arith, first, h)
 
 heads_same : (m n : Message) (a b x y : List ℕ) → length m.name < 2 ^ 31 → length n.name < 2 ^ 31 → FitsSigned w32 m.seq → FitsSigned w32 n.seq

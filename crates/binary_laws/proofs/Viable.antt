@@ -3,7 +3,7 @@ use Rattle.std.proofs.Common.{◌≡◌, ℕ, suc, ◌+◌, ◌≤◌, Bool, tru
 use Rattle.std.specs.Prelude.{◌==◌}
 use Rattle.std.proofs.lemmas.List.{append-nil}
 use Rattle.thrift_value.specs.Items.{Item}
-use Rattle.thrift_value.specs.Trees.{Members}
+use Rattle.thrift_value.specs.Trees.{Members, items_of_members}
 use Rattle.protocol_traits.specs.declared.fault.Fault.{Fault}
 use Rattle.protocol_traits.specs.declared.fault.Reason.TheVariants as reasons
 use Rattle.protocol_traits.specs.declared.nest.Slot.{Slot}
@@ -80,7 +80,7 @@ reads_fault s nest bytes f a e =
     let m = moved_fault s (scan_at (first_of s.nest) (length s.nest) (rest s)) f e in
     (m.0, ap (λ n. scan_at (first_of n) (length n) bytes) (sym a.open_levels) ∙ ap (λ l. scan_at (first_of s.nest) (length s.nest) l) (sym (rest_is s nest bytes a)) ∙ m.1, m.2, m.3)
 
-not_trailing : reasons.Trailing ≡ reasons.Truncated → ⊥
+pub not_trailing : reasons.Trailing ≡ reasons.Truncated → ⊥
 not_trailing e = absurd (cc)
 
 pub end_fault : (s : State) (f : Fault) → s.nest ≡ [] → reads_end s ≡ Err f → (s.place ≡ f.place) × (reasons.Trailing ≡ f.reason)
@@ -92,7 +92,7 @@ end_fault s f none e = by_tests (length s.nest == 0) (s.place == length s.frame)
     by_tests true true p h = absurd (no_blame (tt, s) f h)
     by_tests true false p h = let same = same_blame {X = Unit {0}} (record { place = s.place; reason = reasons.Trailing }) f h in (ap (λ (b : Fault). b.place) same, ap (λ (b : Fault). b.reason) same)
 
-abbrev Cut : State → List Slot → List ℕ → Fault → Type 0
+abbrev pub Cut : State → List Slot → List ℕ → Fault → Type 0
 Cut s nest bytes f = (f.place ≡ length s.frame) × Goes nest bytes
 
 cut_here : (s : State) (nest : List Slot) (bytes : List ℕ) (f : Fault) → At s nest bytes → AreBytes bytes → length nest ≤ 256 → f.reason ≡ reasons.Truncated → Refuses s f → Cut s nest bytes f
@@ -106,7 +106,7 @@ cut_here s nest bytes f a are most t (inr (none, e)) = let h = end_fault s f non
 
 -- ---- item after item
 
-one_back : (item : Item) (s next : State) (nest : List Slot) (bytes : List ℕ) (f : Fault) → At s nest bytes → AreBytes bytes → length nest ≤ 256
+pub one_back : (item : Item) (s next : State) (nest : List Slot) (bytes : List ℕ) (f : Fault) → At s nest bytes → AreBytes bytes → length nest ≤ 256
     → (taken : ℕ) × (scan_at (first_of nest) (length nest) bytes ≡ Ok (item, taken)) × (next ≡ onward s item taken)
     → ((inner : List Slot) (rest : List ℕ) → At next inner rest → AreBytes rest → length inner ≤ 256 → Cut next inner rest f) → Cut s nest bytes f
 one_back item s next [] bytes f a are most (taken, scan, is) go = absurd (no_fault _ (item, taken) scan)
@@ -131,14 +131,15 @@ cut_from (item ∷ items) s last nest bytes f a are most t (next, step, more) e 
 
 -- ---- a whole frame
 
-record Body (bytes : List ℕ) : Type 0 where
-  ms : Members
-  spells : SpellsMembers ms bytes
+pub record Body (items : List Item) (bytes : List ℕ) : Type 0 where
+  pub ms : Members
+  pub is : items ≡ items_of_members ms
+  pub spells : SpellsMembers ms bytes
 
-body_of : (items : List Item) (bytes : List ℕ) → Ends 257 body_open items bytes → Body bytes
+pub body_of : (items : List Item) (bytes : List ℕ) → Ends 257 body_open items bytes → Body items bytes
 body_of items bytes e =
     let all : bytes ≡ e.front = e.laid ∙ ap (λ l. e.front ++ l) e.two.1 ∙ append-nil e.front in
-    record { ms = e.one.ms; spells = subst (SpellsMembers e.one.ms) (sym all) e.one.spells }
+    record { ms = e.one.ms; is = e.is ∙ ap (λ l. e.first ++ l) e.two.0 ∙ append-nil e.first ∙ e.one.is; spells = subst (SpellsMembers e.one.ms) (sym all) e.one.spells }
 
 head_fault : (bytes : List ℕ) (scan : Scan Header) (f : Fault) → headed (begun bytes) scan ≡ Err f → (g : Fault) × (scan ≡ Err g) × (0 + g.place ≡ f.place) × (g.reason ≡ f.reason)
 head_fault bytes (Ok x) f e = absurd (no_blame _ f e)

@@ -33,7 +33,7 @@ CallsFor (slots.Keys key value left ∷ up) kind = (key ≡ kind) × (0 < left)
 CallsFor (slots.Values key value left ∷ up) kind = value ≡ kind
 
 -- one walk after another
-walks_append : (xs ys : List Item) (nest : List Slot) (bytes : List ℕ) (mid : List Slot) (between : List ℕ) (last : List Slot) (left : List ℕ)
+pub walks_append : (xs ys : List Item) (nest : List Slot) (bytes : List ℕ) (mid : List Slot) (between : List ℕ) (last : List Slot) (left : List ℕ)
     → Walks nest bytes xs mid between → Walks mid between ys last left → Walks nest bytes (xs ++ ys) last left
 walks_append [] ys nest bytes mid between last left w v = rw (w.0, w.1) v
 walks_append (x ∷ xs) ys nest bytes mid between last left w v = (w.0, w.1, w.2, w.3, walks_append xs ys (after x nest) w.1 mid between last left w.4 v)

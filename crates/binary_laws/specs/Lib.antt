@@ -1,4 +1,7 @@
 -- What it is to read a whole frame.
 pub mod Bytes
+pub mod Called
+pub mod Faults
 pub mod Reads
 pub mod Refused
+pub mod Written
