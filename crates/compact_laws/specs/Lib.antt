@@ -1,0 +1,8 @@
+-- What it is to read a whole frame, to refuse one, and to write a message.
+pub mod Extent
+pub mod Faults
+pub mod Faulty
+pub mod Items
+pub mod Reads
+pub mod Refused
+pub mod Written

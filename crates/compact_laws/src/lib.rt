@@ -1,0 +1,89 @@
+//! Laws of the Compact protocol: what `compact_protocol` reads is what the grammar spells.
+//!
+//! Each law is the contract of a function that does nothing. The code rests on none of them.
+#![tactic(auto)]
+
+ghost use Rattle.std.specs.Prelude.{◌≡◌, ◌<◌, ◌≤◌, ◌⊎◌, List, ℕ, [], ◌++◌, length};
+ghost use Rattle.thrift_value.specs.Items.{Item};
+ghost use Rattle.thrift_value.specs.Trees.{Message, depth_of_members, items_of_members};
+ghost use Rattle.protocol_traits.specs.Heads.{Header};
+ghost use Rattle.protocol_traits.specs.declared.fault.Fault.{Fault};
+ghost use Rattle.protocol_traits.specs.declared.fault.Reason.TheVariants as reasons;
+ghost use Rattle.compact_protocol.specs.Grammar.{CompactSpells};
+ghost use Rattle.binary_laws.specs.Bytes.{AreBytes};
+ghost use Rattle.binary_laws.specs.Reads.{header_of_message};
+ghost use Rattle.binary_laws.specs.Written.{IsMessage};
+ghost use Rattle.compact_laws.specs.Faults.{IsWhole, with_item, FaultAt, IsCertain};
+ghost use Rattle.compact_laws.specs.Reads.{IsRead};
+ghost use Rattle.compact_laws.specs.Refused.{IsViable, IsRefused};
+ghost use Rattle.compact_laws.specs.Written.{IsWritten};
+
+/// What the grammar spells is read: the header of the message, the items of its body and the end, for every message of depth
+/// at most 256, of which its body is one level. The numbers may be padded, the fields and lists may have either form, and a
+/// false bool in a container may be 0 or 2.
+pub fn spelled_is_read()
+    ensures { (m : Message) (bytes : List ℕ) → CompactSpells m bytes → depth_of_members m.body < 256
+        → IsRead bytes (header_of_message m) (items_of_members m.body) }
+{}
+
+/// What is read is spelled: a frame of bytes that is read whole spells a message of depth at most 256, with that header and those
+/// items.
+pub fn read_is_spelled()
+    ensures { (bytes : List ℕ) (header : Header) (items : List Item) → AreBytes bytes → IsRead bytes header items
+        → (m : Message) × (header ≡ header_of_message m) × (items ≡ items_of_members m.body) × (depth_of_members m.body < 256) × CompactSpells m bytes }
+{}
+
+/// What is written of a message spells it: the plain header and the plain spelling of each item of its body, each by the levels
+/// and the last field id that the items before it leave, where none of them is barred.
+pub fn written_is_spelled()
+    ensures { (m : Message) (bytes : List ℕ) → IsMessage m → IsWritten m bytes → CompactSpells m bytes }
+{}
+
+/// Bytes spell one message at most, of any depth, and no spelling of a message is a proper front of another's.
+pub fn one_message_is_spelled()
+    ensures { (m n : Message) (front rest : List ℕ) → CompactSpells m front → CompactSpells n (front ++ rest) → (m ≡ n) × (rest ≡ []) }
+{}
+
+/// A frame that is refused as truncated is a front of a message, of any depth, and the place is its end.
+pub fn truncated_is_viable()
+    ensures { (bytes : List ℕ) (f : Fault) → AreBytes bytes → IsRefused bytes f → f.reason ≡ reasons.Truncated → (f.place ≡ length bytes) × IsViable bytes }
+{}
+
+/// A frame that is refused with another reason is refused so whatever comes behind, and so begins no message of depth at most 256.
+pub fn refused_stays_refused()
+    ensures { (bytes more : List ℕ) (f : Fault) → AreBytes bytes → IsRefused bytes f → (f.reason ≡ reasons.Truncated → ⊥)
+        → IsRefused (bytes ++ more) f × ((m : Message) → depth_of_members m.body < 256 → CompactSpells m (bytes ++ more) → ⊥) }
+{}
+
+/// A message that lies deeper than 256 levels is refused as too deep.
+pub fn deeper_is_too_deep()
+    ensures { (m : Message) (bytes : List ℕ) → CompactSpells m bytes → 256 ≤ depth_of_members m.body → (f : Fault) × IsRefused bytes f × (f.reason ≡ reasons.TooDeep) }
+{}
+
+/// A frame that is refused, other than as truncated or as too deep, begins no message, of any depth.
+pub fn refused_is_not_viable()
+    ensures { (bytes : List ℕ) (f : Fault) → AreBytes bytes → IsRefused bytes f → (f.reason ≡ reasons.Truncated → ⊥) → (f.reason ≡ reasons.TooDeep → ⊥) → IsViable bytes → ⊥ }
+{}
+
+/// Each frame is read whole, as one header and one list of items, or it is refused with one fault, and never both.
+pub fn each_frame_is_read_or_refused()
+    ensures outcome { (bytes : List ℕ) → ((header : Header) × (items : List Item) × IsRead bytes header items) ⊎ ((f : Fault) × IsRefused bytes f) }
+    ensures apart { (bytes : List ℕ) (header : Header) (items : List Item) (f : Fault) → IsRead bytes header items → IsRefused bytes f → ⊥ }
+    ensures one_fault { (bytes : List ℕ) (f g : Fault) → IsRefused bytes f → IsRefused bytes g → f ≡ g }
+    ensures one_reading { (bytes : List ℕ) (h k : Header) (xs ys : List Item) → IsRead bytes h xs → IsRead bytes k ys → (h ≡ k) × (xs ≡ ys) }
+{}
+
+/// The fault that refuses a frame stands there, with its place and its reason. An item at fault: what begins at the place is none of
+/// the reason's sort, some message begins with what stands before the place and bytes of the sort behind, and with the item at fault
+/// the frame begins none. A value that lies too deep: what stands before the place begins a message, and none of depth at most 256.
+/// Else the frame begins a message and ends before it does, or a message stands before the place and a byte follows. Each frame of
+/// bytes spells a message of depth at most 256 or is refused with such a fault, never both. A version, a type or a byte behind the
+/// message that stands so at fault refuses the frame, and so does its end, where it begins a message of depth at most 256. What follows
+/// the item at fault, or the place of a value that lies too deep, tells nothing.
+pub fn the_fault_that_stands_there()
+    ensures stands { (bytes : List ℕ) (f : Fault) → AreBytes bytes → IsRefused bytes f → FaultAt bytes f }
+    ensures judged { (bytes : List ℕ) → AreBytes bytes → IsWhole bytes ⊎ ((f : Fault) × IsRefused bytes f × FaultAt bytes f) }
+    ensures apart { (bytes : List ℕ) (f : Fault) → FaultAt bytes f → IsWhole bytes → ⊥ }
+    ensures refuses { (bytes : List ℕ) (f : Fault) → AreBytes bytes → FaultAt bytes f → IsCertain f.reason bytes → IsRefused bytes f }
+    ensures item_tells { (bytes : List ℕ) (f : Fault) → AreBytes bytes → IsRefused bytes f → (f.reason ≡ reasons.Truncated → ⊥) → (f.reason ≡ reasons.Trailing → ⊥) → IsRefused (with_item f.reason bytes f.place) f }
+{}
