@@ -1,0 +1,9 @@
+pub mod Bodies
+pub mod Firm
+pub mod CompactFirm
+pub mod Ranges
+pub mod Sizes
+pub mod Plain
+pub mod Binary
+pub mod Compact
+pub mod Round
