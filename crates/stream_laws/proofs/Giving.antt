@@ -1,0 +1,62 @@
+-- What each frame gives, and what all of them give.
+use Rattle.std.proofs.Common.{◌≡◌, ℕ, true, false, List, [], ◌∷◌, refl, ap, ◌∙◌, sym, inl, inr}
+use Rattle.std.specs.List.{flat_map}
+use Rattle.thrift_value.specs.Trees.{Message}
+use Rattle.protocol_traits.specs.declared.fault.Fault.{Fault}
+use Rattle.protocol_traits.specs.declared.proto.Proto.{Proto}
+use Rattle.protocol_traits.specs.declared.proto.Proto.TheVariants as protocols
+use Rattle.type_tables.specs.Declarations.{Declarations}
+use Rattle.translate_core.specs.declared.route.Route.{Route}
+use Rattle.translate_core.specs.declared.route.Route.TheVariants.{ByName}
+use Rattle.translate_core.specs.Body.{Source}
+use Rattle.translate_core.specs.Judged.{Judged}
+use Rattle.framed_transport.specs.Frames.{framed}
+use Rattle.binary_laws.specs.Bytes.{AreBytes}
+use Rattle.verdict_laws.specs.Rounds.{SpellsIn, plain_in}
+use Rattle.verdict_laws.specs.Verdicts.{IsPlain, IsVerdict}
+use Rattle.verdict_laws.specs.Verdicts.IsVerdict.{Passes, IsFaulty, IsUnread}
+use Rattle.verdict_laws.proofs.Binary.{binary_judged}
+use Rattle.verdict_laws.proofs.Compact.{compact_judged}
+use Rattle.verdict_laws.proofs.Round.{round}
+use Rattle.gate_run.specs.declared.doing.Doing.TheVariants.{Convert}
+use Rattle.gate_run.specs.Handling.{translated, treated_by, is_passed, bytes_of, output_of}
+use Rattle.gate_run.specs.Terms.{Terms, judged_by}
+use Rattle.stream_laws.specs.Streams.{Gives, GiveAll, AreFrames}
+
+-- what is written of a frame, by its verdict
+written : (k : Terms) (from to : Proto) (frame : List ℕ) → k.doing ≡ Convert from to → output_of k frame ≡ bytes_of (translated (judged_by k from to frame))
+written k from to frame e = ap (λ doing. bytes_of (treated_by k doing frame)) e
+
+is_plain : (to : Proto) (d : Declarations) (route : Route) (m : Message) (bytes : List ℕ) → IsPlain to d route m bytes → bytes ≡ plain_in to d route m
+is_plain protocols.Binary d route m bytes e = e
+is_plain protocols.Compact d route m bytes e = e
+is_plain protocols.Json d route m bytes e = absurd e
+
+no_pass : (j : Judged) (i : Judged) → j ≡ i → is_passed (translated i) ≡ false → (p : Judged) → j ≡ p → is_passed (translated p) ≡ true → ⊥
+no_pass j i a none p b some = let wrong : false ≡ true = sym none ∙ ap (λ x. is_passed (translated x)) (sym a ∙ b) ∙ some in absurd (cc)
+
+module _ (k : Terms) (from to : Proto) (frame : List ℕ) (doing : k.doing ≡ Convert from to) (other : to ≡ protocols.Json → ⊥) where
+  -- a frame that is refused spells none
+  none_given : (i : Judged) → judged_by k from to frame ≡ i → is_passed (translated i) ≡ false → bytes_of (translated i) ≡ [] → Gives k from to frame (output_of k frame)
+  none_given i e none empty =
+      inr (
+        (λ m spells deep. no_pass (judged_by k from to frame) i e none _ (round k.declarations (ByName k.service) from to m frame spells deep other).goes refl),
+        written k from to frame doing ∙ ap (λ x. bytes_of (translated x)) e ∙ empty,
+      )
+
+  by_verdict : {S : Type 0} (source : Source S) (IsRefused : List ℕ → Fault → Type 0) → IsVerdict source (SpellsIn from) IsRefused k.declarations (ByName k.service) to frame (judged_by k from to frame)
+      → Gives k from to frame (output_of k frame)
+  by_verdict source IsRefused (Passes m bytes spells deep plain e) =
+      inl (m, spells, deep, written k from to frame doing ∙ ap (λ x. bytes_of (translated x)) e ∙ ap framed (is_plain to k.declarations (ByName k.service) m bytes plain))
+  by_verdict source IsRefused (IsFaulty header first f headed refused e) = none_given _ e refl refl
+  by_verdict source IsRefused (IsUnread f headed refused e) = none_given _ e refl refl
+
+given : (k : Terms) (from to : Proto) (frame : List ℕ) → AreBytes frame → k.doing ≡ Convert from to → (from ≡ protocols.Json → ⊥) → (to ≡ protocols.Json → ⊥) → Gives k from to frame (output_of k frame)
+given k protocols.Binary to frame are doing first other = by_verdict k protocols.Binary to frame doing other _ _ (binary_judged k.declarations (ByName k.service) to frame are other)
+given k protocols.Compact to frame are doing first other = by_verdict k protocols.Compact to frame doing other _ _ (compact_judged k.declarations (ByName k.service) to frame are other)
+given k protocols.Json to frame are doing first other = absurd (first refl)
+
+pub all_given : (k : Terms) (from to : Proto) (frames : List (List ℕ)) → AreFrames frames → k.doing ≡ Convert from to → (from ≡ protocols.Json → ⊥) → (to ≡ protocols.Json → ⊥) → GiveAll k from to frames (flat_map (output_of k) frames)
+all_given k from to [] are doing first other = refl
+all_given k from to (frame ∷ frames) are doing first other =
+    (output_of k frame, flat_map (output_of k) frames, given k from to frame are.0 doing first other, all_given k from to frames are.1 doing first other, refl)

@@ -1,0 +1,2 @@
+-- What a stream gives in the words of the grammars.
+pub mod Streams
