@@ -1,19 +1,22 @@
 #!/usr/bin/env python3
 """Tries how a running gateway treats its connections: idle, busy, slow, broken and too many ones.
 
-    hub_trials.py [--command COMMAND] [TRIAL..]
+    hub_trials.py [--command COMMAND] [--seconds SECONDS] [TRIAL..]
 
-Without names all trials are run. Each starts a gateway from Binary to Binary, as
+Without names all trials are run, in some three minutes; SECONDS, 60 by default, is how long a client sends without a pause. Each starts a gateway from Binary to Binary, as
 
     crates/thrift_gate/out/thrift_gate serve binary binary LISTEN TARGET --accept C --sessions N --limit 1024
 
 and an upstream that answers each call by its own bytes. COMMAND runs another program, with {listen},
-{target}, {accept} and {sessions} in it. The status is 0 where every trial went well. A few seconds
-each; `system_calls` is skipped where there is no strace.
+{target}, {accept} and {sessions} in it. After each trial the greatest resident memory of the gateway has to lie within
+what docs/SERVE.md states for its sessions and sockets, and 16 MB. The status is 0 where every trial went well.
+`system_calls` is skipped where there is no strace.
 """
 import argparse
 import contextlib
 import os
+import random
+import re
 import resource
 import shutil
 import socket
@@ -30,6 +33,11 @@ PROGRAM = os.path.join(HERE, "..", "crates", "thrift_gate", "out", "thrift_gate"
 COMMAND = PROGRAM + " serve binary binary {listen} {target} --accept {accept} --sessions {sessions} --limit 1024"
 HOST = "127.0.0.1"
 MOST_FILES = 8192
+
+# The most bytes that a session holds at --limit 1024 and 1,024 open calls, and the buffers of its sockets.
+SESSION = 52 * 1024 + 16 * 1024 + 4096
+SOCKETS = 262_144
+REST = 16 << 20
 
 
 class Failed(Exception):
@@ -103,6 +111,8 @@ class Gateway:
     def __init__(self, target: str, accept: int = 0, sessions: int = 32, files: Optional[int] = None,
                  before: Optional[List[str]] = None) -> None:
         self.port = free_port()
+        self.bound = sessions * SESSION + (sessions + 1) * SOCKETS + REST
+        self.is_traced = before is not None
         self.output = tempfile.TemporaryFile("w+")
         listen = "%s:%d" % (HOST, self.port)
         words = options.command.format(listen=listen, target=target, accept=accept, sessions=sessions).split()
@@ -125,8 +135,7 @@ class Gateway:
         raise Failed("the gateway doesn't listen")
 
     def connect(self, patience: float = 20) -> socket.socket:
-        stream = socket.create_connection((HOST, self.port))
-        stream.settimeout(patience)
+        stream = socket.create_connection((HOST, self.port), timeout=patience)
         stream.setsockopt(socket.IPPROTO_TCP, socket.TCP_NODELAY, 1)
         return stream
 
@@ -138,6 +147,23 @@ class Gateway:
 
     def runs(self) -> bool:
         return self.process.poll() is None
+
+    def peak(self) -> int:
+        """The greatest resident memory so far, in bytes: 0 once it has ended."""
+        with contextlib.suppress(OSError), open("/proc/%d/status" % self.process.pid, encoding="ascii") as status:
+            found = re.search(r"VmHWM:\s+(\d+)", status.read())
+            return int(found.group(1)) * 1024 if found else 0
+        return 0
+
+    def wait_for_line(self, pattern: str, seconds: float = 10) -> str:
+        """Waits for a session's line of this form."""
+        end = time.time() + seconds
+        while time.time() < end:
+            for line in self.lines():
+                if re.fullmatch(pattern, line):
+                    return line
+            time.sleep(0.02)
+        raise Failed("no line %s in %s" % (pattern, self.lines()))
 
     def ended(self) -> List[str]:
         """The lines of a gateway that ends by itself."""
@@ -159,6 +185,8 @@ def gateway(serve: Callable[[socket.socket], None] = answering, target: Optional
     running = Gateway(target or Upstream(serve).address, **kept)
     try:
         yield running
+        peak = 0 if running.is_traced else running.peak()
+        want(peak <= running.bound, "%d bytes of memory, more than %d" % (peak, running.bound))
     finally:
         running.stop()
 
@@ -228,7 +256,116 @@ def resets() -> str:
         first.close()
         ask(second, calls(0, 1000))
         want(gate.runs(), "it ended")
-    return "the other session went on"
+        line = gate.wait_for_line("session 0: link fault: client")
+    return "the other session went on; `%s`" % line
+
+
+def stop_inside() -> str:
+    """A client that ends inside a frame gets the answers before it; one that stops there is waited for at no cost."""
+    with gateway() as gate:
+        cut, silent, other = gate.connect(), gate.connect(), gate.connect()
+        cut.sendall(calls(0, 2) + call(2)[:9])
+        cut.shutdown(socket.SHUT_WR)
+        silent.sendall(call(0)[:9])
+        want(read_to_end(cut) == answers(calls(0, 2)), "other answers")
+        line = gate.wait_for_line("session 0: client fault: frame 3: ended inside")
+        ask(other, calls(0, 1000))
+        silent.sendall(call(0)[9:])
+        want(read_bytes(silent, len(call(0))) == answers(call(0)), "other answers")
+    return "`%s`; the one that stopped went on later" % line
+
+
+def random_bytes() -> str:
+    """A client of random bytes or of random messages in good frames is told so, and hurts no other."""
+    source, count = random.Random(1), 300
+    with gateway() as gate:
+        other = gate.connect()
+        ask(other, call(1))
+        for number in range(count):
+            sent = source.randbytes(source.randrange(1, 3000))
+            if number % 2:
+                sent = struct.pack(">I", len(sent) % 1024) + sent[:len(sent) % 1024]
+            with gate.connect() as stream, contextlib.suppress(OSError):
+                stream.sendall(sent)
+                stream.shutdown(socket.SHUT_WR)
+                read_to_end(stream)
+            if number % 50 == 0:
+                ask(other, calls(number, 100))
+        ask(other, calls(0, 100))
+        lines = gate.lines()
+        good = re.compile(r"session \d+: (client fault: frame \d+: (length -?\d+|at \d+: G\d+ [\w ]+|wrong way|ended inside)|link fault: client)")
+        odd = [line for line in lines if not good.fullmatch(line)]
+        want(not odd, "such lines: %s" % odd[:3])
+        want(len(lines) >= count - 1, "%d lines for %d clients" % (len(lines), count))
+    return "%d clients, each with its fault: `%s`" % (count, lines[0])
+
+
+def never_reads() -> str:
+    """A client that sends and never reads costs nothing, and ends alone."""
+    with gateway() as gate:
+        silent, other = gate.connect(), gate.connect()
+
+        def send() -> None:
+            with contextlib.suppress(OSError):
+                for _ in range(1000):
+                    silent.sendall(calls(0, 10000))
+
+        threading.Thread(target=send, daemon=True).start()
+        time.sleep(3)
+        before = gate.seconds()
+        rates = [timed(lambda: ask(other, calls(0, 1000))) for _ in range(5)]
+        spent = gate.seconds() - before
+        want(max(rates) < 1, "a thousand calls beside it took %.2f s" % max(rates))
+        silent.setsockopt(socket.SOL_SOCKET, socket.SO_LINGER, struct.pack("ii", 1, 0))
+        silent.shutdown(socket.SHUT_RDWR)
+        silent.close()
+        line = gate.wait_for_line(r"session 0: (link fault: client|client fault: frame \d+: ended inside)")
+        ask(other, calls(0, 1000))
+    return "5,000 calls beside it took %.2f s (%.2f s of processor time); `%s`" % (sum(rates), spent, line)
+
+
+def byte_a_second() -> str:
+    """A client that reads one byte a second is waited for at no cost, and gets its bytes in order."""
+    with gateway() as gate:
+        slow, other, sent, got = gate.connect(), gate.connect(), calls(0, 100000), b""
+        slow.setsockopt(socket.SOL_SOCKET, socket.SO_RCVBUF, 4096)
+
+        def send() -> None:
+            with contextlib.suppress(OSError):
+                slow.sendall(sent)
+
+        threading.Thread(target=send, daemon=True).start()
+        time.sleep(1)
+        before = gate.seconds()
+        for number in range(8):
+            got += read_bytes(slow, 1)
+            ask(other, calls(number, 200))
+            time.sleep(1)
+        spent = gate.seconds() - before
+        want(got == answers(sent)[:8], "other bytes")
+        want(spent < 0.4, "%.2f s of processor time in 8 s" % spent)
+        want(gate.runs(), "it ended")
+    return "8 bytes came in 8 seconds, with %.2f s of processor time and 1,600 calls beside them" % spent
+
+
+def million_calls() -> str:
+    """A client that sends a million calls before it reads gets every answer, in order, and memory stays as it was."""
+    count = 1_000_000
+    with gateway() as gate:
+        many, other, sent = gate.connect(60), gate.connect(), calls(0, count)
+        sender = threading.Thread(target=many.sendall, args=(sent,), daemon=True)
+        sender.start()
+        time.sleep(3)
+        held = gate.peak()
+        beside = timed(lambda: ask(other, calls(0, 1000)))
+        want(beside < 1, "a thousand calls beside it took %.2f s" % beside)
+        took = timed(lambda: want(read_bytes(many, len(sent)) == answers(sent), "other answers"))
+        sender.join()
+        many.shutdown(socket.SHUT_WR)
+        want(read_to_end(many) == b"", "more bytes came")
+        line = gate.wait_for_line("session 0: clean")
+        want(gate.peak() - held < 1 << 20, "memory grew")
+    return "all answers came within %.1f s of the first read, at %.1f MB of memory; `%s`" % (took, held / 1e6, line)
 
 
 def slow_reader() -> str:
@@ -258,7 +395,7 @@ def refused_upstream() -> str:
 
 
 def without_pause() -> str:
-    """A client that sends without a pause holds up no other."""
+    """A client that sends without a pause, for a minute, holds up no other."""
     with gateway() as gate:
         busy, other, waits = gate.connect(), gate.connect(), []
         block, goes_on = calls(0, 1000), [True]
@@ -275,9 +412,10 @@ def without_pause() -> str:
 
         for work in (send, receive):
             threading.Thread(target=work, daemon=True).start()
-        end = time.time() + 2
+        end = time.time() + options.seconds
         while time.time() < end:
             waits.append(timed(lambda: ask(other, call(1))))
+            time.sleep(0.001)
         goes_on[0] = False
         waits.sort()
         want(waits[-1] < 1, "a call took %.2f s" % waits[-1])
@@ -303,6 +441,33 @@ def few_descriptors() -> str:
                     later += read_bytes(stream, len(call(1))) == answers(call(1))
         want(gate.runs() and later > 5, "%d more were served" % later)
     return "%d of 20 were served at once, %d more when these had left" % (len(served), later)
+
+
+def no_connection_left() -> str:
+    """A client that opens connections until none is left holds up no session that is open."""
+    with gateway(sessions=1024, files=100) as gate:
+        other = gate.connect()
+        ask(other, call(1))
+        crowd, refused = [], 0
+        while len(crowd) < 3000 and refused < 3:
+            try:
+                crowd.append(gate.connect(1))
+            except OSError:
+                refused += 1
+        before = gate.seconds()
+        beside = timed(lambda: ask(other, calls(0, 1000)))
+        time.sleep(1)
+        spent = gate.seconds() - before
+        want(beside < 1, "a thousand calls beside them took %.2f s" % beside)
+        want(spent < 0.5, "%.2f s of processor time in a second" % spent)
+        for stream in crowd:
+            stream.close()
+        time.sleep(1)
+        ask(gate.connect(), calls(0, 10))
+        ask(other, calls(0, 10))
+        want(gate.runs(), "it ended")
+    return "%d connections stood before 100 descriptors; 1,000 calls beside them took %.2f s, and one came in when they had left" % (
+        len(crowd), beside)
 
 
 def too_many() -> str:
@@ -404,8 +569,8 @@ def timed(work: Callable[[], None]) -> float:
 
 
 TRIALS: Dict[str, Callable[[], str]] = {trial.__name__: trial for trial in (
-    half_close, idle_connections, resets, slow_reader, refused_upstream, without_pause, few_descriptors, too_many,
-    end_behind_all, stops, system_calls)}
+    half_close, idle_connections, resets, stop_inside, random_bytes, never_reads, byte_a_second, million_calls, slow_reader,
+    refused_upstream, without_pause, few_descriptors, no_connection_left, too_many, end_behind_all, stops, system_calls)}
 
 
 def main() -> int:
@@ -423,6 +588,7 @@ def main() -> int:
 
 parser = argparse.ArgumentParser(description=__doc__, formatter_class=argparse.RawDescriptionHelpFormatter)
 parser.add_argument("--command", default=COMMAND)
+parser.add_argument("--seconds", type=float, default=60)
 parser.add_argument("trials", nargs="*", choices=[[], *TRIALS], metavar="TRIAL")
 options = parser.parse_args()
 if __name__ == "__main__":

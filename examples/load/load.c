@@ -3,7 +3,8 @@
  *     load PROTOCOL PORT CONNECTIONS OPEN CALLS [IDLE]
  *
  * PROTOCOL is `binary` or `compact`. Each of the CONNECTIONS keeps OPEN calls of about 60 bytes open until CALLS were answered
- * in all; IDLE more connections are opened before and send nothing. Prints the calls a second, the bytes of answers a
+ * in all; IDLE more connections are opened before and send nothing. The clock starts once each of the CONNECTIONS had one
+ * answer, so that opening them isn't measured. Prints the calls a second, the bytes of answers a
  * second, and the median, the 99th percentile and the greatest time from a call to its answer in microseconds. */
 #include <arpa/inet.h>
 #include <errno.h>
@@ -143,6 +144,23 @@ static int connect_to(int port)
     return fd;
 }
 
+/* Makes one call and waits for its answer. */
+static void warm_up(struct connection *c)
+{
+    size_t held = 0, length = compact ? compact_call(c->out, 1) : binary_call(c->out, 1);
+    if (write(c->fd, c->out, length) != (ssize_t)length)
+        exit(1);
+    do {
+        ssize_t got = read(c->fd, c->in + held, ROOM - held);
+        if (got <= 0) {
+            fprintf(stderr, "load: a connection ended\n");
+            exit(1);
+        }
+        held += (size_t)got;
+        length = 4 + ((size_t)c->in[0] << 24 | c->in[1] << 16 | c->in[2] << 8 | c->in[3]);
+    } while (held < 4 || held < length);
+}
+
 static int by_time(const void *a, const void *b)
 {
     uint32_t x = *(const uint32_t *)a, y = *(const uint32_t *)b;
@@ -171,6 +189,8 @@ int main(int count, char **words)
         epoll_ctl(poll, EPOLL_CTL_ADD, c->fd, &event);
         all[i] = c;
     }
+    for (int i = 0; i < connections; i++)
+        warm_up(all[i]);
     uint64_t start = now();
     for (int i = 0; i < connections; i++) {
         begin_calls(all[i], open);
