@@ -1,4 +1,3 @@
-mod Places
 mod Chains
 mod Followed
 mod Trailing

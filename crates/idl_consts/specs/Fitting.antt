@@ -5,7 +5,7 @@ use Rattle.idl_parser.specs.declared.document.BaseWord.{BaseWord}
 use Rattle.idl_parser.specs.declared.document.BaseWord.TheVariants as words
 use Rattle.idl_parser.specs.declared.document.Member.{Member}
 use Rattle.idl_parser.specs.Declarations.{DefinitionTree, enum_of}
-use Rattle.idl_names.specs.declared.documents.Scope.TheVariants as scopes
+use Rattle.idl_rules.specs.declared.scopes.Scope.TheVariants as scopes
 use Rattle.idl_names.specs.declared.documents.Spot.{Spot}
 use Rattle.idl_names.specs.Files.{FileTree}
 use Rattle.idl_names.specs.Meaning.{meaning}

@@ -5,7 +5,7 @@ use Rattle.idl_parser.specs.Declarations.{DefinitionTree, const_of, struct_of}
 use Rattle.idl_parser.specs.Fields.{FieldTree}
 use Rattle.idl_parser.specs.Item.{ValueItem, literal, named}
 use Rattle.idl_parser.specs.Trees.{TypeTree}
-use Rattle.idl_names.specs.declared.documents.Scope.TheVariants as scopes
+use Rattle.idl_rules.specs.declared.scopes.Scope.TheVariants as scopes
 use Rattle.idl_names.specs.declared.documents.Spot.{Spot}
 use Rattle.idl_names.specs.Files.{FileTree}
 use Rattle.idl_names.specs.Meaning.{meaning}

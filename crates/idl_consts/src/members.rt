@@ -1,13 +1,12 @@
 //! The members of enums by their names.
-ghost use Rattle.std.specs.Prelude.{◌≡◌, ◌<◌, IfSome, length, pos, option_map, option_copied};
+ghost use Rattle.std.specs.Prelude.{◌≡◌, pos, option_map, option_copied};
 ghost use Rattle.idl_parser.specs.Declarations.{definition_tree};
-ghost use Rattle.idl_names.specs.Paths.{last_place};
 ghost use Rattle.idl_consts.specs.Fitting.{after_number, number_by, number_from, members_in, member_of, any_member, with_spot};
 ghost use Rattle.idl_consts.specs.Views.{files_of};
 
 use crate::types::definition;
 use crate::view::View;
-use idl_names::{Scope, Spot};
+use idl_names::{Scope, Spot, last_place};
 use idl_parser::{Definition, Member};
 
 /// The number of the member of this name, of the enum at a spot.
@@ -81,19 +80,4 @@ fn with_spot(spot: Spot, number: Option<i64>) -> Option<(Spot, i64)>
         Some(number) => Some((spot, number)),
         None => None,
     }
-}
-
-/// The place of the last of these bytes.
-fn last_place(bytes: &[u8], mark: u8) -> Option<usize>
-    ensures place { result ≡ last_place mark bytes.now }
-    ensures within { IfSome result (λ place. place < length bytes.now) }
-{
-    let mut front = bytes;
-    'bytes: while let Some((last, rest)) = front.split_last() {
-        if *last == mark {
-            return Some(rest.len());
-        }
-        front = rest;
-    }
-    None
 }

@@ -2,8 +2,8 @@
 use Rattle.std.proofs.Common.{◌≡◌, ℕ, zero, suc, ◌+◌, ◌<◌, ◌^◌, List, [], ◌∷◌, ◌++◌, map, length, take, get_or, refl, ap, sym, ◌∙◌, arith, subst, position, slice_get, Option, Some, None, option_map, option_and_then}
 use Rattle.std.proofs.lemmas.List.{take_more, map_push}
 use Rattle.idl_names.specs.declared.documents.FileDoc.{FileDoc}
-use Rattle.idl_names.specs.declared.documents.Scope.{Scope}
-use Rattle.idl_names.specs.declared.documents.Scope.TheVariants as scopes
+use Rattle.idl_rules.specs.declared.scopes.Scope.{Scope}
+use Rattle.idl_rules.specs.declared.scopes.Scope.TheVariants as scopes
 use Rattle.idl_names.specs.declared.names.FileNames.{FileNames}
 use Rattle.idl_names.specs.Files.{FileTree, file_tree, file_trees}
 use Rattle.idl_names.specs.Index.{IsIndex, AreIndexed, place_in, places_in, include_in, include_at}

@@ -6,7 +6,7 @@ use Rattle.std.proofs.lemmas.List.{length-map}
 use Rattle.idl_parser.specs.declared.document.Definition.{Definition}
 use Rattle.idl_parser.specs.Declarations.{definition_tree}
 use Rattle.idl_names.specs.declared.documents.FileDoc.{FileDoc}
-use Rattle.idl_names.specs.declared.documents.Scope.{Scope}
+use Rattle.idl_rules.specs.declared.scopes.Scope.{Scope}
 use Rattle.idl_names.specs.Files.{FileTree, file_tree}
 use Rattle.idl_names.specs.Meaning.{declares, declared_in, spot_at, HasFewDefinitions}
 

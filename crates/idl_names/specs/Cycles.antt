@@ -5,7 +5,7 @@ use Rattle.idl_parser.specs.Declarations.{DefinitionTree, const_of, typedef_of, 
 use Rattle.idl_parser.specs.Trees.{TypeTree, base_at, named_at, map_at, set_at, list_at}
 use Rattle.idl_names.specs.declared.cycles.Cycle.{Cycle}
 use Rattle.idl_names.specs.declared.cycles.Cycle.TheVariants as cycles
-use Rattle.idl_names.specs.declared.documents.Scope.TheVariants as scopes
+use Rattle.idl_rules.specs.declared.scopes.Scope.TheVariants as scopes
 use Rattle.idl_names.specs.declared.documents.Spot.{Spot}
 use Rattle.idl_names.specs.Files.{FileTree}
 use Rattle.idl_names.specs.Meaning.{meaning, spot_at}

@@ -2,8 +2,8 @@
 use mathlib.Core.HLevel.{×_prop, Unit-prop, ⊥_prop}
 use Rattle.std.specs.Prelude.{ℕ, List, [], ◌∷◌, Option, slice_get, option_and_then}
 use Rattle.std.proofs.Props.{props}
-use Rattle.idl_names.specs.declared.documents.Scope.{Scope}
-use Rattle.idl_names.specs.declared.documents.Scope.TheVariants as scopes
+use Rattle.idl_rules.specs.declared.scopes.Scope.{Scope}
+use Rattle.idl_rules.specs.declared.scopes.Scope.TheVariants as scopes
 use Rattle.idl_names.specs.declared.names.FileNames.{FileNames}
 use Rattle.idl_names.specs.Files.{FileTree}
 use Rattle.idl_names.specs.Meaning.{name_in}

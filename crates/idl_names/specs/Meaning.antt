@@ -4,8 +4,8 @@ use Rattle.std.specs.List.{All}
 use Rattle.std.specs.Cmp.Lexicographic.{pointwise}
 use Rattle.idl_parser.specs.declared.document.Name.{Name}
 use Rattle.idl_parser.specs.Declarations.{DefinitionTree, const_of, typedef_of, enum_of, struct_of, service_of}
-use Rattle.idl_names.specs.declared.documents.Scope.{Scope}
-use Rattle.idl_names.specs.declared.documents.Scope.TheVariants as scopes
+use Rattle.idl_rules.specs.declared.scopes.Scope.{Scope}
+use Rattle.idl_rules.specs.declared.scopes.Scope.TheVariants as scopes
 use Rattle.idl_names.specs.declared.documents.Spot.{Spot}
 use Rattle.idl_names.specs.Files.{FileTree}
 use Rattle.idl_names.specs.Paths.{base_name, last_place}

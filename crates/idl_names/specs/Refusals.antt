@@ -10,8 +10,8 @@ use Rattle.idl_rules.specs.declared.row.IdlRow.TheVariants as rows
 use Rattle.idl_rules.specs.Doubles.{when}
 use Rattle.idl_rules.specs.Order.{Refusal}
 use Rattle.idl_names.specs.declared.cycles.Cycle.{Cycle}
-use Rattle.idl_names.specs.declared.documents.Scope.{Scope}
-use Rattle.idl_names.specs.declared.documents.Scope.TheVariants as scopes
+use Rattle.idl_rules.specs.declared.scopes.Scope.{Scope}
+use Rattle.idl_rules.specs.declared.scopes.Scope.TheVariants as scopes
 use Rattle.idl_names.specs.declared.documents.Spot.{Spot}
 use Rattle.idl_names.specs.Cycles.{cycle_at, is_absent, is_on}
 use Rattle.idl_names.specs.Files.{FileTree}

@@ -13,15 +13,6 @@ pub struct FileDoc {
 /// The files that a root file leads to, in the order in which they were first fetched.
 pub type Documents = Seq<FileDoc>;
 
-/// The three scopes of a file.
-#[derive(Clone, Copy, Debug, PartialEq, Eq)]
-pub enum Scope {
-    /// Typedefs, enums, structs, unions and exceptions.
-    Types,
-    Constants,
-    Services,
-}
-
 /// Where a definition stands: the place of its file among all files, and its own among that file's definitions.
 #[derive(Clone, Copy, Debug, PartialEq, Eq, Hash)]
 pub struct Spot {

@@ -7,13 +7,14 @@ ghost use Rattle.idl_names.specs.Files.{file_trees};
 ghost use Rattle.idl_names.specs.Marks.{IsBeyond, fresh_spots};
 ghost use Rattle.idl_names.specs.Sets.{is_among, listed_spot, with_all};
 
-use crate::documents::{Scope, Spot};
+use crate::documents::Spot;
 use crate::marks::Marks;
 use crate::names::Names;
 use crate::spot_set::SpotSet;
 use crate::targets::definition_at;
 use gate_io::OutOfMemory;
 use idl_parser::{Definition, Name, TypeExpr, TypeForm};
+use idl_rules::Scope;
 use std::alloc::Global;
 
 /// The spots that a definition leads to, in one step or more.

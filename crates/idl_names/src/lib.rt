@@ -21,7 +21,8 @@ mod spot_set;
 mod targets;
 
 pub use cycles::{Cycle, Cycles};
-pub use documents::{Documents, FileDoc, Scope, Spot};
+pub use documents::{Documents, FileDoc, Spot};
+pub use idl_rules::Scope;
 pub use meaning::look_up;
 pub use names::Names;
 pub use paths::{base_name, last_place};

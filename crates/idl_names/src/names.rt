@@ -8,12 +8,13 @@ ghost use Rattle.idl_names.specs.Paths.{base_name};
 ghost use Rattle.idl_names.specs.Places.{TellsFirst};
 ghost use Rattle.idl_names.specs.Targets.{definition_count};
 
-use crate::documents::{Documents, FileDoc, Scope, Spot};
+use crate::documents::{Documents, FileDoc, Spot};
 use crate::meaning::{file_at, name_in};
 use crate::paths::{base_name, last_place};
 use crate::places::Places;
 use gate_io::OutOfMemory;
 use idl_parser::{Definition, Name};
+use idl_rules::Scope;
 use std::alloc::Global;
 
 /// The files of an IDL, where each name is found without a walk over its file.

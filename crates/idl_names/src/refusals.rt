@@ -10,12 +10,12 @@ ghost use Rattle.idl_names.specs.Targets.{target_of};
 ghost use Rattle.idl_names.specs.Told.{target_tree};
 
 use crate::cycles::Cycles;
-use crate::documents::{Scope, Spot};
+use crate::documents::Spot;
 use crate::meaning::file_at;
 use crate::names::Names;
 use crate::targets::{Target, resolve_type};
 use idl_parser::{Definition, FieldDecl, Function, Kin, Name, TypeExpr, TypeForm};
-use idl_rules::{IdlRow, Least};
+use idl_rules::{IdlRow, Least, Scope};
 
 /// Notes a name that this scope has not: as unknown, where no scope has it.
 fn check_word(

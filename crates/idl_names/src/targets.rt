@@ -6,10 +6,11 @@ ghost use Rattle.idl_names.specs.Files.{file_trees};
 ghost use Rattle.idl_names.specs.Targets.{definition_at, spot_step, type_step, target_of};
 ghost use Rattle.idl_names.specs.Told.{step_tree, target_tree};
 
-use crate::documents::{FileDoc, Scope, Spot};
+use crate::documents::{FileDoc, Spot};
 use crate::meaning::file_at;
 use crate::names::Names;
 use idl_parser::{Definition, Kin, TypeExpr, TypeForm};
+use idl_rules::Scope;
 
 /// What a type is, where its typedefs are followed.
 #[derive(Clone, Copy)]

@@ -13,7 +13,7 @@ use Rattle.idl_rules.specs.Order.{Refusal, least_of}
 use Rattle.idl_rules.specs.Rules.{rule_refusals}
 use Rattle.idl_names.specs.declared.cycles.Cycle.{Cycle}
 use Rattle.idl_names.specs.declared.cycles.Cycle.TheVariants as cycles
-use Rattle.idl_names.specs.declared.documents.Scope.TheVariants as scopes
+use Rattle.idl_rules.specs.declared.scopes.Scope.TheVariants as scopes
 use Rattle.idl_names.specs.declared.documents.Spot.{Spot}
 use Rattle.idl_names.specs.Cycles.{IsTold, cycle_at, is_absent, is_on}
 use Rattle.idl_names.specs.Files.{FileTree}

@@ -18,4 +18,5 @@ pub use ids::{FieldId, count_on, field_id};
 pub use least::Least;
 pub use row::{IdlFault, IdlRow};
 pub use rules::check_rules;
+pub use scopes::Scope;
 pub use values::{member_value, number_after};

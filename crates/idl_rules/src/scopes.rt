@@ -13,7 +13,7 @@ use std::alloc::Global;
 
 /// A scope of a file: in each a name is declared once.
 #[derive(Clone, Copy, Debug, PartialEq, Eq)]
-pub(crate) enum Scope {
+pub enum Scope {
     /// Typedefs, enums, structs, unions and exceptions.
     Types,
     Constants,

@@ -3,7 +3,7 @@ use Rattle.std.proofs.Common.{◌≡◌, ◌∙◌, ℕ, zero, suc, ◌+◌, Lis
 use Rattle.std.specs.Prelude.{option_and_then}
 use Rattle.idl_parser.specs.Declarations.{DefinitionTree, const_of, typedef_of, enum_of, struct_of, service_of}
 use Rattle.idl_parser.specs.Trees.{TypeTree, base_at, named_at, map_at, set_at, list_at}
-use Rattle.idl_names.specs.declared.documents.Scope.TheVariants as scopes
+use Rattle.idl_rules.specs.declared.scopes.Scope.TheVariants as scopes
 use Rattle.idl_names.specs.declared.documents.Spot.{Spot}
 use Rattle.idl_names.specs.Files.{FileTree}
 use Rattle.idl_names.specs.Meaning.{meaning}

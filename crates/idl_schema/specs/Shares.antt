@@ -3,7 +3,7 @@ use Rattle.std.specs.Prelude.{ℕ, ℤ, suc, ◌==◌, List, [], ◌∷◌, ◌+
 use Rattle.idl_parser.specs.declared.document.Name.{Name}
 use Rattle.idl_parser.specs.Declarations.{DefinitionTree, FunctionTree, const_of, typedef_of, enum_of, struct_of, service_of}
 use Rattle.idl_rules.specs.Values.{member_values}
-use Rattle.idl_names.specs.declared.documents.Scope.TheVariants as scopes
+use Rattle.idl_rules.specs.declared.scopes.Scope.TheVariants as scopes
 use Rattle.idl_names.specs.declared.documents.Spot.{Spot}
 use Rattle.idl_names.specs.Files.{FileTree}
 use Rattle.idl_names.specs.Meaning.{meaning, included}

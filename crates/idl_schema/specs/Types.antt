@@ -7,7 +7,7 @@ use Rattle.idl_parser.specs.Trees.{TypeTree, base_at, named_at, map_at, set_at, 
 use Rattle.type_tables.specs.declared.declared.Ty.{Ty}
 use Rattle.type_tables.specs.declared.declared.Ty.TheVariants as types
 use Rattle.type_tables.specs.declared.declared.TyId.{TyId}
-use Rattle.idl_names.specs.declared.documents.Scope.TheVariants as scopes
+use Rattle.idl_rules.specs.declared.scopes.Scope.TheVariants as scopes
 use Rattle.idl_names.specs.declared.documents.Spot.{Spot}
 use Rattle.idl_names.specs.Files.{FileTree}
 use Rattle.idl_names.specs.Meaning.{meaning}

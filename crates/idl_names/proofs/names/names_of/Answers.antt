@@ -1,5 +1,5 @@
 use Rattle.idl_parser.specs.Declarations.{definition_tree}
-use Rattle.idl_names.specs.declared.documents.Scope.TheVariants as scopes
+use Rattle.idl_rules.specs.declared.scopes.Scope.TheVariants as scopes
 use Rattle.idl_names.specs.Meaning.{name_in}
 use Rattle.idl_names.specs.Paths.{base_name}
 use Rattle.idl_names.proofs.Indexed.{tells_trees, tells_same}
