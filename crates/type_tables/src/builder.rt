@@ -1,5 +1,5 @@
 //! What builds a schema: each thing is added with the number that it then has.
-ghost use Rattle.std.specs.Prelude.{◌≡◌, IsTrue, ◌<◌, ◌+◌, ◌^◌, IfOk, OnOk, OnErr, length};
+ghost use Rattle.std.specs.Prelude.{◌≡◌, ◌↔◌, IsTrue, ◌<◌, ◌+◌, ◌^◌, IfOk, OnOk, OnErr, length};
 ghost use Rattle.type_tables.specs.Adding.{Adds};
 ghost use Rattle.type_tables.specs.Declarations.{with_type, with_enum, with_struct, with_fields, with_field, with_service, with_method, with_files};
 ghost use Rattle.type_tables.specs.Fields.{place_of};
@@ -137,6 +137,7 @@ impl SchemaBuilder {
         ensures enums { IsTrue result → length self.now.enums + 1 < 2 ^ 32 }
         ensures structs { IsTrue result → length self.now.structs + 1 < 2 ^ 32 }
         ensures services { IsTrue result → length self.now.services + 1 < 2 ^ 32 }
+        ensures full { length self.now.types + 1 < 2 ^ 32 → length self.now.enums + 1 < 2 ^ 32 → length self.now.structs + 1 < 2 ^ 32 → length self.now.services + 1 < 2 ^ 32 → IsTrue result }
     {
         self.tables.has_room()
     }
@@ -157,7 +158,7 @@ impl SchemaBuilder {
 
     /// Whether each number that was handed in is one of this schema's. Takes no memory.
     pub fn is_closed(&self) -> bool
-        ensures { IsTrue result → IsClosed self.now }
+        ensures { IsTrue result ↔ IsClosed self.now }
     {
         closing::is_closed(&self.tables)
     }

@@ -14,7 +14,8 @@ use std::alloc::Global;
 
 /// Whether each number that was handed in is one of these tables.
 pub(crate) fn is_closed(tables: &Tables) -> bool
-    ensures { IsTrue result → IsClosed tables.now }
+    ensures closed { IsTrue result → IsClosed tables.now }
+    ensures all { IsClosed tables.now → IsTrue result }
 {
     if !types_closed(tables, tables.types.as_slice()) {
         return false;
@@ -26,7 +27,7 @@ pub(crate) fn is_closed(tables: &Tables) -> bool
 }
 
 fn knows(tables: &Tables, ty: Ty) -> bool
-    ensures { IsTrue result → IsKnown tables.now ty }
+    ensures { IsTrue result ↔ IsKnown tables.now ty }
 {
     match ty {
         Ty::Enum(e) => (e.0 as usize) < tables.enums.len(),
@@ -45,7 +46,7 @@ fn has_part(tables: &Tables, part: u32) -> bool
 }
 
 fn types_closed(tables: &Tables, types: &[Ty]) -> bool
-    ensures { IsTrue result → All (IsKnown tables.now) types.now }
+    ensures { IsTrue result ↔ All (IsKnown tables.now) types.now }
 {
     for ty in types {
         if !knows(tables, *ty) {
@@ -56,7 +57,7 @@ fn types_closed(tables: &Tables, types: &[Ty]) -> bool
 }
 
 fn structs_closed(tables: &Tables, structs: &[StructDecl]) -> bool
-    ensures { IsTrue result → All (λ s. All (λ f. IsKnown tables.now f.ty) s.fields) structs.now }
+    ensures { IsTrue result ↔ All (λ s. All (λ f. IsKnown tables.now f.ty) s.fields) structs.now }
 {
     for decl in structs {
         if !fields_closed(tables, &decl.fields) {
@@ -67,7 +68,7 @@ fn structs_closed(tables: &Tables, structs: &[StructDecl]) -> bool
 }
 
 fn fields_closed(tables: &Tables, fields: &FieldList) -> bool
-    ensures { IsTrue result → All (λ f. IsKnown tables.now f.ty) fields.now }
+    ensures { IsTrue result ↔ All (λ f. IsKnown tables.now f.ty) fields.now }
 {
     for field in fields.as_slice() {
         if !knows(tables, field.ty) {
@@ -80,6 +81,7 @@ fn fields_closed(tables: &Tables, fields: &FieldList) -> bool
 fn services_closed(tables: &Tables, services: &[ServiceDecl]) -> bool
     ensures methods { IsTrue result → All (λ s. All (λ m. IsKnownMethod tables.now m.1) s.methods) services.now }
     ensures bases { IsTrue result → All (λ s. IsKnownBase tables.now s.base) services.now }
+    ensures closed { All (λ s. All (λ m. IsKnownMethod tables.now m.1) s.methods) services.now → All (λ s. IsKnownBase tables.now s.base) services.now → IsTrue result }
 {
     for decl in services {
         if !service_closed(tables, decl) {
@@ -92,6 +94,7 @@ fn services_closed(tables: &Tables, services: &[ServiceDecl]) -> bool
 fn service_closed(tables: &Tables, service: &ServiceDecl) -> bool
     ensures methods { IsTrue result → All (λ m. IsKnownMethod tables.now m.1) service.now.methods }
     ensures bases { IsTrue result → IsKnownBase tables.now service.now.base }
+    ensures closed { All (λ m. IsKnownMethod tables.now m.1) service.now.methods → IsKnownBase tables.now service.now.base → IsTrue result }
 {
     if !knows_base(tables, service.base) {
         return false;
@@ -100,7 +103,7 @@ fn service_closed(tables: &Tables, service: &ServiceDecl) -> bool
 }
 
 fn knows_base(tables: &Tables, base: Option<ServiceId>) -> bool
-    ensures { IsTrue result → IsKnownBase tables.now base }
+    ensures { IsTrue result ↔ IsKnownBase tables.now base }
 {
     match base {
         Some(base) => (base.0 as usize) < tables.services.len(),
@@ -109,7 +112,7 @@ fn knows_base(tables: &Tables, base: Option<ServiceId>) -> bool
 }
 
 fn methods_closed(tables: &Tables, methods: &NameTable<MethodInfo>) -> bool
-    ensures { IsTrue result → All (λ m. IsKnownMethod tables.now m.1) methods.now }
+    ensures { IsTrue result ↔ All (λ m. IsKnownMethod tables.now m.1) methods.now }
 {
     for at in 0..methods.len() {
         if let Some(method) = methods.at(at) {
@@ -122,7 +125,7 @@ fn methods_closed(tables: &Tables, methods: &NameTable<MethodInfo>) -> bool
 }
 
 fn knows_method(tables: &Tables, method: MethodInfo) -> bool
-    ensures { IsTrue result → IsKnownMethod tables.now method }
+    ensures { IsTrue result ↔ IsKnownMethod tables.now method }
 {
     let structs = tables.structs.len();
     (method.args.0 as usize) < structs && (method.result.0 as usize) < structs

@@ -1,5 +1,5 @@
 //! The fields of one struct, in the order of their declaration, found by their ids.
-ghost use Rattle.std.specs.Prelude.{◌≡◌, ◌↔◌, IsTrue, ◌++◌, ◌∷◌, ◌≤◌, ◌<◌, ◌+◌, ◌^◌, [], length, option_copied, slice_get, int_lt};
+ghost use Rattle.std.specs.Prelude.{◌≡◌, ◌↔◌, IsTrue, IfSome, Some, ◌++◌, ◌∷◌, ◌≤◌, ◌<◌, ◌+◌, ◌^◌, [], length, option_copied, slice_get, int_lt};
 ghost use Rattle.type_tables.specs.Adding.{Adds};
 ghost use Rattle.type_tables.specs.Fields.{rank, same_id, place_in, at_rank, place_of, at_place, Rising};
 
@@ -64,6 +64,7 @@ impl FieldList {
     }
 
     /// The place of the field with this id.
+    #[inline(always)]
     pub(crate) fn place(&self, id: i16) -> Option<usize>
         ensures { result ≡ place_of id self.now }
     {
@@ -71,6 +72,7 @@ impl FieldList {
     }
 
     /// The field at a place.
+    #[inline(always)]
     pub(crate) fn at(&self, place: usize) -> Option<&FieldInfo>
         ensures { option_copied result ≡ slice_get self.now place }
     {
@@ -78,6 +80,7 @@ impl FieldList {
     }
 
     /// The field with this id.
+    #[inline(always)]
     pub(crate) fn find(&self, id: i16) -> Option<&FieldInfo>
         ensures { option_copied result ≡ at_place self.now (place_of id self.now) }
     {
@@ -128,69 +131,14 @@ fn is_at(place: &Place, id: i16) -> bool
     place.id == id
 }
 
-/// Ranks from the lowest to the highest.
-#[derive(Clone, Copy)]
-struct Ranks {
-    low: usize,
-    high: usize,
-}
-
-fn all_of(places: &[Place]) -> Ranks
-    ensures low { result.low ≡ 0 }
-    ensures high { result.high ≡ length places.now }
-{
-    Ranks {
-        low: 0,
-        high: places.len(),
-    }
-}
-
-fn one(rank: usize) -> Ranks
-    ensures low { result.low ≡ rank }
-    ensures high { result.high ≡ rank }
-{
-    Ranks {
-        low: rank,
-        high: rank,
-    }
-}
-
-// How many ids are below this one where they are numbered from 1 on, as those of most structs are.
-fn numbered(id: i16) -> usize {
-    if id > 0 { id as usize - 1 } else { 0 }
-}
-
-// The ranks among which that of this id is: a single one where ids are numbered from 1 on.
-fn near(places: &[Place], id: i16) -> Ranks
-    requires { Rising places.now }
-    ensures low { result.low ≤ rank id places.now }
-    ensures high { rank id places.now ≤ result.high }
-    ensures within { result.high ≤ length places.now }
-{
-    let guess = numbered(id);
-    if guess >= places.len() {
-        return all_of(places);
-    }
-    if is_below(&places[guess], id) {
-        return all_of(places);
-    }
-    if guess == 0 {
-        return one(guess);
-    }
-    if is_below(&places[guess - 1], id) {
-        one(guess)
-    } else {
-        all_of(places)
-    }
-}
-
 // How many ids are below this one.
 fn rank(places: &[Place], id: i16) -> usize
     requires { Rising places.now }
     ensures value { result ≡ rank id places.now }
     ensures within { result ≤ length places.now }
 {
-    let Ranks { mut low, mut high } = near(places, id);
+    let mut low = 0;
+    let mut high = places.len();
     while low < high {
         let middle = low + (high - low) / 2;
         if is_below(&places[middle], id) {
@@ -223,7 +171,39 @@ fn nth(places: &[Place], at: usize) -> Option<&Place>
     places.get(at)
 }
 
+// The place beside this id.
+#[inline(always)]
 fn place_in(places: &[Place], id: i16) -> Option<usize>
+    requires { Rising places.now }
+    ensures { result ≡ place_in id places.now }
+{
+    match numbered(places, id) {
+        Some(place) => Some(place),
+        None => searched(places, id),
+    }
+}
+
+// The place beside this id where ids are numbered from 1 on, as those of most structs are.
+#[inline(always)]
+fn numbered(places: &[Place], id: i16) -> Option<usize>
+    requires { Rising places.now }
+    ensures { IfSome result (λ at. place_in id places.now ≡ Some at) }
+{
+    let guess = guess(id);
+    if guess < places.len() && is_at(&places[guess], id) {
+        return Some(places[guess].at as usize);
+    }
+    None
+}
+
+// How many ids are below this one where they are numbered from 1 on.
+fn guess(id: i16) -> usize {
+    if id > 0 { id as usize - 1 } else { 0 }
+}
+
+// The place beside this id, wherever it stands.
+#[inline(never)]
+fn searched(places: &[Place], id: i16) -> Option<usize>
     requires { Rising places.now }
     ensures { result ≡ place_in id places.now }
 {

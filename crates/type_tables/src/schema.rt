@@ -49,6 +49,7 @@ impl Schema {
     }
 
     /// The field of a struct that has this id.
+    #[inline(always)]
     pub fn field(&self, s: StructId, id: i16) -> Option<&FieldInfo>
         requires { s.0 < length self.now.structs }
         ensures value { option_copied result ≡ field_in id (fields_of self.now.structs s.0) }

@@ -143,6 +143,7 @@ impl Tables {
         ensures enums { IsTrue result → length self.now.enums + 1 < 2 ^ 32 }
         ensures structs { IsTrue result → length self.now.structs + 1 < 2 ^ 32 }
         ensures services { IsTrue result → length self.now.services + 1 < 2 ^ 32 }
+        ensures full { length self.now.types + 1 < 2 ^ 32 → length self.now.enums + 1 < 2 ^ 32 → length self.now.structs + 1 < 2 ^ 32 → length self.now.services + 1 < 2 ^ 32 → IsTrue result }
     {
         is_few(self.types.len())
             && is_few(self.enums.len())

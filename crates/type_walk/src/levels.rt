@@ -1,5 +1,5 @@
 //! The open structs and containers of which something is declared, at most `DEPTH` of them, in a fixed place.
-ghost use Rattle.std.specs.Prelude.{◌≡◌, ◌<◌, ◌≤◌, ◌+◌, ℕ, List, [], ◌∷◌, length, option_copied, replicate, slice_set};
+ghost use Rattle.std.specs.Prelude.{◌≡◌, ◌<◌, ◌≤◌, ◌+◌, ℕ, Some, List, [], ◌∷◌, length, option_copied, replicate, slice_set};
 ghost use Rattle.type_walk.specs.declared.levels.Level.TheVariants.{Unknown};
 ghost use Rattle.type_walk.specs.declared.levels.Level.{Level};
 ghost use Rattle.type_walk.specs.Stack.{first_of, rest_of};
@@ -91,6 +91,16 @@ impl Levels {
             return None;
         }
         Some(&self.top)
+    }
+
+    /// The innermost of the open levels, where it lies.
+    #[inline(always)]
+    pub fn innermost(&self) -> &Level
+        requires { 0 < length self.now }
+        ensures { first_of self.now ≡ Some result.now }
+    {
+        let _ = &self.depth;
+        &self.top
     }
 
     /// Opens one more level inside.

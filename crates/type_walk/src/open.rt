@@ -79,7 +79,12 @@ impl Open {
         ensures sound { IsSound schema.now self.new }
     {
         match *event {
-            Event::Field(id, kind) => self.next = field_type(schema, self.known.top(), id, kind),
+            Event::Field(id, kind) => self.next = field_type(
+                schema,
+                self.known.innermost(),
+                id,
+                kind,
+            ),
             Event::Stop | Event::End => self.leave(schema),
             Event::StructBegin => self.enter_struct(schema),
             Event::MapBegin(key, value, _) => self.enter_map(schema, key, value),
@@ -138,6 +143,7 @@ impl Open {
     }
 
     /// A struct or container has begun where a value was called for.
+    #[inline(always)]
     fn enter(&mut self, schema: &Schema, level: Level)
         requires sound { IsSound schema.now self.old }
         requires known { IsKnownLevel schema.now level }
@@ -173,7 +179,7 @@ impl Open {
         self.next = called_for(self.known.top());
     }
 
-    /// A value has come: after a key comes its value, after that the next key.
+    /// A value has come. Most stand in a struct, so that is asked first.
     #[inline(always)]
     fn spend(&mut self, schema: &Schema)
         requires sound { IsSound schema.now self.old }
@@ -184,17 +190,34 @@ impl Open {
         ensures sound { IsSound schema.now self.new }
         ensures all { self.new.unknown ≡ 0 }
     {
-        match self.known.top() {
-            Some(&Level::Keys(key, value)) => {
+        match self.known.innermost() {
+            Level::Fields(_) => self.next = Ty::Unknown,
+            _ => self.spend_part(schema),
+        }
+    }
+
+    /// A part of a container has come: after a key comes its value, after that the next key.
+    #[inline(always)]
+    fn spend_part(&mut self, schema: &Schema)
+        requires sound { IsSound schema.now self.old }
+        requires all { self.old.unknown ≡ 0 }
+        requires open { 0 < length self.old.known }
+        ensures levels { self.new.known ≡ passed self.old.known }
+        ensures after { position_of schema.now self.new ≡ standing schema.now (passed self.old.known) }
+        ensures sound { IsSound schema.now self.new }
+        ensures all { self.new.unknown ≡ 0 }
+    {
+        match *self.known.innermost() {
+            Level::Keys(key, value) => {
                 self.known.set_top(Level::Values(key, value));
                 self.next = value;
             }
-            Some(&Level::Values(key, value)) => {
+            Level::Values(key, value) => {
                 self.known.set_top(Level::Keys(key, value));
                 self.next = key;
             }
-            Some(&Level::Elements(element)) => self.next = element,
-            Some(Level::Fields(_) | Level::Unknown) | None => self.next = Ty::Unknown,
+            Level::Elements(element) => self.next = element,
+            Level::Fields(_) | Level::Unknown => self.next = Ty::Unknown,
         }
     }
 }

@@ -14,17 +14,18 @@ use type_tables::{Schema, StructId, Ty, TyId};
 
 /// The type of the field with this id, where a value of this kind is announced.
 #[inline(always)]
-pub fn field_type(schema: &Schema, level: Option<&Level>, id: i16, kind: Kind) -> Ty
-    requires { IfSome (option_copied level) (IsKnownLevel schema.now) }
-    ensures value { result ≡ field_type schema.now (option_copied level.entry) id kind }
+pub fn field_type(schema: &Schema, level: &Level, id: i16, kind: Kind) -> Ty
+    requires { IsKnownLevel schema.now level.now }
+    ensures value { result ≡ field_type schema.now (Some level.now) id kind }
     ensures known { IsKnown schema.now result }
 {
     match level {
-        Some(Level::Fields(s)) => declared_field(schema, *s, id, kind),
+        Level::Fields(s) => declared_field(schema, *s, id, kind),
         _ => Ty::Unknown,
     }
 }
 
+#[inline(always)]
 fn declared_field(schema: &Schema, s: StructId, id: i16, kind: Kind) -> Ty
     requires { IsKnownLevel schema.now (Level.Fields s) }
     ensures value { result ≡ field_type schema.now (Some (Level.Fields s)) id kind }
@@ -151,13 +152,39 @@ fn filler(kind: Option<Kind>) -> Kind
 }
 
 /// The declared type, where a value of this kind stands.
+#[inline(always)]
 fn under(ty: Ty, kind: Kind) -> Ty
     ensures value { result ≡ under ty kind }
     ensures known { (d : Declarations) → IsKnown d ty → IsKnown d result }
 {
-    match ty.kind() {
-        Some(own) if rank(own) == rank(kind) => ty,
-        _ => Ty::Unknown,
+    if own_rank(ty) == rank(kind) {
+        ty
+    } else {
+        Ty::Unknown
+    }
+}
+
+/// The number of the kind of a declared type's values; of `Unknown`, which has none, any. One look-up in a table, and
+/// no jump by the type for each field.
+fn own_rank(ty: Ty) -> u8
+    ensures { IfSome (kind_of ty) (λ own. result ≡ rank_of own) }
+{
+    match ty {
+        Ty::Unknown => 0,
+        Ty::Bool => rank(Kind::Bool),
+        Ty::I8 => rank(Kind::I8),
+        Ty::I16 => rank(Kind::I16),
+        Ty::I32 => rank(Kind::I32),
+        Ty::I64 => rank(Kind::I64),
+        Ty::Double => rank(Kind::Double),
+        Ty::Text => rank(Kind::Str),
+        Ty::Blob => rank(Kind::Str),
+        Ty::Enum(_) => rank(Kind::I32),
+        Ty::Struct(_) => rank(Kind::Struct),
+        Ty::Map(_, _) => rank(Kind::Map),
+        Ty::Set(_) => rank(Kind::Set),
+        Ty::List(_) => rank(Kind::List),
+        Ty::Uuid => rank(Kind::Uuid),
     }
 }
 
