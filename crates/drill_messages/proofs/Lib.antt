@@ -1,5 +1,4 @@
 mod Drawing
 mod Spelling
-mod Streams
 mod Rounds
 mod Takes

@@ -8,10 +8,11 @@ use Rattle.std.proofs.lemmas.List.Sums.{sum_by_push}
 use Rattle.framed_transport.specs.Frames.{framed}
 use Rattle.drill_messages.specs.declared.totals.Totals.{Totals}
 use Rattle.drill_messages.specs.Messages.{Put, message, behind_message, messages_from, messages}
-use Rattle.drill_messages.specs.Outcome.{stream_of, totals_of, AppendsFront, Flushed}
+use Rattle.drill_messages.specs.Outcome.{stream_of, totals_of}
+use Rattle.gate_io.specs.Fronts.{AppendsFront, Flushed}
 use Rattle.drill_messages.specs.Spellings.{binary_of, compact_of, json_of}
 use Rattle.drill_messages.specs.Rooms.{IsWithin, lengths_of, sum_of}
-use Rattle.drill_messages.proofs.Streams.{appends_on, appends_none, waiting_more, flush_kept, front_of_gathered, front_of_more, all_written, some_wait}
+use Rattle.gate_io.proofs.Streams.{appends_on, appends_none, waiting_more, flush_kept, front_of_gathered, front_of_more, all_written, some_wait}
 
 -- the state behind so many messages
 abbrev pub behind_messages : ℕ → ℕ → ℕ

@@ -1,7 +1,6 @@
 -- What is written of the messages, and their lengths.
-use Rattle.std.specs.Prelude.{◌≡◌, ℕ, ◌≤◌, List, ◌++◌, length, take, Option}
+use Rattle.std.specs.Prelude.{ℕ, List, length}
 use Rattle.std.specs.List.{flat_map, sum_by}
-use Rattle.std.specs.Io.KnownBytes.{Appends}
 use Rattle.framed_transport.specs.Frames.{framed}
 use Rattle.drill_messages.specs.declared.totals.Totals.{Totals}
 use Rattle.drill_messages.specs.Messages.{Put}
@@ -18,11 +17,3 @@ totals_of messages = record {
   compact = sum_by (λ m. length (compact_of m)) messages;
   json = sum_by (λ m. length (json_of m)) messages;
 }
-
--- a front of some bytes was written
-abbrev pub AppendsFront : Option (List ℕ) → Option (List ℕ) → List ℕ → Type 0
-AppendsFront old new bytes = (count : ℕ) × (count ≤ length bytes) × Appends old new (take count bytes)
-
--- some bytes more were written, the first of those that waited, and the others still wait
-abbrev pub Flushed : Option (List ℕ) → List ℕ → Option (List ℕ) → List ℕ → Type 0
-Flushed written waiting written' waiting' = (sent : List ℕ) × Appends written written' sent × (waiting ≡ sent ++ waiting')

@@ -3,15 +3,15 @@ ghost use Rattle.std.specs.Prelude.{◌≡◌, ◌≤◌, ◌+◌, [], length, I
 ghost use Rattle.std.specs.Io.KnownBytes.{Appends};
 ghost use Rattle.gate_io.specs.Causes.{Rose};
 ghost use Rattle.drill_messages.specs.Messages.{messages};
-ghost use Rattle.drill_messages.specs.Outcome.{stream_of, totals_of, AppendsFront, Flushed};
+ghost use Rattle.drill_messages.specs.Outcome.{stream_of, totals_of};
+ghost use Rattle.gate_io.specs.Fronts.{AppendsFront, Flushed};
 ghost use Rattle.drill_messages.specs.Ends.{IfDone};
 ghost use Rattle.drill_messages.specs.Rooms.{IsOpen};
 
 use crate::Totals;
 use crate::draws::Draws;
 use crate::rooms::{FRAME_ROOM, Rooms, added, make_one, open};
-use crate::writing::{Wrote, flush};
-use gate_io::{Out, OutOfMemory, Sink};
+use gate_io::{Out, OutOfMemory, Sink, Wrote, flush};
 use std::alloc::Global;
 
 /// What came of making messages.

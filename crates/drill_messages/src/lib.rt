@@ -17,7 +17,6 @@ mod rooms;
 #[cfg(test)]
 mod tests;
 mod totals;
-mod writing;
 
 pub use drilling::{Drilled, drill};
 pub use totals::Totals;

@@ -4,4 +4,5 @@ pub mod Links
 pub mod Moved
 pub mod Named
 pub mod Sessions
+pub mod Streams
 pub mod Windows

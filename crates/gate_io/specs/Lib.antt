@@ -2,6 +2,7 @@
 pub mod Buffer
 pub mod Causes
 pub mod Fetching
+pub mod Fronts
 pub mod Hubs
 pub mod Meaning
 pub mod Memory

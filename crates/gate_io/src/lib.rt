@@ -19,6 +19,7 @@ mod outside;
 mod standard;
 #[cfg(test)]
 mod tests;
+mod writing;
 
 pub use buffer::Out;
 pub use disk::DiskFiles;
@@ -29,3 +30,4 @@ pub use memory::{MemSink, MemSource};
 pub use memory_hub::{HubStep, HubSteps, MemHub};
 pub use outside::{Got, OutOfMemory, Put, Sink, Source};
 pub use standard::{StdSink, StdSource};
+pub use writing::{Wrote, flush, write_all};

@@ -1,5 +1,6 @@
-//! The standard streams. They tell no content.
-ghost use Rattle.std.specs.Prelude.{◌≡◌, None};
+//! Streams of std. They tell what their readers and writers tell: those of slices and vectors all, and the standard
+//! streams nothing.
+ghost use Rattle.std.specs.Prelude.{◌≡◌};
 
 use crate::{Got, Put, Sink, Source};
 use std::io::{ErrorKind, Read, Write};
@@ -17,14 +18,15 @@ pub struct StdSource<R> {
 impl<R> StdSource<R> {
     /// The source of what this reader gives.
     pub fn new(reader: R) -> StdSource<R>
-        ensures { result.faults ≡ 0 }
+        ensures reader { result.reader ≡ reader }
+        ensures faults { result.faults ≡ 0 }
     {
         StdSource { reader, faults: 0 }
     }
 }
 
 impl<R: Read> Source for StdSource<R> {
-    ghost left = { λ _. None };
+    ghost left = { λ s. R.remaining s.reader };
 
     ghost faults = { λ s. s.faults };
 
@@ -52,14 +54,15 @@ pub struct StdSink<W> {
 impl<W> StdSink<W> {
     /// The sink that writes to this writer.
     pub fn new(writer: W) -> StdSink<W>
-        ensures { result.faults ≡ 0 }
+        ensures writer { result.writer ≡ writer }
+        ensures faults { result.faults ≡ 0 }
     {
         StdSink { writer, faults: 0 }
     }
 }
 
 impl<W: Write> Sink for StdSink<W> {
-    ghost written = { λ _. None };
+    ghost written = { λ s. W.contents s.writer };
 
     ghost faults = { λ s. s.faults };
 

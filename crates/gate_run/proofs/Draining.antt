@@ -5,7 +5,7 @@ use Rattle.framed_transport.specs.Front.{front}
 use Rattle.gate_run.specs.Terms.{Terms}
 use Rattle.gate_run.specs.declared.work.Drained.{Drained}
 use Rattle.gate_run.specs.declared.work.Drained.TheVariants as drained
-use Rattle.gate_run.specs.Fronts.{AppendsFront}
+use Rattle.gate_io.specs.Fronts.{AppendsFront}
 use Rattle.gate_run.specs.Progress.{Moment, Breaks}
 use Rattle.gate_run.specs.Working.{IsWaiting, Handles, Drains}
 use Rattle.gate_run.proofs.Progress.{waits_done, waits_broken}

@@ -7,5 +7,4 @@ pub mod Progress
 pub mod Served
 pub mod Started
 pub mod Starts
-pub mod Streams
 pub mod Treating

@@ -8,12 +8,12 @@ use Rattle.std.proofs.lemmas.List.Elements.{All-nil}
 use Rattle.gate_io.specs.Causes.{Rose}
 use Rattle.framed_transport.specs.Front.{front, is_whole}
 use Rattle.gate_run.specs.Terms.{Terms}
-use Rattle.gate_run.specs.Fronts.{AppendsFront}
+use Rattle.gate_io.specs.Fronts.{AppendsFront}
 use Rattle.gate_run.specs.Handling.{lines, any_refused}
 use Rattle.gate_run.specs.Progress.{Moment, Goes, Breaks, IsStreamLine}
 use Rattle.gate_run.specs.Working.{EndsInRest, IsWaiting}
 use Rattle.gate_run.specs.Outcome.{Streams, streams, Covers, IsLastLine, CoversAll, IsTooLargeOrAtEnd, EndsWithinAFrame, StopsWith, BreaksOff, WriteFailed, Streamed}
-use Rattle.gate_run.proofs.Streams.{appends_on, appends_none, consumes_none}
+use Rattle.gate_io.proofs.Streams.{appends_on, appends_none, consumes_none}
 
 -- where nothing is held, less than a frame is
 pub nothing_waits : (k : Terms) (bytes : List ℕ) → bytes ≡ [] → IsWaiting k bytes

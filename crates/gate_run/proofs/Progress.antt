@@ -12,10 +12,10 @@ use Rattle.gate_run.specs.Lines.{too_large_text, left_text}
 use Rattle.gate_run.specs.Working.{EndsInRest, Ends, Waits}
 use Rattle.gate_run.specs.declared.work.End.{End}
 use Rattle.gate_run.specs.declared.work.End.TheVariants as ends
-use Rattle.gate_run.specs.Fronts.{AppendsFront, Flushed}
+use Rattle.gate_io.specs.Fronts.{AppendsFront, Flushed}
 use Rattle.gate_run.specs.Handling.{passes, output_of, line_of, lines, any_refused}
 use Rattle.gate_run.specs.Progress.{Moment, Goes, Breaks, IsStreamLine}
-use Rattle.gate_run.proofs.Streams.{appends_on, appends_none, consumes_on, consumes_none, then_front, front_of_more, keeps_consumes, some_wait, flush_kept, front_of_gathered, all_written, one_waits, gathered, flushed_none, none_front}
+use Rattle.gate_io.proofs.Streams.{appends_on, appends_none, consumes_on, consumes_none, then_front, front_of_more, keeps_consumes, some_wait, flush_kept, front_of_gathered, all_written, one_waits, gathered, flushed_none, none_front}
 
 pub lines_on : (k : Terms) (before : ℕ) (xs ys : List (List ℕ)) → lines k before (xs ++ ys) ≡ lines k before xs ++ lines k (before + length xs) ys
 lines_on k before [] ys = ap (λ n. lines k n ys) (sym (add-zero before))

@@ -17,11 +17,11 @@ use Rattle.message_show.specs.Shown as showing
 use Rattle.gate_run.specs.declared.doing.Doing.{Doing}
 use Rattle.gate_run.specs.declared.doing.Doing.TheVariants.{Convert, Show}
 use Rattle.gate_run.specs.declared.handling.Treatment.TheVariants as treatment
-use Rattle.gate_run.specs.Fronts.{AppendsFront, Flushed}
+use Rattle.gate_io.specs.Fronts.{AppendsFront, Flushed}
 use Rattle.gate_run.specs.Lines.{refusal_text}
 use Rattle.gate_run.specs.Handling.{Treated, Passes, Fails, by_verdict, as_line, is_passed, bytes_of, line_for}
 use Rattle.gate_run.specs.Working.{Treats, HasRoom, IsRoomy}
-use Rattle.gate_run.proofs.Streams.{appends_on, then_front, front_of_more, wait_more}
+use Rattle.gate_io.proofs.Streams.{appends_on, then_front, front_of_more, wait_more}
 
 -- ---- its treatment tells
 

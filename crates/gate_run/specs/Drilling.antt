@@ -6,7 +6,7 @@ use Rattle.drill_messages.specs.Messages.{messages}
 use Rattle.drill_messages.specs.Outcome.{stream_of, totals_of}
 use Rattle.drill_messages.specs.declared.totals.Totals.{Totals}
 use Rattle.gate_words.specs.declared.command.Drilling.{Drilling}
-use Rattle.gate_run.specs.Fronts.{AppendsFront}
+use Rattle.gate_io.specs.Fronts.{AppendsFront}
 use Rattle.gate_run.specs.Outcome.{Streams}
 use Rattle.gate_run.specs.Starting.{SaysLast}
 

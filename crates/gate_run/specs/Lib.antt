@@ -1,7 +1,6 @@
 -- What is read, written and reported at each command.
 pub mod Checking
 pub mod Drilling
-pub mod Fronts
 pub mod Handling
 pub mod Lines
 pub mod Outcome

@@ -4,7 +4,7 @@ use Rattle.std.specs.List.{flat_map, All}
 use Rattle.std.specs.Io.KnownBytes.{Appends, Consumes}
 use Rattle.framed_transport.specs.Frames.{framed}
 use Rattle.framed_transport.specs.Front.{front, Part, Large}
-use Rattle.gate_run.specs.Fronts.{AppendsFront}
+use Rattle.gate_io.specs.Fronts.{AppendsFront}
 use Rattle.gate_run.specs.Lines.{too_large_text, left_text}
 use Rattle.gate_run.specs.Handling.{output_of, lines, any_refused}
 use Rattle.gate_run.specs.Terms.{Terms}

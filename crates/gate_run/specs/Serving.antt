@@ -18,7 +18,7 @@ use Rattle.proxy_server.specs.Serving.{IsHeld, HasClosed, is_over, Setting as Se
 use Rattle.proxy_server.specs.Turning.{IsSettled}
 use Rattle.proxy_server.specs.Steps.{Serves}
 use Rattle.gate_words.specs.declared.serving.Serving.{Serving}
-use Rattle.gate_run.specs.Fronts.{AppendsFront}
+use Rattle.gate_io.specs.Fronts.{AppendsFront}
 use Rattle.gate_run.specs.Outcome.{Streams}
 use Rattle.gate_run.specs.Starting.{SaysLast}
 

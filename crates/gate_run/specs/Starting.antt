@@ -10,7 +10,7 @@ use Rattle.type_tables.specs.Roots.{only, rooted}
 use Rattle.gate_words.specs.declared.options.Declared.{Declared}
 use Rattle.gate_idl.specs.Refusals.{refusal_text}
 use Rattle.gate_idl.specs.Opening.{IsOpened}
-use Rattle.gate_run.specs.Fronts.{AppendsFront}
+use Rattle.gate_io.specs.Fronts.{AppendsFront}
 use Rattle.gate_run.specs.Lines.{usage_text}
 use Rattle.gate_run.specs.Outcome.{Streams}
 use Rattle.gate_run.specs.declared.starting.Start.{Start}

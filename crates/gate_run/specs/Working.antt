@@ -5,7 +5,7 @@ use Rattle.framed_transport.specs.Front.{front, Part, Large}
 use Rattle.gate_run.specs.Progress.{Moment, Goes, Breaks, IsStreamLine}
 use Rattle.gate_io.specs.Buffer.{Buffer}
 use Rattle.gate_run.specs.Terms.{Terms}
-use Rattle.gate_run.specs.Fronts.{AppendsFront, Flushed}
+use Rattle.gate_io.specs.Fronts.{AppendsFront, Flushed}
 use Rattle.gate_run.specs.Handling.{Treated, Passes, Fails}
 use Rattle.gate_run.specs.declared.doing.Doing.{Doing}
 use Rattle.gate_run.specs.declared.doing.Doing.TheVariants.{Convert, Show}

@@ -2,7 +2,7 @@
 use Rattle.std.specs.Prelude.{◌≡◌, ◌⊎◌, ℕ, List}
 use Rattle.std.specs.Io.KnownBytes.{Appends}
 use Rattle.gate_io.specs.Causes.{Rose}
-use Rattle.gate_run.specs.Fronts.{AppendsFront}
+use Rattle.gate_io.specs.Fronts.{AppendsFront}
 use Rattle.gate_run.specs.Outcome.{Streams}
 
 -- nothing was read or reported, and this text was written; where the output failed a front of it was, and the code is 5

@@ -19,7 +19,6 @@ mod status;
 mod streaming;
 mod task;
 mod work;
-mod writing;
 
 pub use laws::{
     a_good_idl_is_checked, a_good_idl_starts_a_server, a_good_idl_starts_a_stream,

@@ -2,10 +2,9 @@
 ghost use Rattle.std.specs.Prelude.{◌≡◌, ◌+◌, ◌≤◌, [], IfOk, length, take};
 ghost use Rattle.std.specs.Io.KnownBytes.{Appends};
 ghost use Rattle.gate_io.specs.Causes.{Rose};
-ghost use Rattle.gate_run.specs.Fronts.{AppendsFront};
+ghost use Rattle.gate_io.specs.Fronts.{AppendsFront};
 
-use crate::writing::{Wrote, flush};
-use gate_io::{Out, OutOfMemory, Put, Sink};
+use gate_io::{Out, OutOfMemory, Put, Sink, Wrote, flush};
 use std::alloc::Global;
 
 /// Bytes that are gathered for the output. As a sink it fails where they don't fit.

@@ -2,11 +2,10 @@
 ghost use Rattle.std.specs.Prelude.{◌≡◌, ◌⊎◌, ◌≤◌};
 ghost use Rattle.std.specs.Io.KnownBytes.{Appends};
 ghost use Rattle.gate_io.specs.Causes.{Rose};
-ghost use Rattle.gate_run.specs.Fronts.{AppendsFront};
+ghost use Rattle.gate_io.specs.Fronts.{AppendsFront};
 ghost use Rattle.gate_run.specs.Lines.{usage_text};
 
-use crate::writing::{Wrote, write_all};
-use gate_io::Sink;
+use gate_io::{Sink, Wrote, write_all};
 
 /// How a command ended, as the exit code of the program: 0 done, 1 refused, 2 usage, 3 stream fault,
 /// 4 read fault, 5 write fault, 6 file fault, 7 hub fault, 8 budget spent, 9 want of memory.

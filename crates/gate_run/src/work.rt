@@ -3,7 +3,7 @@ ghost use Rattle.std.specs.Prelude.{◌≡◌, ◌+◌, ◌*◌, ◌⊎◌, ◌^
 ghost use Rattle.std.specs.Io.KnownBytes.{Appends, IsAtEnd};
 ghost use Rattle.gate_io.specs.Causes.{Rose};
 ghost use Rattle.framed_transport.specs.Front.{front, Large};
-ghost use Rattle.gate_run.specs.Fronts.{AppendsFront, Flushed};
+ghost use Rattle.gate_io.specs.Fronts.{AppendsFront, Flushed};
 ghost use Rattle.gate_run.specs.Progress.{Goes};
 ghost use Rattle.gate_run.specs.Working.{IsReady, IsFlushed, IsStart, IsWaiting, moment, Handles, Drains, Takes, Ends};
 
@@ -11,9 +11,8 @@ use crate::handling::{WriteFault, handle};
 use crate::lines::{self, LINE_ROOM};
 use crate::page::Page;
 use crate::task::Task;
-use crate::writing::{Wrote, flush, write_all};
 use framed_transport::{FrameBuf, Next};
-use gate_io::{Got, Out, OutOfMemory, Sink, Source};
+use gate_io::{Got, Out, OutOfMemory, Sink, Source, Wrote, flush, write_all};
 use std::alloc::Global;
 
 /// At most so many bytes are read.

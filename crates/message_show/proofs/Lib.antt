@@ -1,5 +1,4 @@
 -- Lemmas.
-pub mod Appending
 pub mod Told
 pub mod Strings
 pub mod Items

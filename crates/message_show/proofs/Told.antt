@@ -3,9 +3,9 @@ use Rattle.std.proofs.Common.{◌≡◌, ℕ, ◌≤◌, List, [], ◌++◌, tak
 use Rattle.std.proofs.lemmas.List.{append-nil, take-append-drop}
 use Rattle.std.specs.Io.KnownBytes.{Appends}
 use Rattle.gate_io.specs.Causes.{Rose}
-use Rattle.message_show.specs.Fronts.{AppendsFront}
+use Rattle.gate_io.specs.Fronts.{AppendsFront}
 use Rattle.message_show.specs.Pieces.{Waiting, Output, Told, Tells}
-use Rattle.message_show.proofs.Appending.{appends_on, appends_none}
+use Rattle.gate_io.proofs.Streams.{appends_on, appends_none}
 
 -- with more bytes waiting
 abbrev pub behind : Waiting → List ℕ → Waiting
@@ -30,6 +30,18 @@ told_behind from now line text piece h = record {
 
 pub tells_behind : (now : Output) (line : Waiting) (piece : List ℕ) → Tells now line now (behind line piece) piece
 tells_behind now line piece from text h = told_behind from now line text piece h
+
+-- once a write has failed a piece is told by doing nothing
+pub tells_broken : (now : Output) (line : Waiting) (piece : List ℕ) → line.broken ≡ true → Tells now line now line piece
+tells_broken now line piece broken from text h = record {
+  sent = h.sent;
+  rest = h.rest ++ piece;
+  whole = ap (λ xs. xs ++ piece) h.whole ∙ append_assoc h.sent h.rest piece;
+  written = h.written;
+  waits = λ free. absurd (cc);
+  later = h.later;
+  cause = h.cause;
+}
 
 pub tells_none : (now : Output) (line : Waiting) → Tells now line now line []
 tells_none now line from text h = subst (Told from now line) (sym (append-nil text)) h

@@ -1,6 +1,5 @@
 -- The line that shows a message, and how it is written in pieces.
 pub mod Texts
 pub mod Line
-pub mod Shown
-pub mod Fronts
 pub mod Pieces
+pub mod Shown

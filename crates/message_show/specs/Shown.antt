@@ -1,7 +1,7 @@
 -- What is shown of a frame: the line of its message, or the fault that stands in it. A frame is read as one that is translated,
 -- its body typed by the method that the message's name means; and its line is what a writer gets that bars nothing and whose
 -- spelling of an item is the item's text.
-use Rattle.std.specs.Prelude.{◌≡◌, ⊤, ℕ, ◌<◌, List, ◌++◌, length, Option, None, IfSome, Ok, Err}
+use Rattle.std.specs.Prelude.{◌≡◌, ⊤, ℕ, ◌<◌, ◌≤◌, List, ◌++◌, length, Option, None, IfSome, Ok, Err}
 use Rattle.std.specs.Io.KnownBytes.{Keeps, Appends}
 use Rattle.thrift_value.specs.Items.{Item}
 use Rattle.type_tables.specs.declared.declared.ServiceId.{ServiceId}
@@ -23,7 +23,9 @@ use Rattle.message_show.specs.declared.showing.Shown.TheVariants as shown_as
 use Rattle.message_show.specs.declared.checking.Checked.{Checked}
 use Rattle.message_show.specs.declared.checking.Checked.TheVariants as checked
 use Rattle.message_show.specs.Line.{Levels, begun, after, item_text, head_text, line_end}
-use Rattle.message_show.specs.Fronts.{AppendsFront}
+use Rattle.gate_io.specs.Causes.{Rose}
+use Rattle.gate_io.specs.Fronts.{AppendsFront}
+use Rattle.message_show.specs.Pieces.{Output}
 
 -- where the next item stands
 pub record Place : Type 0 where
@@ -106,6 +108,15 @@ IsChecked checked.Message (Line text) = ⊤
 IsChecked (checked.Refused f) (Refused g) = f ≡ g
 IsChecked (checked.Unread f) (Unread g) = f ≡ g
 IsChecked found showing = ⊥
+
+-- the line is this text
+abbrev pub IsLine : Showing → List ℕ → Type 0
+IsLine showing text = showing ≡ Line text
+
+-- The code's answer to writing what waits of a line: from a beginning on it or a front of it was written.
+abbrev pub IsWritten : Shown → Output → Output → List ℕ → Type 0
+IsWritten answer from now text =
+    IsShown answer from.written now.written (Line text) × (from.faults ≤ now.faults) × (answer ≡ shown_as.WriteFault → Rose from.faults now.faults)
 
 abbrev pub HasLine : Showing → Type 0
 HasLine (Line text) = ⊤

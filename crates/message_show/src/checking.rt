@@ -1,4 +1,4 @@
-//! The first pass through a frame: whether it is a message.
+//! A pass through a frame that tells nothing: whether it is a message.
 ghost use Rattle.std.specs.Prelude.{refl, ◌≡◌, ◌≤◌, ◌<◌, ◌^◌, ℕ, List, IfSome, length};
 ghost use Rattle.protocol_traits.specs.declared.proto.Hint.{Hint};
 ghost use Rattle.type_walk.specs.Positions.{Position, start};

@@ -1,5 +1,5 @@
 //! The open levels, and what stands before the next item.
-ghost use Rattle.std.specs.Prelude.{◌≡◌, ◌+◌, ◌≤◌, ◌<◌, ◌++◌, length};
+ghost use Rattle.std.specs.Prelude.{◌≡◌, ◌+◌, ◌≤◌, ◌<◌, ◌++◌, ◌∷◌, [], length};
 ghost use Rattle.thrift_value.specs.Items.{item_of};
 ghost use Rattle.protocol_traits.specs.Stack.{first_of};
 ghost use Rattle.protocol_traits.specs.Follow.{depth_after};
@@ -52,7 +52,7 @@ impl Levels {
     #[inline(always)]
     #[tactic(auto, unfolding(crate::specs::Line::colon), using(crate::proofs::Told::same_line))]
     pub fn push_lead(&self, line: &mut Line)
-        requires { length line.old.bytes + 2 ≤ 512 }
+        requires { length line.old.bytes + 2 ≤ 4096 }
         ensures text { line.new ≡ record line.old { bytes = line.old.bytes ++ lead self.now } }
         ensures short { length line.new.bytes ≤ length line.old.bytes + 2 }
     {
@@ -67,14 +67,13 @@ impl Levels {
 
     /// What closes the innermost container.
     #[tactic(auto, unfolding(crate::specs::Line::brace, crate::specs::Line::bracket))]
-    pub fn closing(&self) -> &'static [u8]
-        ensures text { result.now ≡ closing (first_of self.now.nest) }
-        ensures short { length result.now ≤ 2 }
+    pub fn closing(&self) -> u8
+        ensures { result ∷ [] ≡ closing (first_of self.now.nest) }
     {
         match self.nest.top() {
-            Some(Slot::Keys(_, _, _)) => b"}",
+            Some(Slot::Keys(_, _, _)) => b'}',
             Some(Slot::Fields(_) | Slot::Value(_, _) | Slot::Elements(_, _) | Slot::Values(_, _, _))
-            | None => b"]",
+            | None => b']',
         }
     }
 }
@@ -82,7 +81,7 @@ impl Levels {
 #[inline(always)]
 #[tactic(auto, unfolding(crate::specs::Line::comma), using(crate::proofs::Told::same_line))]
 fn push_comma(line: &mut Line, first: bool)
-    requires { length line.old.bytes + 2 ≤ 512 }
+    requires { length line.old.bytes + 2 ≤ 4096 }
     ensures text { line.new ≡ record line.old { bytes = line.old.bytes ++ comma first } }
     ensures short { length line.new.bytes ≤ length line.old.bytes + 2 }
 {

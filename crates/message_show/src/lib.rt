@@ -1,7 +1,9 @@
 //! A message in a line of text that people read.
 //!
-//! A frame is gone through once for the fault that may stand in it, and only then a second time to write its line: so of a frame
-//! that is no message nothing is written. What an IDL declares gives fields their names. No tree is built and no memory is taken.
+//! The line of a frame is gathered while the frame is read, and is written only when the frame has proved to be a message: so of a
+//! frame that is no message nothing is written. Where the line doesn't fit in the place where it is gathered, the frame is read a
+//! second time and the line is written in pieces. What an IDL declares gives fields their names. No tree is built and no memory is
+//! taken.
 #![tactic(auto)]
 
 mod bodies;
@@ -9,12 +11,12 @@ mod checking;
 mod levels;
 mod line;
 mod names;
+mod nowhere;
 mod showing;
 mod telling;
 #[cfg(test)]
 mod tests;
 mod texts;
 mod values;
-mod writing;
 
 pub use showing::{Shown, show};

@@ -1,13 +1,14 @@
 //! The end of a line that waits to be written.
-ghost use Rattle.std.specs.Prelude.{◌≡◌, ◌+◌, ◌≤◌, ◌++◌, ◌∷◌, [], length, take, not, false, true};
+ghost use Rattle.std.specs.Prelude.{◌≡◌, ◌+◌, ◌*◌, ◌<◌, ◌≤◌, ◌++◌, ◌∷◌, [], length, flat_map, take, not, false, true};
 ghost use Rattle.message_show.specs.Pieces.{Tells, output};
+ghost use Rattle.message_show.specs.Texts.{is_plain, byte_text};
 
-use crate::writing::{Wrote, write_all};
-use gate_io::Sink;
+use crate::texts::{escape, is_plain};
+use gate_io::{Sink, Wrote, write_all};
 use std::marker::Model;
 
 /// How many bytes may wait.
-const ROOM: usize = 512;
+const ROOM: usize = 4096;
 
 /// At least so many bytes of room are made for an event.
 pub const SPARE: usize = 128;
@@ -29,7 +30,7 @@ impl Model for Line {
 
     ghost view = { λ l. record { bytes = take l.len l.cells; broken = l.broken } };
 
-    ghost invariant = { λ l. l.len ≤ 512 };
+    ghost invariant = { λ l. l.len ≤ 4096 };
 }
 
 impl Line {
@@ -47,7 +48,7 @@ impl Line {
     /// Appends bytes, for which there must be room.
     #[inline(always)]
     pub fn push(&mut self, piece: &[u8])
-        requires { length self.old.bytes + length piece.now ≤ 512 }
+        requires { length self.old.bytes + length piece.now ≤ 4096 }
         ensures { self.new ≡ record self.old { bytes = self.old.bytes ++ piece.now } }
     {
         append(&mut self.cells, self.len, piece);
@@ -57,16 +58,35 @@ impl Line {
     /// Appends one byte, for which there must be room.
     #[inline(always)]
     pub fn push_byte(&mut self, byte: u8)
-        requires { length self.old.bytes + 1 ≤ 512 }
+        requires { length self.old.bytes + 1 ≤ 4096 }
         ensures { self.new ≡ record self.old { bytes = self.old.bytes ++ byte ∷ [] } }
     {
-        self.push(&[byte]);
+        append_byte(&mut self.cells, self.len, byte);
+        self.len += 1;
+    }
+
+    /// Whether so many bytes fit, however they are printed, and four more.
+    #[inline(always)]
+    pub fn has_room_for(&self, count: usize) -> bool
+        ensures { result ≡ true → length self.now.bytes + (4 * count + 4) ≤ 4096 }
+    {
+        (ROOM - self.len) / 4 > count
+    }
+
+    /// Appends bytes, each as it is printed, for which there must be room.
+    #[inline(always)]
+    pub fn push_printed(&mut self, bytes: &[u8])
+        requires { length self.old.bytes + 4 * length bytes.now ≤ 4096 }
+        ensures printed { self.new ≡ record self.old { bytes = self.old.bytes ++ flat_map byte_text bytes.now } }
+        ensures short { length self.new.bytes ≤ length self.old.bytes + 4 * length bytes.now }
+    {
+        self.len = print_all(&mut self.cells, self.len, bytes);
     }
 
     /// Makes room for the texts of an event.
     #[inline(always)]
     pub fn make_room<O: Sink>(&mut self, out: &mut O)
-        ensures room { length self.new.bytes + SPARE ≤ 512 }
+        ensures room { length self.new.bytes + SPARE ≤ 4096 }
         ensures told { Tells (output (O.written out.old) (O.faults out.old)) self.old (output (O.written out.new) (O.faults out.new)) self.new [] }
     {
         if ROOM - self.len >= SPARE {
@@ -140,6 +160,53 @@ impl Line {
     }
 }
 
+// Writes bytes behind so many, each as it is printed, and answers how many stand there then.
+fn print_all(cells: &mut [u8], len: usize, bytes: &[u8]) -> usize
+    requires { len + 4 * length bytes.now ≤ length cells.old }
+    ensures printed { take result cells.new ≡ take len cells.old ++ flat_map byte_text bytes.now }
+    ensures short { result ≤ len + 4 * length bytes.now }
+{
+    let mut at = len;
+    for byte in bytes {
+        at = print_byte(cells, at, *byte);
+    }
+    at
+}
+
+#[inline(always)]
+#[tactic(auto, using(crate::proofs::Strings::plain_byte))]
+fn print_byte(cells: &mut [u8], len: usize, byte: u8) -> usize
+    requires { len + 4 ≤ length cells.old }
+    ensures printed { take result cells.new ≡ take len cells.old ++ byte_text byte }
+    ensures short { result ≤ len + 4 }
+{
+    if is_plain(byte) {
+        append_byte(cells, len, byte);
+        return len + 1;
+    }
+    print_escape(cells, len, byte)
+}
+
+#[inline(always)]
+#[tactic(auto, using(crate::proofs::Strings::quote_byte, crate::proofs::Strings::slash_byte, crate::proofs::Strings::other_byte))]
+fn print_escape(cells: &mut [u8], len: usize, byte: u8) -> usize
+    requires room { len + 4 ≤ length cells.old }
+    requires other { is_plain byte ≡ false }
+    ensures printed { take result cells.new ≡ take len cells.old ++ byte_text byte }
+    ensures short { result ≤ len + 4 }
+{
+    if byte == b'"' {
+        append(cells, len, b"\\\"");
+        return len + 2;
+    }
+    if byte == b'\\' {
+        append(cells, len, b"\\\\");
+        return len + 2;
+    }
+    append(cells, len, &escape(byte));
+    len + 4
+}
+
 // Writes bytes behind those that wait.
 #[inline(always)]
 fn append(cells: &mut [u8], len: usize, piece: &[u8])
@@ -147,4 +214,12 @@ fn append(cells: &mut [u8], len: usize, piece: &[u8])
     ensures appended { take (len + length piece.now) cells.new ≡ take len cells.old ++ piece.now }
 {
     cells[len..len + piece.len()].copy_from_slice(piece);
+}
+
+#[inline(always)]
+fn append_byte(cells: &mut [u8], len: usize, byte: u8)
+    requires { len < length cells.old }
+    ensures { take (len + 1) cells.new ≡ take len cells.old ++ byte ∷ [] }
+{
+    cells[len] = byte;
 }

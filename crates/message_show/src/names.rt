@@ -7,6 +7,7 @@ use thrift_value::Kind;
 use type_tables::{Schema, StructId};
 
 /// The name of a field, where it stands in a struct that declares its id with its kind.
+#[inline(always)]
 pub fn field_name(schema: &Schema, inside: Option<StructId>, id: i16, kind: Kind) -> Option<&Text>
     ensures { option_copied result ≡ field_name schema.now inside id kind }
 {
@@ -16,6 +17,7 @@ pub fn field_name(schema: &Schema, inside: Option<StructId>, id: i16, kind: Kind
     }
 }
 
+#[inline(always)]
 fn declared_name(schema: &Schema, s: StructId, id: i16, kind: Kind) -> Option<&Text>
     ensures { option_copied result ≡ field_name schema.now (Some s) id kind }
 {
@@ -28,6 +30,7 @@ fn declared_name(schema: &Schema, s: StructId, id: i16, kind: Kind) -> Option<&T
     }
 }
 
+#[inline(always)]
 fn has_kind(own: Option<Kind>, kind: Kind) -> bool
     ensures { result ≡ has_kind own kind }
 {

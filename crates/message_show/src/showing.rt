@@ -1,9 +1,12 @@
 //! A frame of any protocol as a line.
-ghost use Rattle.std.specs.Prelude.{◌≡◌, ◌≤◌, ◌<◌, ◌^◌, length};
+ghost use Rattle.std.specs.Prelude.{◌≡◌, ◌≤◌, ◌<◌, ◌^◌, [], ℕ, List, length};
 ghost use Rattle.gate_io.specs.Causes.{Rose};
-ghost use Rattle.message_show.specs.Shown.{shown, IsService, IsShown, IsLeft, IsChecked, HasLine};
+ghost use Rattle.message_show.specs.Pieces.{Output, Told, output as output_of};
+ghost use Rattle.message_show.specs.Shown.{shown, IsService, IsShown, IsLeft, IsChecked, IsLine, IsWritten, HasLine};
 
 use crate::checking::{Checked, check, check_blind};
+use crate::line::Line;
+use crate::nowhere::Nowhere;
 use crate::telling::tell;
 use binary_protocol::BinaryRead;
 use compact_protocol::CompactRead;
@@ -11,6 +14,9 @@ use gate_io::Sink;
 use json_protocol::JsonRead;
 use protocol_traits::{Fault, Proto};
 use type_tables::{Schema, ServiceId};
+
+/// The line of a longer frame is not expected to fit where lines are gathered, and a pass that tells nothing is quick.
+const SHORT: usize = 2048;
 
 /// What came of showing a frame.
 #[derive(Clone, Copy, Debug, PartialEq, Eq)]
@@ -28,7 +34,8 @@ pub enum Shown {
 /// Writes the line of the message that a frame spells, or nothing where it spells no message of depth at most `DEPTH`.
 ///
 /// Names without a service before them are those of `service`, which is of this schema. `room` has at least as many bytes as
-/// the frame. The line is written in pieces of some hundred bytes; a long string or name may be a piece of its own.
+/// the frame. A line of at most 4,096 bytes is mostly one piece, and longer ones are written in pieces of about so many; a long string
+/// or name may be a piece of its own.
 pub fn show<O: Sink>(
     schema: &Schema,
     service: Option<ServiceId>,
@@ -45,10 +52,100 @@ pub fn show<O: Sink>(
     ensures later { O.faults output.old ≤ O.faults output.new }
     ensures cause { result ≡ Shown.WriteFault → Rose (O.faults output.old) (O.faults output.new) }
 {
-    match check_frame(schema, service, from, frame, room) {
-        Checked::Message => tell_frame(schema, service, from, frame, room, output),
+    if frame.len() > SHORT {
+        return show_twice(schema, service, from, frame, room, output);
+    }
+    show_once(schema, service, from, frame, room, output)
+}
+
+/// Gathers the line of a frame while it is read, and goes through the frame again only if the line doesn't fit.
+fn show_once<O: Sink>(
+    schema: &Schema,
+    service: Option<ServiceId>,
+    from: Proto,
+    frame: &[u8],
+    room: &mut [u8],
+    output: &mut O,
+) -> Shown
+    requires service { IsService schema.now service }
+    requires room { length frame.now ≤ length room.old }
+    requires size { length frame.now < 2 ^ 31 }
+    ensures exact { IsShown result (O.written output.old) (O.written output.new) (shown schema.now service from frame.now) }
+    ensures left { IsLeft result output.old output.new }
+    ensures later { O.faults output.old ≤ O.faults output.new }
+    ensures cause { result ≡ Shown.WriteFault → Rose (O.faults output.old) (O.faults output.new) }
+{
+    let mut line = Line::new();
+    let mut nowhere = Nowhere::new();
+    match tell_frame(schema, service, from, frame, room, &mut line, &mut nowhere) {
+        Checked::Message => {
+            if line.is_whole() {
+                return end(&mut line, output);
+            }
+            show_long(schema, service, from, frame, room, output)
+        }
         Checked::Refused(fault) => Shown::Refused(fault),
         Checked::Unread(fault) => Shown::Unread(fault),
+    }
+}
+
+/// Goes through a frame for the fault that may stand in it, and then again to write its line.
+#[inline(never)]
+fn show_twice<O: Sink>(
+    schema: &Schema,
+    service: Option<ServiceId>,
+    from: Proto,
+    frame: &[u8],
+    room: &mut [u8],
+    output: &mut O,
+) -> Shown
+    requires service { IsService schema.now service }
+    requires room { length frame.now ≤ length room.old }
+    requires size { length frame.now < 2 ^ 31 }
+    ensures exact { IsShown result (O.written output.old) (O.written output.new) (shown schema.now service from frame.now) }
+    ensures left { IsLeft result output.old output.new }
+    ensures later { O.faults output.old ≤ O.faults output.new }
+    ensures cause { result ≡ Shown.WriteFault → Rose (O.faults output.old) (O.faults output.new) }
+{
+    match check_frame(schema, service, from, frame, room) {
+        Checked::Message => show_long(schema, service, from, frame, room, output),
+        Checked::Refused(fault) => Shown::Refused(fault),
+        Checked::Unread(fault) => Shown::Unread(fault),
+    }
+}
+
+/// Writes the line of a message that is longer than what may wait.
+fn show_long<O: Sink>(
+    schema: &Schema,
+    service: Option<ServiceId>,
+    from: Proto,
+    frame: &[u8],
+    room: &mut [u8],
+    output: &mut O,
+) -> Shown
+    requires service { IsService schema.now service }
+    requires room { length frame.now ≤ length room.old }
+    requires size { length frame.now < 2 ^ 31 }
+    requires message { HasLine (shown schema.now service from frame.now) }
+    ensures exact { IsShown result (O.written output.old) (O.written output.new) (shown schema.now service from frame.now) }
+    ensures later { O.faults output.old ≤ O.faults output.new }
+    ensures cause { result ≡ Shown.WriteFault → Rose (O.faults output.old) (O.faults output.new) }
+{
+    let mut line = Line::new();
+    tell_frame(schema, service, from, frame, room, &mut line, output);
+    end(&mut line, output)
+}
+
+/// Writes what waits of a line.
+fn end<O: Sink>(line: &mut Line, output: &mut O) -> Shown
+    ensures { (front : Output) (text : List ℕ) → Told front (output_of (O.written output.old) (O.faults output.old)) line.old text
+        → IsWritten result front (output_of (O.written output.new) (O.faults output.new)) text }
+{
+    line.flush(output);
+    if line.is_whole() {
+        Shown::Passed
+    } else {
+        Shown::WriteFault
     }
 }
 
@@ -73,7 +170,7 @@ fn check_frame(
     }
 }
 
-/// Writes the line of a frame that is a message.
+/// Tells the line of a frame, and says whether the frame is a message.
 #[tactic(auto, unfolding(crate::specs::Shown::shown))]
 fn tell_frame<O: Sink>(
     schema: &Schema,
@@ -81,19 +178,20 @@ fn tell_frame<O: Sink>(
     from: Proto,
     frame: &[u8],
     room: &mut [u8],
+    line: &mut Line,
     output: &mut O,
-) -> Shown
+) -> Checked
     requires service { IsService schema.now service }
     requires room { length frame.now ≤ length room.old }
     requires size { length frame.now < 2 ^ 31 }
-    requires message { HasLine (shown schema.now service from frame.now) }
-    ensures exact { IsShown result (O.written output.old) (O.written output.new) (shown schema.now service from frame.now) }
-    ensures later { O.faults output.old ≤ O.faults output.new }
-    ensures cause { result ≡ Shown.WriteFault → Rose (O.faults output.old) (O.faults output.new) }
+    ensures found { IsChecked result (shown schema.now service from frame.now) }
+    ensures told { (front : Output) (text : List ℕ) → IsLine (shown schema.now service from frame.now) text
+        → Told front (output_of (O.written output.old) (O.faults output.old)) line.old []
+        → Told front (output_of (O.written output.new) (O.faults output.new)) line.new text }
 {
     match from {
-        Proto::Binary => tell::<BinaryRead, O>(schema, service, frame, room, output),
-        Proto::Compact => tell::<CompactRead, O>(schema, service, frame, room, output),
-        Proto::Json => tell::<JsonRead, O>(schema, service, frame, room, output),
+        Proto::Binary => tell::<BinaryRead, O>(schema, service, frame, room, line, output),
+        Proto::Compact => tell::<CompactRead, O>(schema, service, frame, room, line, output),
+        Proto::Json => tell::<JsonRead, O>(schema, service, frame, room, line, output),
     }
 }

@@ -1,6 +1,6 @@
 //! The words of a line, and its digits.
 ghost use Rattle.std.specs.Prelude.{◌≡◌, ◌+◌, ◌*◌, ◌≤◌, ◌<◌, ◌++◌, ◌∷◌, [], length, flat_map, codes};
-ghost use Rattle.message_show.specs.Texts.{kind_word, type_word, bool_word, upper_digit, lower_digit, upper_byte, lower_byte, double_text, dashed, uuid_text};
+ghost use Rattle.message_show.specs.Texts.{is_plain, kind_word, type_word, bool_word, upper_digit, lower_digit, upper_byte, lower_byte, double_text, dashed, uuid_text};
 
 use crate::line::Line;
 use itoa::{Buffer, Integer};
@@ -54,12 +54,20 @@ pub fn bool_word(value: bool) -> &'static [u8]
 /// Appends a number in digits.
 #[inline(always)]
 pub fn push_number<I: Integer>(line: &mut Line, number: I)
-    requires { length line.old.bytes + 40 ≤ 512 }
+    requires { length line.old.bytes + 40 ≤ 4096 }
     ensures text { line.new ≡ record line.old { bytes = line.old.bytes ++ I.text number } }
     ensures short { length line.new.bytes ≤ length line.old.bytes + 40 }
 {
     let mut digits = Buffer::new();
     line.push(digits.format(number).as_bytes());
+}
+
+/// Whether a byte is printed as it is.
+#[inline(always)]
+pub fn is_plain(byte: u8) -> bool
+    ensures { result ≡ is_plain byte }
+{
+    32 <= byte && byte <= 126 && byte != b'"' && byte != b'\\'
 }
 
 /// Two digits of a byte, A to F for 10 to 15.
@@ -69,6 +77,15 @@ pub fn upper_byte(byte: u8) -> [u8; 2]
     ensures { result ≡ upper_byte byte }
 {
     [upper_digit(byte / 16), upper_digit(byte % 16)]
+}
+
+/// A byte by its two digits behind a backslash and an x.
+#[inline(always)]
+#[tactic(auto, unfolding(crate::specs::Texts::upper_byte))]
+pub fn escape(byte: u8) -> [u8; 4]
+    ensures { result ≡ 92 ∷ 120 ∷ upper_byte byte }
+{
+    [b'\\', b'x', upper_digit(byte / 16), upper_digit(byte % 16)]
 }
 
 #[inline(always)]
@@ -101,7 +118,7 @@ fn lower_digit(n: u8) -> u8
 /// Appends a double.
 #[tactic(auto, unfolding(crate::specs::Texts::double_text))]
 pub fn push_double(line: &mut Line, bytes: [u8; 8])
-    requires { length line.old.bytes + 18 ≤ 512 }
+    requires { length line.old.bytes + 18 ≤ 4096 }
     ensures { line.new ≡ record line.old { bytes = line.old.bytes ++ double_text bytes } }
 {
     line.push(b"0x");
@@ -109,7 +126,7 @@ pub fn push_double(line: &mut Line, bytes: [u8; 8])
 }
 
 fn push_upper(line: &mut Line, bytes: &[u8])
-    requires { length line.old.bytes + 2 * length bytes.now ≤ 512 }
+    requires { length line.old.bytes + 2 * length bytes.now ≤ 4096 }
     ensures { line.new ≡ record line.old { bytes = line.old.bytes ++ flat_map upper_byte bytes.now } }
 {
     for byte in bytes {
@@ -120,7 +137,7 @@ fn push_upper(line: &mut Line, bytes: &[u8])
 /// Appends a uuid.
 #[tactic(auto, unfolding(crate::specs::Texts::uuid_text))]
 pub fn push_uuid(line: &mut Line, bytes: [u8; 16])
-    requires { length line.old.bytes + 36 ≤ 512 }
+    requires { length line.old.bytes + 36 ≤ 4096 }
     ensures { line.new ≡ record line.old { bytes = line.old.bytes ++ uuid_text bytes } }
 {
     push_dashed(line, &bytes[..4]);
@@ -132,7 +149,7 @@ pub fn push_uuid(line: &mut Line, bytes: [u8; 16])
 
 #[tactic(auto, unfolding(crate::specs::Texts::dashed))]
 fn push_dashed(line: &mut Line, bytes: &[u8])
-    requires { length line.old.bytes + 2 * length bytes.now + 1 ≤ 512 }
+    requires { length line.old.bytes + 2 * length bytes.now + 1 ≤ 4096 }
     ensures text { line.new ≡ record line.old { bytes = line.old.bytes ++ dashed bytes.now } }
     ensures short { length line.new.bytes ≡ length line.old.bytes + 2 * length bytes.now + 1 }
 {
@@ -141,7 +158,7 @@ fn push_dashed(line: &mut Line, bytes: &[u8])
 }
 
 fn push_lower(line: &mut Line, bytes: &[u8])
-    requires { length line.old.bytes + 2 * length bytes.now ≤ 512 }
+    requires { length line.old.bytes + 2 * length bytes.now ≤ 4096 }
     ensures text { line.new ≡ record line.old { bytes = line.old.bytes ++ flat_map lower_byte bytes.now } }
     ensures short { length line.new.bytes ≡ length line.old.bytes + 2 * length bytes.now }
 {

@@ -2,37 +2,44 @@
 ghost use Rattle.std.specs.Prelude.{IfSome, ◌≡◌, ◌+◌, ◌≤◌, ◌<◌, ◌++◌, ◌∷◌, [], length, flat_map, take, slice_index, false};
 ghost use Rattle.std.specs.Fmt.{signed_decimal};
 ghost use Rattle.thrift_value.specs.Items.{item_of};
+ghost use Rattle.type_walk.specs.Positions.{inside_of};
 ghost use Rattle.message_show.specs.Texts.{is_plain, upper_byte, byte_text, quoted};
 ghost use Rattle.message_show.specs.Line.{value_text, lead, closing, item_text, field_name, field_text, name_text, kind_text, map_text, list_text};
 ghost use Rattle.message_show.specs.Pieces.{Tells, output};
 
+use crate::bodies::Inside;
 use crate::levels::Levels;
 use crate::line::{Line, SPARE};
 use crate::names::field_name;
-use crate::texts::{bool_word, kind_word, push_double, push_number, push_uuid, upper_byte};
+use crate::texts::{
+    bool_word, is_plain, kind_word, push_double, push_number, push_uuid, upper_byte,
+};
 use gate_io::Sink;
 use thrift_value::{Event, Kind};
 use type_tables::{Schema, StructId};
 
-/// Tells an event that stands in this struct, if any, and at these levels.
+/// Tells an event that stands where this walk is and at these levels.
 #[inline(always)]
-#[tactic(auto, unfolding(crate::specs::Line::stop_text))]
-pub fn tell_event<O: Sink>(
+#[tactic(auto, unfolding(crate::specs::Line::stop_text), using(crate::proofs::Told::tells_broken))]
+pub fn tell_event<K: Inside, O: Sink>(
     schema: &Schema,
-    inside: Option<StructId>,
+    walk: &K,
     levels: &Levels,
     event: &Event<'_>,
     line: &mut Line,
     out: &mut O,
 )
     ensures told { Tells (output (O.written out.old) (O.faults out.old)) line.old (output (O.written out.new) (O.faults out.new)) line.new
-        (item_text schema.now inside levels.now (item_of event.now)) }
+        (item_text schema.now (inside_of (K.at walk.now)) levels.now (item_of event.now)) }
 {
+    if !line.is_whole() {
+        return;
+    }
     line.make_room(out);
     match *event {
-        Event::Field(id, kind) => tell_field(schema, inside, levels, id, kind, line, out),
-        Event::Stop => line.push(b")"),
-        Event::End => line.push(levels.closing()),
+        Event::Field(id, kind) => tell_field(schema, walk.inside(), levels, id, kind, line, out),
+        Event::Stop => line.push_byte(b')'),
+        Event::End => line.push_byte(levels.closing()),
         _ => {
             levels.push_lead(line);
             tell_value(event, line, out);
@@ -44,7 +51,7 @@ pub fn tell_event<O: Sink>(
 #[inline(always)]
 #[tactic(auto, unfolding(crate::specs::Line::struct_text, crate::specs::Line::empty_map_text), using(crate::proofs::Told::tells_behind))]
 fn tell_value<O: Sink>(event: &Event<'_>, line: &mut Line, out: &mut O)
-    requires { length line.old.bytes + 120 ≤ 512 }
+    requires { length line.old.bytes + 120 ≤ 4096 }
     ensures told { Tells (output (O.written out.old) (O.faults out.old)) line.old (output (O.written out.new) (O.faults out.new)) line.new (value_text (item_of event.now)) }
 {
     match *event {
@@ -58,7 +65,7 @@ fn tell_value<O: Sink>(event: &Event<'_>, line: &mut Line, out: &mut O)
         Event::Str(bytes) => tell_string(bytes, line, out),
         Event::UnknownText(bytes) => tell_string(bytes, line, out),
         Event::NumberText(bytes) => line.put(bytes, out),
-        Event::StructBegin => line.push(b"("),
+        Event::StructBegin => line.push_byte(b'('),
         Event::EmptyMap => line.push(b"{}"),
         Event::MapBegin(key, value, _) => push_map(line, key, value),
         Event::SetBegin(kind, _) => push_list(line, kind),
@@ -71,7 +78,7 @@ fn tell_value<O: Sink>(event: &Event<'_>, line: &mut Line, out: &mut O)
 
 #[tactic(auto, unfolding(crate::specs::Line::map_text))]
 fn push_map(line: &mut Line, key: Kind, value: Kind)
-    requires { length line.old.bytes + 120 ≤ 512 }
+    requires { length line.old.bytes + 120 ≤ 4096 }
     ensures { line.new ≡ record line.old { bytes = line.old.bytes ++ map_text key value } }
 {
     line.push(b"{");
@@ -83,7 +90,7 @@ fn push_map(line: &mut Line, key: Kind, value: Kind)
 
 #[tactic(auto, unfolding(crate::specs::Line::list_text))]
 fn push_list(line: &mut Line, kind: Kind)
-    requires { length line.old.bytes + 120 ≤ 512 }
+    requires { length line.old.bytes + 120 ≤ 4096 }
     ensures { line.new ≡ record line.old { bytes = line.old.bytes ++ list_text kind } }
 {
     line.push(b"[");
@@ -92,6 +99,7 @@ fn push_list(line: &mut Line, kind: Kind)
 }
 
 /// Tells a field: its id, its name where it is declared, and its kind.
+#[inline(always)]
 fn tell_field<O: Sink>(
     schema: &Schema,
     inside: Option<StructId>,
@@ -101,7 +109,7 @@ fn tell_field<O: Sink>(
     line: &mut Line,
     out: &mut O,
 )
-    requires { length line.old.bytes + SPARE ≤ 512 }
+    requires { length line.old.bytes + SPARE ≤ 4096 }
     ensures told { Tells (output (O.written out.old) (O.faults out.old)) line.old (output (O.written out.new) (O.faults out.new)) line.new
         (lead levels.now ++ field_text id (field_name schema.now inside id kind) kind) }
 {
@@ -115,7 +123,7 @@ fn tell_field<O: Sink>(
 /// Appends a field's id. Most ids are small.
 #[inline(always)]
 fn push_id(line: &mut Line, id: i16)
-    requires { length line.old.bytes + 40 ≤ 512 }
+    requires { length line.old.bytes + 40 ≤ 4096 }
     ensures text { line.new ≡ record line.old { bytes = line.old.bytes ++ signed_decimal id } }
     ensures short { length line.new.bytes ≤ length line.old.bytes + 40 }
 {
@@ -144,7 +152,7 @@ fn one_digit(id: i16) -> Option<u8>
 #[inline(always)]
 #[tactic(auto, unfolding(crate::specs::Line::kind_text, crate::specs::Texts::kind_word))]
 fn push_kind(line: &mut Line, kind: Kind)
-    requires { length line.old.bytes + 120 ≤ 512 }
+    requires { length line.old.bytes + 120 ≤ 4096 }
     ensures { line.new ≡ record line.old { bytes = line.old.bytes ++ kind_text kind } }
 {
     match kind {
@@ -164,6 +172,7 @@ fn push_kind(line: &mut Line, kind: Kind)
 }
 
 /// Tells a colon and the name of a field, where it is declared.
+#[inline(always)]
 fn tell_name<O: Sink>(
     schema: &Schema,
     inside: Option<StructId>,
@@ -172,13 +181,13 @@ fn tell_name<O: Sink>(
     line: &mut Line,
     out: &mut O,
 )
-    requires { length line.old.bytes + 1 ≤ 512 }
+    requires { length line.old.bytes + 1 ≤ 4096 }
     ensures told { Tells (output (O.written out.old) (O.faults out.old)) line.old (output (O.written out.new) (O.faults out.new)) line.new
         (name_text (field_name schema.now inside id kind)) }
 {
     match field_name(schema, inside, id, kind) {
         Some(name) => {
-            line.push(b":");
+            line.push_byte(b':');
             line.put(name.as_slice(), out);
         }
         None => {}
@@ -188,6 +197,21 @@ fn tell_name<O: Sink>(
 /// Tells a string between quotes.
 #[tactic(auto, unfolding(crate::specs::Texts::quoted))]
 pub fn tell_string<O: Sink>(bytes: &[u8], line: &mut Line, out: &mut O)
+    ensures told { Tells (output (O.written out.old) (O.faults out.old)) line.old (output (O.written out.new) (O.faults out.new)) line.new (quoted bytes.now) }
+{
+    if line.has_room_for(bytes.len()) {
+        line.push_byte(b'"');
+        line.push_printed(bytes);
+        line.push_byte(b'"');
+    } else {
+        tell_long(bytes, line, out);
+    }
+}
+
+/// The same for a string that may not fit behind what waits.
+#[inline(never)]
+#[tactic(auto, unfolding(crate::specs::Texts::quoted))]
+fn tell_long<O: Sink>(bytes: &[u8], line: &mut Line, out: &mut O)
     ensures told { Tells (output (O.written out.old) (O.faults out.old)) line.old (output (O.written out.new) (O.faults out.new)) line.new (quoted bytes.now) }
 {
     line.put(b"\"", out);
@@ -238,14 +262,6 @@ fn plain_run(bytes: &[u8]) -> usize
     count
 }
 
-/// Whether a byte is printed as it is.
-#[inline(always)]
-fn is_plain(byte: u8) -> bool
-    ensures { result ≡ is_plain byte }
-{
-    32 <= byte && byte <= 126 && byte != b'"' && byte != b'\\'
-}
-
 /// Tells a byte that isn't printed as it is.
 fn tell_escape<O: Sink>(byte: u8, line: &mut Line, out: &mut O)
     requires { is_plain byte ≡ false }
@@ -265,7 +281,7 @@ fn tell_escape<O: Sink>(byte: u8, line: &mut Line, out: &mut O)
 
 /// Appends a byte by its two digits.
 fn push_digits(line: &mut Line, byte: u8)
-    requires { length line.old.bytes + 4 ≤ 512 }
+    requires { length line.old.bytes + 4 ≤ 4096 }
     ensures { line.new ≡ record line.old { bytes = line.old.bytes ++ 92 ∷ 120 ∷ upper_byte byte } }
 {
     line.push(b"\\x");

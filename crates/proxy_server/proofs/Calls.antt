@@ -25,11 +25,11 @@ use Rattle.session_core.specs.declared.outcome.Outcome.{Outcome}
 use Rattle.session_core.specs.declared.outcome.Outcome.TheVariants as outcome
 use Rattle.proxy_server.specs.Matching.{history_of, Matches, IsSame}
 use Rattle.proxy_server.specs.Lines.{line_text}
-use Rattle.proxy_server.specs.Fronts.{AppendsFront}
+use Rattle.gate_io.specs.Fronts.{AppendsFront}
 use Rattle.proxy_server.specs.Turning.{ReadsNoMore, held_of_side, HasFailed, IsSettled, Goes, TurnDoes, EndsBy, ByLink, BySession, EndsAs, GoesOn}
 use Rattle.proxy_server.specs.declared.ending.Turn.TheVariants as turn
-use Rattle.proxy_server.specs.declared.writing.Wrote.{Wrote}
-use Rattle.proxy_server.specs.declared.writing.Wrote.TheVariants as wrote
+use Rattle.gate_io.specs.declared.writing.Wrote.{Wrote}
+use Rattle.gate_io.specs.declared.writing.Wrote.TheVariants as wrote
 use Rattle.proxy_server.specs.declared.server.Went.{Went}
 use Rattle.proxy_server.specs.declared.server.Went.TheVariants as went
 use Rattle.proxy_server.specs.declared.server.Attended.{Attended}
@@ -39,7 +39,7 @@ use Rattle.proxy_server.specs.Working.{IsAtWork, Waits, HasWaited, IsBusy, IsNam
 use Rattle.proxy_server.specs.Steps.{Writes, WentWrites, WentTo, AreUnfailed, Leaves, IsLeft, Accounts, Attends, Serves, first_wrote, served_by, Goes as StepGoes}
 use Rattle.proxy_server.specs.Spending.{moved_of}
 use Rattle.proxy_server.proofs.Places.{decide, some_same, get_put_same, put_as_it_was, get_within, elsewhere}
-use Rattle.proxy_server.proofs.Streams.{appends_none, appends_on, then_front, front_of_more}
+use Rattle.gate_io.proofs.Streams.{appends_none, appends_on, then_front, front_of_more}
 use Rattle.proxy_server.proofs.Endings.{opened_outcome}
 use Rattle.proxy_server.proofs.Tallies.{tally_none, tally_on, turned_work, long_work, closed_tally, closed_work, more_work, ended_full, refused_full}
 use Rattle.proxy_server.proofs.Standing.{changes, same_all, is_quiet, closed_calm, removes, refuses, announces, names, turns_on, was_failed, at_place}

@@ -4,6 +4,5 @@ pub mod Endings
 pub mod Places
 pub mod Running
 pub mod Standing
-pub mod Streams
 pub mod Tallies
 pub mod Texts

@@ -1,6 +1,5 @@
 -- What the server does.
 pub mod Filling
-pub mod Fronts
 pub mod Lines
 pub mod Matching
 pub mod Serving

@@ -10,13 +10,13 @@ use Rattle.gate_io.specs.declared.hub.Served.TheVariants as served
 use Rattle.gate_io.specs.declared.hub.Side.{Side}
 use Rattle.session_core.specs.Rules.{Rules}
 use Rattle.session_core.specs.Steps.{outcome_of}
-use Rattle.proxy_server.specs.Fronts.{AppendsFront}
+use Rattle.gate_io.specs.Fronts.{AppendsFront}
 use Rattle.proxy_server.specs.Turning.{HasFailed, IsSettled}
 use Rattle.proxy_server.specs.Serving.{Setting, Entry, Closing, Stands, Keeps, KeepsFrom, no_more, closing_lines, left_lines, IsFresh, EndsOn, SpendsBy}
 use Rattle.proxy_server.specs.Working.{Tally, Waits, HasWaited, IsBusy}
 use Rattle.proxy_server.specs.declared.limits.Limits.{Limits}
-use Rattle.proxy_server.specs.declared.writing.Wrote.{Wrote}
-use Rattle.proxy_server.specs.declared.writing.Wrote.TheVariants as wrote
+use Rattle.gate_io.specs.declared.writing.Wrote.{Wrote}
+use Rattle.gate_io.specs.declared.writing.Wrote.TheVariants as wrote
 use Rattle.proxy_server.specs.declared.server.Went.{Went}
 use Rattle.proxy_server.specs.declared.server.Went.TheVariants as went
 use Rattle.proxy_server.specs.declared.server.Stepped.{Stepped}

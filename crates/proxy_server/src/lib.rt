@@ -16,7 +16,6 @@ mod serving;
 mod table;
 mod turning;
 mod waiting;
-mod writing;
 
 pub use ending::Turn;
 pub use judges::Judges;

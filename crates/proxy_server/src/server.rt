@@ -16,8 +16,7 @@ use crate::judges::Judges;
 use crate::limits::Limits;
 use crate::lines::{LINE_ROOM, put_line};
 use crate::table::{Open, find, open_session};
-use crate::writing::{Wrote, write_all};
-use gate_io::{Hub, HubNext, Out, Sink};
+use gate_io::{Hub, HubNext, Out, Sink, Wrote, write_all};
 use session_core::{Judge, Outcome, Session};
 use std::alloc::Global;
 

@@ -8,8 +8,7 @@ use crate::judges::Judges;
 use crate::limits::Limits;
 use crate::lines::LINE_ROOM;
 use crate::server::{Attended, Server};
-use crate::writing::Wrote;
-use gate_io::{Hub, Out, Served, Sink};
+use gate_io::{Hub, Out, Served, Sink, Wrote};
 use session_core::Judge;
 use std::alloc::Global;
 

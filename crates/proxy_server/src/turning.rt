@@ -15,13 +15,17 @@ use session_core::{Judge, Outcome, Session};
 /// At most so many bytes are read or written by a call.
 const PIECE: usize = 4096;
 
+/// At most so many bytes of a side are read by a call while something is due to the other: fewer than a write moves, so
+/// that what a session holds doesn't pile up.
+const PIECE_BEHIND: usize = 3072;
+
 /// After so many calls that moved bytes or brought an end, the turn is over.
 const MOST_MOVES: u32 = 16;
 
 /// One turn of session k, which is open and matches what the hub tells of it.
 ///
 /// It goes in rounds: a write to the client, one to the upstream, a read of the upstream and one of the client, each of
-/// at most 4,096 bytes. A write is left out where nothing is due, a read where there is no room or the side has ended,
+/// at most 4,096 bytes, a read of at most 3,072 while something is due to the other side. A write is left out where nothing is due, a read where there is no room or the side has ended,
 /// and either once it answered in this turn that it isn't ready. A call that fails ends the turn with
 /// `Outcome::LinkFault`. It takes no memory.
 pub fn turn<H: Hub, J: Judge>(session: &mut Session<J>, hub: &mut H, k: u64) -> Turn
@@ -74,9 +78,24 @@ fn round<H: Hub, J: Judge>(
 {
     let written = write(session, hub, k, Side::Client, waits)?;
     let passed_on = write(session, hub, k, Side::Upstream, waits)?;
-    let answered = read(session, hub, k, Side::Upstream, waits, piece)?;
-    let taken = read(session, hub, k, Side::Client, waits, piece)?;
+    let most = most_behind(session.due(Side::Client), piece.len());
+    let answered = read(session, hub, k, Side::Upstream, waits, &mut piece[..most])?;
+    let most = most_behind(session.due(Side::Upstream), piece.len());
+    let taken = read(session, hub, k, Side::Client, waits, &mut piece[..most])?;
     Ok(written + passed_on + answered + taken)
+}
+
+/// How many bytes a call may read, where these are due to the other side.
+fn most_behind(due: &[u8], room: usize) -> usize
+    requires { 0 < room }
+    ensures some { 0 < result }
+    ensures within { result ≤ room }
+{
+    if due.is_empty() {
+        room
+    } else {
+        room.min(PIECE_BEHIND)
+    }
 }
 
 /// Writes what is due to a side.

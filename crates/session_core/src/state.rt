@@ -436,11 +436,12 @@ impl State {
         taken
     }
 
-    /// So many bytes were sent to the client.
+    /// So many bytes were sent to the client. While some are left, no more can be taken than before.
     pub fn sent_client<J: Judge>(&mut self, judge: &mut J, n: usize)
         requires ready { IsReady self.old.client.limit self.old.calls.capacity self.old }
         requires fits { self.old.client.limit ≤ J.longest judge.old }
         requires due { n ≤ length self.old.to_client.bytes }
+        requires settled { IsSettled (J.rules judge.old) self.old.client.limit self.old.calls.capacity self.old }
         requires known { Knows (J.rules judge.old) self.old }
         ensures same { judge.new ≡ judge.old }
         ensures known { Knows (J.rules judge.old) self.new }
@@ -450,14 +451,17 @@ impl State {
             Fits (J.rules judge.old) self.old.client.limit self.old.calls.capacity (record h { to_client = h.to_client ++ take n self.old.to_client.bytes }) (standing self.new) }
     {
         self.to_client.drop_front(n);
-        self.settle(judge);
+        if self.to_client.bytes().is_empty() {
+            self.settle(judge);
+        }
     }
 
-    /// So many bytes were sent to the upstream.
+    /// So many bytes were sent to the upstream. While some are left, no more can be taken than before.
     pub fn sent_upstream<J: Judge>(&mut self, judge: &mut J, n: usize)
         requires ready { IsReady self.old.client.limit self.old.calls.capacity self.old }
         requires fits { self.old.client.limit ≤ J.longest judge.old }
         requires due { n ≤ length self.old.to_upstream.bytes }
+        requires settled { IsSettled (J.rules judge.old) self.old.client.limit self.old.calls.capacity self.old }
         requires known { Knows (J.rules judge.old) self.old }
         ensures same { judge.new ≡ judge.old }
         ensures known { Knows (J.rules judge.old) self.new }
@@ -467,7 +471,9 @@ impl State {
             Fits (J.rules judge.old) self.old.client.limit self.old.calls.capacity (record h { to_upstream = h.to_upstream ++ take n self.old.to_upstream.bytes }) (standing self.new) }
     {
         self.to_upstream.drop_front(n);
-        self.settle(judge);
+        if self.to_upstream.bytes().is_empty() {
+            self.settle(judge);
+        }
     }
 
     /// The client sends nothing more.

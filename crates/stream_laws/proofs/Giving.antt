@@ -8,15 +8,14 @@ use Rattle.protocol_traits.specs.declared.proto.Proto.TheVariants as protocols
 use Rattle.type_tables.specs.Declarations.{Declarations}
 use Rattle.translate_core.specs.declared.route.Route.{Route}
 use Rattle.translate_core.specs.declared.route.Route.TheVariants.{ByName}
-use Rattle.translate_core.specs.Body.{Source}
+use Rattle.protocol_traits.specs.Heads.{Header}
 use Rattle.translate_core.specs.Judged.{Judged}
 use Rattle.framed_transport.specs.Frames.{framed}
 use Rattle.binary_laws.specs.Bytes.{AreBytes}
 use Rattle.verdict_laws.specs.Rounds.{SpellsIn, plain_in}
 use Rattle.verdict_laws.specs.Verdicts.{IsPlain, IsVerdict}
 use Rattle.verdict_laws.specs.Verdicts.IsVerdict.{Passes, IsFaulty, IsUnread}
-use Rattle.verdict_laws.proofs.Binary.{binary_judged}
-use Rattle.verdict_laws.proofs.Compact.{compact_judged}
+use Rattle.verdict_laws.proofs.Faulted.{binary_told, compact_told}
 use Rattle.verdict_laws.proofs.Round.{round}
 use Rattle.gate_run.specs.declared.doing.Doing.TheVariants.{Convert}
 use Rattle.gate_run.specs.Handling.{translated, treated_by, is_passed, bytes_of, output_of}
@@ -44,16 +43,16 @@ module _ (k : Terms) (from to : Proto) (frame : List ℕ) (doing : k.doing ≡ C
         written k from to frame doing ∙ ap (λ x. bytes_of (translated x)) e ∙ empty,
       )
 
-  by_verdict : {S : Type 0} (source : Source S) (IsRefused : List ℕ → Fault → Type 0) → IsVerdict source (SpellsIn from) IsRefused k.declarations (ByName k.service) to frame (judged_by k from to frame)
+  by_verdict : (SpellsHead : Header → List ℕ → Type 0) (FaultAt : List ℕ → Fault → Type 0) → IsVerdict SpellsHead (SpellsIn from) FaultAt k.declarations (ByName k.service) to frame (judged_by k from to frame)
       → Gives k from to frame (output_of k frame)
-  by_verdict source IsRefused (Passes m bytes spells deep plain e) =
+  by_verdict SpellsHead FaultAt (Passes m bytes spells deep plain e) =
       inl (m, spells, deep, written k from to frame doing ∙ ap (λ x. bytes_of (translated x)) e ∙ ap framed (is_plain to k.declarations (ByName k.service) m bytes plain))
-  by_verdict source IsRefused (IsFaulty header first f headed refused e) = none_given _ e refl refl
-  by_verdict source IsRefused (IsUnread f headed refused e) = none_given _ e refl refl
+  by_verdict SpellsHead FaultAt (IsFaulty header front rest f laid head stands e) = none_given _ e refl refl
+  by_verdict SpellsHead FaultAt (IsUnread f none stands e) = none_given _ e refl refl
 
 given : (k : Terms) (from to : Proto) (frame : List ℕ) → AreBytes frame → k.doing ≡ Convert from to → (from ≡ protocols.Json → ⊥) → (to ≡ protocols.Json → ⊥) → Gives k from to frame (output_of k frame)
-given k protocols.Binary to frame are doing first other = by_verdict k protocols.Binary to frame doing other _ _ (binary_judged k.declarations (ByName k.service) to frame are other)
-given k protocols.Compact to frame are doing first other = by_verdict k protocols.Compact to frame doing other _ _ (compact_judged k.declarations (ByName k.service) to frame are other)
+given k protocols.Binary to frame are doing first other = by_verdict k protocols.Binary to frame doing other _ _ (binary_told k.declarations (ByName k.service) to frame are other)
+given k protocols.Compact to frame are doing first other = by_verdict k protocols.Compact to frame doing other _ _ (compact_told k.declarations (ByName k.service) to frame are other)
 given k protocols.Json to frame are doing first other = absurd (first refl)
 
 pub all_given : (k : Terms) (from to : Proto) (frames : List (List ℕ)) → AreFrames frames → k.doing ≡ Convert from to → (from ≡ protocols.Json → ⊥) → (to ≡ protocols.Json → ⊥) → GiveAll k from to frames (flat_map (output_of k) frames)

@@ -4,7 +4,7 @@ use Rattle.gate_io.specs.Buffer.{Buffer}
 use Rattle.translate_core.specs.Texts.{place_of}
 use Rattle.gate_run.specs.Lines.{refusal_text}
 use Rattle.gate_run.specs.Handling.{treated}
-use Rattle.gate_run.proofs.Streams.{flushed_front}
+use Rattle.gate_io.proofs.Streams.{flushed_front}
 use Rattle.gate_run.proofs.Treating.{passed_is, passed_gathers, passed_silent, refused_is, refused_gathers, refused_line, broken_front}
 use Rattle.gate_run.proofs.handling.handle.Goals as goal
 

@@ -1,112 +1,66 @@
-use Rattle.std.proofs.Common.{◌≡◌, [], Ok, refl, ap, subst, sym}
+use Rattle.std.proofs.Common.{◌≡◌, ℕ, List, [], ◌∷◌, ◌++◌, Ok, refl, ap, sym, subst, ◌∙◌}
+use Rattle.std.proofs.lemmas.List.{append-nil}
 use Rattle.protocol_traits.specs.Heads.{header_of}
 use Rattle.protocol_traits.specs.Steps.{step_ok, step_err}
 use Rattle.type_walk.specs.Positions.{Position, start}
 use Rattle.translate_core.specs.Body.{source_of}
 use Rattle.translate_core.specs.Routes.{start_of}
 use Rattle.translate_core.specs.declared.route.Route.TheVariants.{ByName}
-use Rattle.message_show.specs.Line.{head_text}
+use Rattle.message_show.specs.Line.{head_text, line_end}
 use Rattle.message_show.specs.Pieces.{Told, output}
-use Rattle.message_show.specs.Shown.{body_from}
-use Rattle.message_show.proofs.Appending.{keeps_same}
-use Rattle.message_show.proofs.Frames.{shown_err}
-use Rattle.message_show.proofs.Told.{told_none}
-use Rattle.message_show.proofs.Ends.{is_whole, is_broken, all_written, front_written, line_told}
+use Rattle.message_show.specs.Shown.{after_body, body_from, IsChecked}
+use Rattle.message_show.proofs.Frames.{shown_ok, shown_err}
+use Rattle.message_show.proofs.Told.{tells_behind}
+use Rattle.message_show.proofs.Ends.{line_told, line_of_text}
 use Rattle.message_show.proofs.telling.tell.Goals as goal
 
-pub returns-in-Err-clause-exact : goal.returns-in-Err-clause-exact
-returns-in-Err-clause-exact g c =
+ended : (bytes : List ℕ) → (bytes ++ []) ++ (10 ∷ []) ≡ bytes ++ line_end
+unfolding line_end
+ended bytes = rw (append-nil bytes) refl
+
+pub returns-in-Err-clause-found : goal.returns-in-Err-clause-found
+returns-in-Err-clause-found g c =
     let source = source_of g.R.ReadRules.begun g.R.ReadRules.reads_head g.R.ReadRules.reads g.R.ReadRules.reads_end g.R.ReadRules.value_place g.R.ReadRules.ahead in
     let first = start_of c.args.schema.now (ByName c.args.service) in
     let e = rw c.over-reader.ensures at (step_err (g.R.ReadRules.reads_head c.over-reader.result) c.in-Err.fault c.in-Err.ensures.answer) in
-    rw (shown_err source first c.args.frame.now c.in-Err.fault e) (refl, keeps_same (g.O.Sink.written c.args.out.now))
+    rw (shown_err source first c.args.frame.now c.in-Err.fault e) refl
 
-pub returns-then-is_whole-clause-exact : goal.returns-then-is_whole-clause-exact
-unfolding start_of
-returns-then-is_whole-clause-exact g c =
+pub returns-in-Err-clause-told : goal.returns-in-Err-clause-told
+returns-in-Err-clause-told g c from text is h =
     let source = source_of g.R.ReadRules.begun g.R.ReadRules.reads_head g.R.ReadRules.reads g.R.ReadRules.reads_end g.R.ReadRules.value_place g.R.ReadRules.ahead in
-    let sink = g.O.Sink in
-    let from = output (sink.written c.args.out.now) (sink.faults c.args.out.now) in
-    let now = output (sink.written c.tell_rest.new.out) (sink.faults c.tell_rest.new.out) in
-    let line = c.tell_rest.new.line in
+    let first = start_of c.args.schema.now (ByName c.args.service) in
+    let e = rw c.over-reader.ensures at (step_err (g.R.ReadRules.reads_head c.over-reader.result) c.in-Err.fault c.in-Err.ensures.answer) in
+    absurd (cc (is, shown_err source first c.args.frame.now c.in-Err.fault e))
+
+pub returns-clause-found : goal.returns-clause-found
+unfolding start_of
+returns-clause-found g c =
+    let source = source_of g.R.ReadRules.begun g.R.ReadRules.reads_head g.R.ReadRules.reads g.R.ReadRules.reads_end g.R.ReadRules.value_place g.R.ReadRules.ahead in
     let first = start_of c.args.schema.now (ByName c.args.service) in
     let new = c.head.follows.lender-at-none in
     let header = header_of c.in-Ok.head in
     let e = rw c.over-reader.ensures at (step_ok (g.R.ReadRules.reads_head c.over-reader.result) header new c.in-Ok.ensures.answer c.head.follows.holds-at-none) in
-    let begins : first header ≡ start c.args.schema.now c.body_struct-body.result = ap (start c.args.schema.now) (sym c.body_struct-body.ensures.value) in
-    let begun : Told from from c.new-line.result [] = rw c.new-line.ensures (told_none from) in
-    let told = line_told source first c.args.frame.now header new from now line e c.requires.message
-    (λ end is. c.tell_rest.ensures.told from (head_text header) end (subst (λ (p : Position). body_from source new p (head_text header) ≡ Ok end) begins is) (c.tell_head.ensures from [] begun)) in
-    rw told.1 (all_written from now line told.0 (is_whole line.broken c.if-is_whole.ensures) c.tell_rest.ensures.empty told.2)
+    let begins : start c.args.schema.now c.body_struct-body.result ≡ first header = ap (start c.args.schema.now) c.body_struct-body.ensures.value in
+    rw (shown_ok source first c.args.frame.now header new e)
+    (subst (λ (p : Position). IsChecked c.tell_body-found.result (after_body source (body_from source new p (head_text header)))) begins (c.tell_body-found.ensures.found (head_text header)))
 
-pub returns-then-is_whole-clause-later : goal.returns-then-is_whole-clause-later
+pub returns-clause-told : goal.returns-clause-told
 unfolding start_of
-returns-then-is_whole-clause-later g c =
+returns-clause-told g c from text is h =
     let source = source_of g.R.ReadRules.begun g.R.ReadRules.reads_head g.R.ReadRules.reads g.R.ReadRules.reads_end g.R.ReadRules.value_place g.R.ReadRules.ahead in
-    let sink = g.O.Sink in
-    let from = output (sink.written c.args.out.now) (sink.faults c.args.out.now) in
-    let now = output (sink.written c.tell_rest.new.out) (sink.faults c.tell_rest.new.out) in
-    let line = c.tell_rest.new.line in
     let first = start_of c.args.schema.now (ByName c.args.service) in
     let new = c.head.follows.lender-at-none in
     let header = header_of c.in-Ok.head in
     let e = rw c.over-reader.ensures at (step_ok (g.R.ReadRules.reads_head c.over-reader.result) header new c.in-Ok.ensures.answer c.head.follows.holds-at-none) in
-    let begins : first header ≡ start c.args.schema.now c.body_struct-body.result = ap (start c.args.schema.now) (sym c.body_struct-body.ensures.value) in
-    let begun : Told from from c.new-line.result [] = rw c.new-line.ensures (told_none from) in
-    let told = line_told source first c.args.frame.now header new from now line e c.requires.message
-    (λ end is. c.tell_rest.ensures.told from (head_text header) end (subst (λ (p : Position). body_from source new p (head_text header) ≡ Ok end) begins is) (c.tell_head.ensures from [] begun)) in
-    told.2.later
-
-pub returns-clause-exact : goal.returns-clause-exact
-unfolding start_of
-returns-clause-exact g c =
-    let source = source_of g.R.ReadRules.begun g.R.ReadRules.reads_head g.R.ReadRules.reads g.R.ReadRules.reads_end g.R.ReadRules.value_place g.R.ReadRules.ahead in
+    let begins : start c.args.schema.now c.body_struct-body.result ≡ first header = ap (start c.args.schema.now) c.body_struct-body.ensures.value in
     let sink = g.O.Sink in
-    let from = output (sink.written c.args.out.now) (sink.faults c.args.out.now) in
-    let now = output (sink.written c.tell_rest.new.out) (sink.faults c.tell_rest.new.out) in
-    let line = c.tell_rest.new.line in
-    let first = start_of c.args.schema.now (ByName c.args.service) in
-    let new = c.head.follows.lender-at-none in
-    let header = header_of c.in-Ok.head in
-    let e = rw c.over-reader.ensures at (step_ok (g.R.ReadRules.reads_head c.over-reader.result) header new c.in-Ok.ensures.answer c.head.follows.holds-at-none) in
-    let begins : first header ≡ start c.args.schema.now c.body_struct-body.result = ap (start c.args.schema.now) (sym c.body_struct-body.ensures.value) in
-    let begun : Told from from c.new-line.result [] = rw c.new-line.ensures (told_none from) in
-    let told = line_told source first c.args.frame.now header new from now line e c.requires.message
-    (λ end is. c.tell_rest.ensures.told from (head_text header) end (subst (λ (p : Position). body_from source new p (head_text header) ≡ Ok end) begins is) (c.tell_head.ensures from [] begun)) in
-    rw told.1 (front_written from now line told.0 told.2)
-
-pub returns-clause-later : goal.returns-clause-later
-unfolding start_of
-returns-clause-later g c =
-    let source = source_of g.R.ReadRules.begun g.R.ReadRules.reads_head g.R.ReadRules.reads g.R.ReadRules.reads_end g.R.ReadRules.value_place g.R.ReadRules.ahead in
-    let sink = g.O.Sink in
-    let from = output (sink.written c.args.out.now) (sink.faults c.args.out.now) in
-    let now = output (sink.written c.tell_rest.new.out) (sink.faults c.tell_rest.new.out) in
-    let line = c.tell_rest.new.line in
-    let first = start_of c.args.schema.now (ByName c.args.service) in
-    let new = c.head.follows.lender-at-none in
-    let header = header_of c.in-Ok.head in
-    let e = rw c.over-reader.ensures at (step_ok (g.R.ReadRules.reads_head c.over-reader.result) header new c.in-Ok.ensures.answer c.head.follows.holds-at-none) in
-    let begins : first header ≡ start c.args.schema.now c.body_struct-body.result = ap (start c.args.schema.now) (sym c.body_struct-body.ensures.value) in
-    let begun : Told from from c.new-line.result [] = rw c.new-line.ensures (told_none from) in
-    let told = line_told source first c.args.frame.now header new from now line e c.requires.message
-    (λ end is. c.tell_rest.ensures.told from (head_text header) end (subst (λ (p : Position). body_from source new p (head_text header) ≡ Ok end) begins is) (c.tell_head.ensures from [] begun)) in
-    told.2.later
-
-pub returns-clause-cause : goal.returns-clause-cause
-unfolding start_of
-returns-clause-cause g c fault =
-    let source = source_of g.R.ReadRules.begun g.R.ReadRules.reads_head g.R.ReadRules.reads g.R.ReadRules.reads_end g.R.ReadRules.value_place g.R.ReadRules.ahead in
-    let sink = g.O.Sink in
-    let from = output (sink.written c.args.out.now) (sink.faults c.args.out.now) in
-    let now = output (sink.written c.tell_rest.new.out) (sink.faults c.tell_rest.new.out) in
-    let line = c.tell_rest.new.line in
-    let first = start_of c.args.schema.now (ByName c.args.service) in
-    let new = c.head.follows.lender-at-none in
-    let header = header_of c.in-Ok.head in
-    let e = rw c.over-reader.ensures at (step_ok (g.R.ReadRules.reads_head c.over-reader.result) header new c.in-Ok.ensures.answer c.head.follows.holds-at-none) in
-    let begins : first header ≡ start c.args.schema.now c.body_struct-body.result = ap (start c.args.schema.now) (sym c.body_struct-body.ensures.value) in
-    let begun : Told from from c.new-line.result [] = rw c.new-line.ensures (told_none from) in
-    let told = line_told source first c.args.frame.now header new from now line e c.requires.message
-    (λ end is. c.tell_rest.ensures.told from (head_text header) end (subst (λ (p : Position). body_from source new p (head_text header) ≡ Ok end) begins is) (c.tell_head.ensures from [] begun)) in
-    told.2.cause (is_broken line.broken c.if-is_whole.ensures)
+    let now = output (sink.written c.make_room.new.out) (sink.faults c.make_room.new.out) in
+    let line = c.push.new.self in
+    let told = line_told source first c.args.frame.now header new from now line e (rw is tt)
+    (λ end whole.
+    let body = c.tell_body-found.ensures.told from (head_text header) end (subst (λ (p : Position). body_from source new p (head_text header) ≡ Ok end) (sym begins) whole) (c.tell_head.ensures from [] h) in
+    let roomy = c.make_room.ensures.told from end.bytes body in
+    let closed = tells_behind now c.make_room.new.self (10 ∷ []) from (end.bytes ++ []) roomy in
+    let pushed : Told from now line ((end.bytes ++ []) ++ (10 ∷ [])) = rw c.push.ensures closed in
+    subst (Told from now line) (ended end.bytes) pushed) in
+    subst (Told from now line) (line_of_text told.0 text (sym told.1 ∙ is)) told.2

@@ -2,7 +2,7 @@ use Rattle.std.proofs.Common.{◌≡◌, ◌≤◌, List, ℕ, length, None, Ok}
 use Rattle.type_walk.specs.Positions.{Position}
 use Rattle.translate_core.specs.Positions.{typed}
 use Rattle.translate_core.specs.Body.{Going, whole, source_of, going}
-use Rattle.message_show.specs.Line.{begun}
+use Rattle.message_show.specs.Line.{Levels, begun}
 use Rattle.message_show.specs.Pieces.{Output, Told, output}
 use Rattle.message_show.specs.Shown.{Place, place, line_target, body_from}
 use Rattle.message_show.proofs.telling.tell_by.Given as goal
@@ -15,6 +15,7 @@ invariant-events g l =
     let first = g.K.Walking.at l.fn.walk in
     let at = g.K.Walking.at l.walk in
     record {
+      found : (text : List ℕ) → (levels : Levels) × (bytes : List ℕ) × (whole source typed (line_target (place first begun)) (going l.reader at (place at levels) (length at.levels) None bytes) ≡ body_from source l.fn.reader first text);
       told : (from : Output) (text : List ℕ) (end : Going _ Position Place) → body_from source l.fn.reader first text ≡ Ok end
           → Told from (output (sink.written l.fn.out) (sink.faults l.fn.out)) l.fn.line text
           → (bytes : List ℕ) × (whole source typed (line_target (place first begun)) (going l.reader at (place at l.levels) (length at.levels) None bytes) ≡ Ok end)

@@ -1,5 +1,6 @@
 use Rattle.std.proofs.Common.{[]}
 use Rattle.thrift_value.specs.Items.{item_of}
+use Rattle.type_walk.specs.Positions.{inside_of}
 use Rattle.message_show.specs.Line.{lead, value_text}
 use Rattle.message_show.specs.Pieces.{output}
 use Rattle.message_show.proofs.Items.{value_item}
@@ -19,5 +20,5 @@ returns-in_default g c =
     let told = tells_then old mid new line c.push_lead.new.line c.tell_value.new.line before (value_text item) led c.tell_value.ensures.told in
     record {
       told = tells_same old new line c.tell_value.new.line _ _
-          (value_item c.args.schema.now c.args.inside c.args.levels.now c.args.event.now c.in_default.not-Field c.in_default.not-Stop c.in_default.not-End) told;
+          (value_item c.args.schema.now (inside_of (g.K.Walking.at c.args.walk.now)) c.args.levels.now c.args.event.now c.in_default.not-Field c.in_default.not-Stop c.in_default.not-End) told;
     }

@@ -14,10 +14,10 @@ returns-in-Some g c =
     let new = output (sink.written c.put.new.out) (sink.faults c.put.new.out) in
     let name = field_name c.args.schema.now c.args.inside c.args.id c.args.kind in
     let same = ap (λ xs. 58 ∷ xs) c.as_slice.ensures ∙ some_name name c.in-Some.name.now (rw (to_z-of_z w16 c.args.id c.ranges.id) at c.in-Some.ensures) in
-    let colon = tells_more old old c.args.line.now c.args.line.now c.push.new.self [] (58 ∷ []) (tells_none old c.args.line.now) c.push.ensures in
+    let colon = tells_more old old c.args.line.now c.args.line.now c.push_byte.new.self [] (58 ∷ []) (tells_none old c.args.line.now) c.push_byte.ensures in
     record {
       told = tells_same old new c.args.line.now c.put.new.self (58 ∷ c.as_slice.result.now) (name_text name) same
-          (tells_then old old new c.args.line.now c.push.new.self c.put.new.self (58 ∷ []) c.as_slice.result.now colon c.put.ensures.told);
+          (tells_then old old new c.args.line.now c.push_byte.new.self c.put.new.self (58 ∷ []) c.as_slice.result.now colon c.put.ensures.told);
     }
 
 pub returns-in-None : goal.returns-in-None

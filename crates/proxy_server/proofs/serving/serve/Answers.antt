@@ -1,5 +1,5 @@
 use Rattle.std.proofs.Common.{◌⊎◌, inl, inr, sym, ap, ◌∙◌, subst}
-use Rattle.proxy_server.specs.declared.writing.Wrote.TheVariants as wrote
+use Rattle.gate_io.specs.declared.writing.Wrote.TheVariants as wrote
 use Rattle.proxy_server.specs.Serving.{SpendsBy}
 use Rattle.proxy_server.specs.Steps.{Serves, Attends, setting_of, served_by}
 use Rattle.proxy_server.proofs.Calls.{serves_parts, serves_none}

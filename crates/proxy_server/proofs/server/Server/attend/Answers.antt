@@ -3,11 +3,11 @@ use Rattle.std.specs.Io.KnownBytes.{Appends}
 use Rattle.gate_io.specs.declared.hub.HubNext.TheVariants as event
 use Rattle.proxy_server.specs.declared.server.Went.TheVariants as went
 use Rattle.proxy_server.specs.declared.server.Stepped.TheVariants as stepped
-use Rattle.proxy_server.specs.Fronts.{AppendsFront}
+use Rattle.gate_io.specs.Fronts.{AppendsFront}
 use Rattle.proxy_server.specs.Working.{Waits, HasWaited, IsBusy}
 use Rattle.proxy_server.specs.Steps.{setting_of, StepsOn}
 use Rattle.proxy_server.proofs.Running.{later_on, later_not}
-use Rattle.proxy_server.proofs.Streams.{appends_none, appends_on, then_front}
+use Rattle.gate_io.proofs.Streams.{appends_none, appends_on, then_front}
 use Rattle.proxy_server.proofs.Calls.{chained, waits_spent, with_none, stays_so, keeps_on}
 use Rattle.proxy_server.proofs.server.Server.attend.Goals as goal
 

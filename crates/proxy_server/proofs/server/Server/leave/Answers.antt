@@ -1,12 +1,12 @@
 use Rattle.std.proofs.Common.{rules, ◌≡◌, suc, ◌+◌, ◌<◌, inl, [], ◌≤◌, length, take, subst, sym, refl, ap, ◌∙◌, arith}
 use Rattle.std.specs.List.{slice_get}
 use Rattle.std.proofs.lemmas.List.{take_all}
-use Rattle.proxy_server.specs.declared.writing.Wrote.TheVariants as wrote
+use Rattle.gate_io.specs.declared.writing.Wrote.TheVariants as wrote
 use Rattle.proxy_server.specs.Serving.{Keeps, left_lines}
 use Rattle.proxy_server.specs.Steps.{Writes, Leaves}
 use Rattle.proxy_server.proofs.Places.{get_some}
 use Rattle.proxy_server.proofs.Running.{later_on, later_not}
-use Rattle.proxy_server.proofs.Streams.{appends_none}
+use Rattle.gate_io.proofs.Streams.{appends_none}
 use Rattle.proxy_server.proofs.Calls.{keeps_then, left_more, left_on, cause_on}
 use Rattle.proxy_server.proofs.server.Server.leave.Goals as goal
 

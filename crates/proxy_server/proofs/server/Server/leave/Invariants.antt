@@ -3,7 +3,7 @@ use Rattle.gate_io.specs.Causes.{Rose}
 use Rattle.gate_io.specs.Meaning.{Meaning}
 use Rattle.gate_io.specs.Hubs.{Later}
 use Rattle.gate_io.specs.declared.hub.HubNext.{HubNext}
-use Rattle.proxy_server.specs.declared.writing.Wrote.TheVariants as wrote
+use Rattle.gate_io.specs.declared.writing.Wrote.TheVariants as wrote
 use Rattle.proxy_server.specs.Serving.{Setting, Closing, Keeps, left_lines}
 use Rattle.proxy_server.specs.Steps.{Writes, Leaves}
 use Rattle.proxy_server.proofs.server.Server.leave.Given as goal

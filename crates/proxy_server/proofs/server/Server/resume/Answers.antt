@@ -2,7 +2,7 @@ use Rattle.std.proofs.Common.{◌≡◌, [], ℕ, Some, subst, sym, refl, ap, �
 use Rattle.std.specs.List.{slice_get}
 use Rattle.proxy_server.specs.Serving.{Entry, IsRising}
 use Rattle.proxy_server.specs.Working.{IsBusy, IsNamed, Waits}
-use Rattle.proxy_server.proofs.Streams.{appends_none}
+use Rattle.gate_io.proofs.Streams.{appends_none}
 use Rattle.proxy_server.proofs.Calls.{goes_after, stays_so, named_busy, named_none, with_none}
 use Rattle.proxy_server.proofs.server.Server.resume.Goals as goal
 

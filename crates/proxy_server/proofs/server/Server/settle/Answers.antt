@@ -7,7 +7,7 @@ use Rattle.proxy_server.specs.Serving.{closing_lines}
 use Rattle.proxy_server.specs.Working.{IsBusy, HasEndedAt, Waits}
 use Rattle.proxy_server.specs.Steps.{WentWrites, WentTo}
 use Rattle.proxy_server.proofs.Running.{later_on}
-use Rattle.proxy_server.proofs.Streams.{appends_none}
+use Rattle.gate_io.proofs.Streams.{appends_none}
 use Rattle.proxy_server.proofs.Calls.{keeps_then, turned_settled, turned_more, turned_ended, with_none}
 use Rattle.proxy_server.proofs.server.Server.settle.Goals as goal
 

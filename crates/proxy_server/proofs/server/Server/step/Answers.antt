@@ -2,7 +2,7 @@ use Rattle.std.proofs.Common.{◌+◌, []}
 use Rattle.gate_io.specs.declared.hub.HubNext.TheVariants as event
 use Rattle.proxy_server.specs.Working.{Awaits, Waits, HasWaited, IsNamed}
 use Rattle.proxy_server.specs.Steps.{setting_of}
-use Rattle.proxy_server.proofs.Streams.{appends_none}
+use Rattle.gate_io.proofs.Streams.{appends_none}
 use Rattle.proxy_server.proofs.Calls.{goes_after, with_none, stopped_on, failed_on, opened_on, ready_on}
 use Rattle.proxy_server.proofs.server.Server.step.Goals as goal
 

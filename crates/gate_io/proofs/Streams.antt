@@ -3,7 +3,7 @@ use Rattle.std.proofs.Common.{◌≡◌, ℕ, ◌+◌, ◌-◌, ◌≤◌, List,
 use Rattle.std.proofs.lemmas.List.{append-nil, take_at, append_cancel_left, take_all, take-append-drop, take-append-le, length-take-le, length-drop}
 use Rattle.std.proofs.Math.Seq.{take-append-add}
 use Rattle.std.specs.Io.KnownBytes.{Appends, Consumes, Keeps, append_known}
-use Rattle.drill_messages.specs.Outcome.{AppendsFront, Flushed}
+use Rattle.gate_io.specs.Fronts.{AppendsFront, Flushed}
 
 pub appends_on : (a b c : Option (List ℕ)) (xs ys : List ℕ) → Appends a b xs → Appends b c ys → Appends a c (xs ++ ys)
 appends_on None b c xs ys p q = tt
@@ -14,6 +14,10 @@ appends_on (Some x) (Some y) (Some z) xs ys p q = q ∙ (ap (λ t. t ++ ys) p �
 pub appends_none : (a : Option (List ℕ)) → Appends a a []
 appends_none None = tt
 appends_none (Some x) = sym (append-nil x)
+
+pub keeps_same : (a : Option (List ℕ)) → Keeps a a
+keeps_same None = tt
+keeps_same (Some x) = refl
 
 pub keeps_appends : (a b : Option (List ℕ)) → Keeps a b → Appends a b []
 keeps_appends None b p = tt
@@ -111,3 +115,14 @@ flushed_all w w' p p' none f = (p, f, sym (ap (λ t. p ++ t) none ∙ append-nil
 
 pub flushed_none : (w : Option (List ℕ)) (p : List ℕ) → Flushed w p w p
 flushed_none w p = ([], appends_none w, refl)
+
+-- more bytes wait, or the first were written
+pub gathered : (w w' : Option (List ℕ)) (p p' xs : List ℕ) → Flushed w (p ++ xs) w' p' → Appends (append_known w p) (append_known w' p') xs
+gathered None w' p p' xs f = tt
+gathered (Some x) None p p' xs f = absurd f.1
+gathered (Some x) (Some y) p p' xs f =
+    ap (λ t. t ++ p') f.1 ∙ (append_assoc x f.0 p' ∙ (ap (λ t. x ++ t) (sym f.2) ∙ sym (append_assoc x p xs)))
+
+-- more bytes wait
+pub wait_more : (w : Option (List ℕ)) (p p' xs : List ℕ) → p' ≡ p ++ xs → Flushed w (p ++ xs) w p'
+wait_more w p p' xs e = ([], appends_none w, sym e)

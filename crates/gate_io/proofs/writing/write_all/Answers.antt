@@ -1,7 +1,7 @@
 use Rattle.std.proofs.Common.{arith, subst, List, ℕ}
 use Rattle.std.specs.Io.KnownBytes.{Appends}
-use Rattle.proxy_server.proofs.Streams.{appends_on, next_piece}
-use Rattle.proxy_server.proofs.writing.write_all.Goals as goal
+use Rattle.gate_io.proofs.Streams.{appends_on, next_piece}
+use Rattle.gate_io.proofs.writing.write_all.Goals as goal
 
 pub loop-at-preserved : goal.loop-at-preserved
 loop-at-preserved g c =

@@ -1,19 +1,22 @@
 //! Writing all of some bytes, and what was gathered.
-ghost use Rattle.std.specs.Prelude.{◌≡◌, ◌+◌, ◌⊎◌, ◌≤◌, [], length};
+ghost use Rattle.std.specs.Prelude.{◌≡◌, ◌≤◌, []};
 ghost use Rattle.std.specs.Io.KnownBytes.{Appends};
 ghost use Rattle.gate_io.specs.Causes.{Rose};
-ghost use Rattle.gate_run.specs.Fronts.{AppendsFront, Flushed};
+ghost use Rattle.gate_io.specs.Fronts.{AppendsFront};
 
-use gate_io::{Out, Put, Sink};
+use crate::buffer::Out;
+use crate::outside::{Put, Sink};
 
 /// What came of writing.
 #[derive(Clone, Copy)]
 pub enum Wrote {
+    /// All bytes were written.
     All,
+    /// The sink failed, and a front of the bytes was written.
     Failed,
 }
 
-/// Writes all, or a front of it before a fault.
+/// Writes all bytes to a sink, or a front of them before it fails.
 pub fn write_all<S: Sink>(sink: &mut S, bytes: &[u8]) -> Wrote
     ensures all { result ≡ Wrote.All → Appends (S.written sink.old) (S.written sink.new) bytes.now }
     ensures front { AppendsFront (S.written sink.old) (S.written sink.new) bytes.now }
@@ -30,10 +33,12 @@ pub fn write_all<S: Sink>(sink: &mut S, bytes: &[u8]) -> Wrote
     Wrote::All
 }
 
-/// Writes what was gathered for a sink.
+/// Writes what was gathered for a sink, and empties the buffer. Where the sink fails, a front of
+/// it was written and the buffer keeps all.
 pub fn flush<S: Sink>(out: &mut Out, sink: &mut S) -> Wrote
     ensures all { result ≡ Wrote.All → (out.new.bytes ≡ []) × Appends (S.written sink.old) (S.written sink.new) out.old.bytes }
     ensures room { out.new.room ≡ out.old.room }
+    ensures kept { result ≡ Wrote.Failed → out.new ≡ out.old }
     ensures front { AppendsFront (S.written sink.old) (S.written sink.new) out.old.bytes }
     ensures later { S.faults sink.old ≤ S.faults sink.new }
     ensures cause { result ≡ Wrote.Failed → Rose (S.faults sink.old) (S.faults sink.new) }

@@ -1,6 +1,6 @@
 use Rattle.std.proofs.Common.{◌-◌, ◌≤◌, length, take}
 use Rattle.std.specs.Io.KnownBytes.{Appends}
-use Rattle.proxy_server.proofs.writing.write_all.Given as goal
+use Rattle.gate_io.proofs.writing.write_all.Given as goal
 
 -- the bytes before the place were written
 abbrev pub invariant-loop-at : goal.invariant-loop-at
