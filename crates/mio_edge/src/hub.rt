@@ -20,8 +20,8 @@ pub struct SideCounts {
 
 /// A hub over real sockets.
 ///
-/// It reserves `sessions + 1` places in `start`, each of 262,144 bytes for the buffers of its
-/// two ports and some hundreds, and takes no memory after it.
+/// It reserves `sessions + 1` places in `start`, each of 1,048,576 bytes, or 262,144 for more than 64
+/// sessions, for the buffers of its two ports and some hundreds, and takes no memory after it.
 #[derive(Drop)]
 pub struct MioHub<'n, N> {
     sockets: Sockets<'n, N>,

@@ -4,12 +4,12 @@
 //! the client and whose further ports are connections to the upstreams, one address a port. `MioHub`
 //! is the hub of sessions with one upstream.
 //!
-//! All sockets are non-blocking. Each port has a buffer each way, taken in `start`, of 64 KiB where a
-//! session has one upstream: bytes are read from a socket in pieces as large as the buffer and handed
+//! All sockets are non-blocking. Each port has a buffer each way, taken in `start`, where a session has
+//! one upstream of 256 KiB for up to 64 sessions and of 64 KiB for more: bytes are read from a socket in pieces as large as the buffer and handed
 //! out as they are asked for, and what is written is gathered, and sent in one system call a port before the
 //! hub waits, or once 16 sessions were written to.
-//! A session that moved 128 KiB since it was last named waits until the others that are ready had
-//! their turn.
+//! A session that moved 512 KiB, or 128 KiB where there may be more than 64 sessions, since it was last
+//! named waits until the others that are ready had their turn.
 //!
 //! What peers sent, and when a socket is ready, is the system's word: the hub tells no content. What
 //! is proved is safety, the counts, the numbers of the sessions, and that no byte is lost, doubled or

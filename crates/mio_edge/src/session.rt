@@ -5,9 +5,6 @@ ghost use Rattle.gate_io.specs.Hubs.{GotWithin, TookWithin};
 use crate::port::{Port, Rest};
 use gate_io::{LinkGot, LinkPut};
 
-/// The bytes that a session may read and write before the others that are ready have their turn.
-pub(crate) const QUANTUM: usize = 131_072;
-
 /// The ports of one accepted connection.
 #[derive(Drop)]
 pub(crate) struct Session {
@@ -22,21 +19,22 @@ pub(crate) struct Session {
 }
 
 impl Session {
-    /// An open session over these ports, which have no connections yet.
-    pub(crate) fn over(number: u64, ports: Vec<Port>) -> Session {
+    /// An open session over these ports, which have no connections yet. It may move so many bytes in
+    /// its first turn.
+    pub(crate) fn over(number: u64, ports: Vec<Port>, allowance: usize) -> Session {
         Session {
             number,
             ports,
-            allowance: QUANTUM,
+            allowance,
             is_open: true,
             is_queued: false,
             is_written: false,
         }
     }
 
-    /// Begins a turn of the session.
-    pub(crate) fn begin_turn(&mut self) {
-        self.allowance = QUANTUM;
+    /// Begins a turn of the session, in which it may read and write so many bytes.
+    pub(crate) fn begin_turn(&mut self, allowance: usize) {
+        self.allowance = allowance;
     }
 
     /// Whether it moved all that it may in this turn.

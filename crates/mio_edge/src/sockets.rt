@@ -16,8 +16,9 @@ use std::net::{Net, SocketAddr};
 /// to each upstream.
 ///
 /// All memory is taken in `start`, for `sessions + 1` sessions: each port has two buffers of
-/// 131,072 bytes divided by the number of ports, but of 8,192 at least, and a session takes some
-/// hundreds of bytes beside them. With one upstream that is 262,144 bytes of buffers a session.
+/// 524,288 bytes divided by the number of ports, for more than 64 sessions of 131,072 divided by it,
+/// but of 8,192 at least, and a session takes some hundreds of bytes beside them. With one upstream
+/// that is 1,048,576 bytes of buffers a session, or 262,144 for more than 64.
 ///
 /// A session that is closed keeps its place until what was written to it is sent or can't be; a new
 /// connection waits for a place. Once it has sent everything it waits for its peers to end too, lest
@@ -36,6 +37,7 @@ impl<'n, N: Net> Sockets<'n, N> {
     /// No sockets yet.
     pub fn new(net: &'n N) -> Sockets<'n, N>
         ensures faults { result.faults ≡ 0 }
+        ensures accept { result.accept ≡ 0 }
         ensures announced { result.announced ≡ 0 }
     {
         Sockets {
@@ -63,6 +65,7 @@ impl<'n, N: Net> Sockets<'n, N> {
     ) -> Began
         ensures announced { self.new.announced ≡ self.old.announced }
         ensures accept { result ≡ began.Done → self.new.accept ≡ accept }
+        ensures kept { result ≢ began.Done → self.new.accept ≡ self.old.accept }
         ensures later { self.old.faults ≤ self.new.faults }
         ensures cause { result ≡ began.Failed → Rose self.old.faults self.new.faults }
     {
@@ -82,7 +85,8 @@ impl<'n, N: Net> Sockets<'n, N> {
 
     /// The next event. Sessions are numbered from 0.
     ///
-    /// `Ready(k)`: something came for session k, or it is its turn again after it had moved 128 KiB.
+    /// `Ready(k)`: something came for session k, or it is its turn again after it had moved as many bytes
+    /// as its buffers each way hold.
     /// `Stopped`: as many connections as `start` was given were announced, all are closed, what was
     /// written to them is sent or can't be, and the peers have ended too or a second went by in which
     /// nothing came of them. `Failed`: the count of `start` and `next` rose; the
@@ -110,6 +114,8 @@ impl<'n, N: Net> Sockets<'n, N> {
     pub fn read(&mut self, k: u64, port: usize, into: &mut [u8]) -> LinkGot
         requires { 0 < length into.old }
         ensures within { GotWithin into.new result }
+        ensures announced { self.new.announced ≡ self.old.announced }
+        ensures accept { self.new.accept ≡ self.old.accept }
         ensures faults { self.new.faults ≡ self.old.faults }
     {
         match &mut self.listening {
@@ -127,6 +133,8 @@ impl<'n, N: Net> Sockets<'n, N> {
     pub fn write(&mut self, k: u64, port: usize, from: &[u8]) -> LinkPut
         requires { 0 < length from.now }
         ensures within { TookWithin from.now result }
+        ensures announced { self.new.announced ≡ self.old.announced }
+        ensures accept { self.new.accept ≡ self.old.accept }
         ensures faults { self.new.faults ≡ self.old.faults }
     {
         match &mut self.listening {
@@ -137,6 +145,8 @@ impl<'n, N: Net> Sockets<'n, N> {
 
     /// Closes session k. What was written to it is sent still, and its peers see the end behind it.
     pub fn close(&mut self, k: u64)
+        ensures announced { self.new.announced ≡ self.old.announced }
+        ensures accept { self.new.accept ≡ self.old.accept }
         ensures faults { self.new.faults ≡ self.old.faults }
     {
         if let Some(listening) = &mut self.listening {

@@ -12,8 +12,15 @@ use mio::{Interest, Registry, Token};
 use slab::Slab;
 use std::alloc::Global;
 
-/// The bytes of a session's buffers each way, which its ports share alike.
+/// The bytes of a session's buffers each way, which its ports share alike. As many may a session move
+/// before the others that are ready have their turn.
 const BUFFERS: usize = 131_072;
+
+/// The same where there are few places.
+const LARGE_BUFFERS: usize = 524_288;
+
+/// So many places are few.
+const FEW_PLACES: usize = 65;
 
 /// The least bytes of a buffer.
 const LEAST_BUFFER: usize = 8192;
@@ -50,14 +57,23 @@ pub(crate) struct Table {
     behind: Queue,
     /// The sessions whose writes are to be sent.
     written: Queue,
+    /// The place of the session that was named last.
+    turning: usize,
+    /// The bytes that a session may move in a turn.
+    quantum: usize,
 }
 
 impl Table {
     /// An empty table of so many places, for sessions of so many ports.
     pub(crate) fn open(alloc: Global, places: usize, width: usize) -> Result<Table, OutOfMemory> {
+        let quantum = if places <= FEW_PLACES {
+            LARGE_BUFFERS
+        } else {
+            BUFFERS
+        };
         let mut spare = Vec::with_capacity(alloc, places)?;
         for _ in 0..places {
-            spare.push(open_ports(alloc, width)?)?;
+            spare.push(open_ports(alloc, width, quantum)?)?;
         }
         Ok(Table {
             width,
@@ -68,6 +84,8 @@ impl Table {
             ready: Queue::open(alloc, places)?,
             behind: Queue::open(alloc, places)?,
             written: Queue::open(alloc, places)?,
+            turning: 0,
+            quantum,
         })
     }
 
@@ -108,7 +126,9 @@ impl Table {
             self.give_up_one();
         }
         let ports = self.spare.pop()?;
-        self.sessions.insert(Session::over(number, ports)).ok()
+        self.sessions
+            .insert(Session::over(number, ports, self.quantum))
+            .ok()
     }
 
     /// Gives a port of the session at a place its connection, and has it reported.
@@ -192,7 +212,8 @@ impl Table {
             self.wind_up(place);
             return None;
         }
-        session.begin_turn();
+        session.begin_turn(self.quantum);
+        self.turning = place;
         if session.has_unsent() && !session.is_written {
             session.is_written = self.written.push(place);
         }
@@ -335,8 +356,14 @@ impl Table {
         None
     }
 
-    // The place of an open session.
+    // The place of an open session: mostly the one whose turn it is.
     fn find(&self, number: u64) -> Option<usize> {
+        if let Some(session) = self.sessions.get(self.turning)
+            && session.number == number
+            && session.is_open
+        {
+            return Some(self.turning);
+        }
         let at = self.search(number)?;
         self.open.get(at).map(|entry| entry.place)
     }
@@ -350,8 +377,8 @@ impl Table {
 }
 
 // The ports of a session, without connections.
-fn open_ports(alloc: Global, width: usize) -> Result<Vec<Port>, OutOfMemory> {
-    let room = (BUFFERS / width.max(1)).max(LEAST_BUFFER);
+fn open_ports(alloc: Global, width: usize, buffers: usize) -> Result<Vec<Port>, OutOfMemory> {
+    let room = (buffers / width.max(1)).max(LEAST_BUFFER);
     let mut ports = Vec::with_capacity(alloc, width)?;
     for _ in 0..width {
         ports.push(Port::open(alloc, room)?)?;
