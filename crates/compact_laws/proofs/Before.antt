@@ -19,11 +19,10 @@ use Rattle.compact_laws.proofs.Closing.{nest_closed}
 use Rattle.compact_laws.proofs.Headed.{head_read, at_body}
 use Rattle.compact_laws.proofs.Spelled.{body_open}
 use Rattle.compact_laws.proofs.Sound.{Stands, reads_read}
-use Rattle.compact_laws.proofs.Staying.{refused_stays}
 use Rattle.compact_laws.proofs.Viable.{Goes, Cut, one_back, body_of, cut_viable}
 use Rattle.compact_laws.proofs.Reaching.{step_frame}
-use Rattle.compact_laws.proofs.Standing.{here_ends, head_lies, fault_lies, Lies}
-use Rattle.compact_laws.proofs.Placed.{Not, Outcome, front_are, outcome, whole_front, cut_before, again}
+use Rattle.compact_laws.proofs.Lying.{here_ends, head_called, fault_lies, Lies}
+use Rattle.compact_laws.proofs.Placed.{Not, Outcome, front_are, outcome, cut_before}
 
 -- ---- a frame that is refused at its end
 
@@ -34,13 +33,13 @@ closes_here nest flag left most none =
 
 module _ (f : Fault) (other : Not f reasons.Truncated) where
   end_from : (items : List Item) (s last : State) (nest : List Slot) (flag : Bool) (left : List ℕ) → Stands s nest flag left → f.place ≡ length s.frame → Reads s items last → Refuses last f → Cut s nest flag left f
-  end_from [] s last nest flag left a place r e = (place, closes_here nest flag left a.most (here_ends f other s nest flag left a.at a.are (subst (λ x. Refuses x f) (sym r) e) place))
+  end_from [] s last nest flag left a place r e = (place, closes_here nest flag left a.most (here_ends f other s nest flag left a (subst (λ x. Refuses x f) (sym r) e) place))
   end_from (item ∷ items) s last nest flag left a place (next, step, more) e =
       one_back item s next nest flag left f a (reads_read s nest flag left item next a.at step) (λ inner told rest b. end_from items next last inner told rest b (place ∙ ap length (sym (step_frame s next item step))) more e)
 
   -- the frame begins a message, where it is refused at its end
-  pub end_viable : (bytes : List ℕ) → AreBytes bytes → IsRefused bytes f → f.place ≡ length bytes → IsViable bytes
-  end_viable bytes are (inl e) place = let less = head_lies f other bytes are e in absurd (omega (arith, less, place))
+  end_viable : (bytes : List ℕ) → AreBytes bytes → IsRefused bytes f → f.place ≡ length bytes → IsViable bytes
+  end_viable bytes are (inl e) place = let less = (head_called f other bytes are e).0 in absurd (omega (arith, less, place))
   end_viable bytes are (inr (h, items, first, last, head, body, refuses)) place =
       let x = head_read bytes are h first head in
       let body_are = (bytes_front x.header x.body (subst AreBytes x.laid are)).1 in
@@ -52,19 +51,17 @@ module _ (f : Fault) (other : Not f reasons.Truncated) where
 
 -- ---- what stands before the fault
 
-pub whole_viable : (bytes : List ℕ) → IsWhole bytes → IsViable bytes
+whole_viable : (bytes : List ℕ) → IsWhole bytes → IsViable bytes
 whole_viable bytes (m, spells, deep) = ([], m, subst (CompactSpells m) (sym (append-nil bytes)) spells)
 
 module _ (bytes : List ℕ) (are : AreBytes bytes) (f : Fault) (refused : IsRefused bytes f) (other : Not f reasons.Truncated) where
-  pub lies_at : Lies bytes f → f.place ≤ length bytes
+  lies_at : Lies bytes f → f.place ≤ length bytes
   lies_at (inl (deep, less)) = less
-  lies_at (inr (inl (trailing, less))) = omega (arith, less)
-  lies_at (inr (inr (less, bad))) = omega (arith, less)
+  lies_at (inr less) = omega (arith, less)
 
   pub within : Not f reasons.TooDeep → Lies bytes f → f.place < length bytes
   within flat (inl (deep, less)) = absurd (flat deep)
-  within flat (inr (inl (trailing, less))) = less
-  within flat (inr (inr (less, bad))) = less
+  within flat (inr less) = less
 
   size : length (take f.place bytes) ≡ f.place
   size = length-take-le f.place bytes (lies_at (fault_lies f other bytes are refused))
@@ -78,13 +75,12 @@ module _ (bytes : List ℕ) (are : AreBytes bytes) (f : Fault) (refused : IsRefu
       by_outcome (inr (inr same)) = end_viable f other (take f.place bytes) (front_are bytes are f refused other f.place) same (sym size)
 
   -- what stands before a fault that isn't one of depth is not refused for it
-  pub not_before : Not f reasons.TooDeep → IsRefused (take f.place bytes) f → ⊥
+  not_before : Not f reasons.TooDeep → IsRefused (take f.place bytes) f → ⊥
   not_before flat same = let less = within_front flat (fault_lies f other (take f.place bytes) (front_are bytes are f refused other f.place) same) in let long = size in omega (arith, less, long)
     where
       within_front : Not f reasons.TooDeep → Lies (take f.place bytes) f → f.place < length (take f.place bytes)
       within_front flat (inl (deep, less)) = absurd (flat deep)
-      within_front flat (inr (inl (trailing, less))) = less
-      within_front flat (inr (inr (less, bad))) = less
+      within_front flat (inr less) = less
 
   no_cut : extent f.reason (drop f.place bytes) ≡ 0 → (g : Fault) → IsRefused (take f.place bytes) g → g.reason ≡ reasons.Truncated → ⊥
   no_cut none g stops t = let short = cut_before bytes f refused other f.place (front_are bytes are f refused other f.place) g stops t in omega (arith, short, none)
@@ -96,24 +92,3 @@ module _ (bytes : List ℕ) (are : AreBytes bytes) (f : Fault) (refused : IsRefu
       by_outcome (inl whole) = whole
       by_outcome (inr (inl (g, stops, t))) = absurd (no_cut none g stops t)
       by_outcome (inr (inr same)) = absurd (not_before flat same)
-
-  -- an item stands there
-  pub some_item : Not f reasons.TooDeep → Not f reasons.Trailing → 1 ≤ extent f.reason (drop f.place bytes)
-  some_item flat untrailed = by_outcome (outcome bytes are f refused other f.place)
-    where
-      by_outcome : Outcome (take f.place bytes) f → 1 ≤ extent f.reason (drop f.place bytes)
-      by_outcome (inl whole) = absurd (untrailed (whole_front (take f.place bytes) (drop f.place bytes) f (front_are bytes are f refused other f.place) whole (again bytes are f refused other f.place)))
-      by_outcome (inr (inl (g, stops, t))) = let short = cut_before bytes f refused other f.place (front_are bytes are f refused other f.place) g stops t in omega (arith, short)
-      by_outcome (inr (inr same)) = absurd (not_before flat same)
-
-  -- where a value lies too deep, the frame is refused for it, whether or not a byte stands there
-  pub deep_before : Not f reasons.Trailing → extent f.reason (drop f.place bytes) ≡ 0 → IsRefused (take f.place bytes) f
-  deep_before untrailed none = by_outcome (outcome bytes are f refused other f.place)
-    where
-      by_outcome : Outcome (take f.place bytes) f → IsRefused (take f.place bytes) f
-      by_outcome (inl whole) = absurd (untrailed (whole_front (take f.place bytes) (drop f.place bytes) f (front_are bytes are f refused other f.place) whole (again bytes are f refused other f.place)))
-      by_outcome (inr (inl (g, stops, t))) = absurd (no_cut none g stops t)
-      by_outcome (inr (inr same)) = same
-
-  pub no_shallow : Not f reasons.Trailing → extent f.reason (drop f.place bytes) ≡ 0 → (more : List ℕ) → IsWhole (take f.place bytes ++ more) → ⊥
-  no_shallow untrailed none more (m, spells, deep) = (refused_stays (take f.place bytes) more f (front_are bytes are f refused other f.place) (deep_before untrailed none) other).1 m deep spells

@@ -20,6 +20,7 @@ use Rattle.compact_protocol.specs.Grammar.{IsSize, IsElementsHeader, IsPairsHead
 use Rattle.binary_laws.specs.Bytes.{AreBytes}
 use Rattle.binary_laws.proofs.Inverse.{is_read, same_value, same_size, no_fault}
 use Rattle.binary_laws.proofs.Begun.{past, long_enough, room_left}
+use Rattle.compact_laws.specs.Fronts.{Begins}
 use Rattle.compact_laws.proofs.Inverse.{Front, turned, then_read, varint32_read, varint64_read, word_of, long_of, id_read, string_read, elements_read, MapRead, map_read}
 use Rattle.compact_laws.proofs.Levels.{IsTree, Level, AreOuter}
 
@@ -35,17 +36,26 @@ pub record Begun (d : ℕ) (k : Kind) (bytes : List ℕ) (item : Item) (taken : 
   pub rest : List ℕ
   pub laid : bytes ≡ front ++ rest
   pub size : taken ≡ length front
+  pub spells : Begins k item front
   pub next : (limit : ℕ) → 256 ≤ limit → Next limit d k item front
 
-begun : (P : List ℕ → Type 0) (d : ℕ) (k : Kind) (bytes : List ℕ) (item i : Item) (taken n : ℕ) → is_read (i, n) ≡ is_read (item, taken) → Front P bytes n → ((limit : ℕ) → 256 ≤ limit → (l : List ℕ) → P l → Next limit d k i l) → Begun d k bytes item taken
-begun P d k bytes item i taken n e f next =
-    record { front = f.front; rest = f.rest; laid = f.laid; size = sym (same_size i item n taken e) ∙ f.size; next = (λ limit most. subst (λ x. Next limit d k x f.front) (same_value i item n taken e) (next limit most f.front f.spells)) }
+begun : (P : List ℕ → Type 0) (d : ℕ) (k : Kind) (bytes : List ℕ) (item i : Item) (taken n : ℕ) → is_read (i, n) ≡ is_read (item, taken) → Front P bytes n → ((l : List ℕ) → P l → Begins k i l) → ((limit : ℕ) → 256 ≤ limit → (l : List ℕ) → P l → Next limit d k i l) → Begun d k bytes item taken
+begun P d k bytes item i taken n e f first next =
+    let same = same_value i item n taken e in
+    record {
+      front = f.front;
+      rest = f.rest;
+      laid = f.laid;
+      size = sym (same_size i item n taken e) ∙ f.size;
+      spells = subst (λ x. Begins k x f.front) same (first f.front f.spells);
+      next = (λ limit most. subst (λ x. Next limit d k x f.front) same (next limit most f.front f.spells));
+    }
 
 -- ---- values with no level
 
 module _ (d : ℕ) (deep : d ≤ 256) (bytes : List ℕ) (are : AreBytes bytes) (item : Item) (taken : ℕ) where
   leaf : (k : Kind) (i : Item) (n : ℕ) (t : Tree) → is_read (i, n) ≡ is_read (item, taken) → Front (SpellsValue t) bytes n → ((nest : List Slot) → after i nest ≡ spent nest) → kind_of t ≡ k → i ∷ [] ≡ items_of t → depth_of t ≡ 0 → Begun d k bytes item taken
-  leaf k i n t e f same kind is flat = begun (SpellsValue t) d k bytes item i taken n e f (λ limit most l s. inl (same, record { t = t; kind = kind; spells = s; is = is; deep = omega (arith, flat, deep, most) }))
+  leaf k i n t e f same kind is flat = begun (SpellsValue t) d k bytes item i taken n e f (λ l s. inl (t, kind, flat, sym is, s)) (λ limit most l s. inl (same, record { t = t; kind = kind; spells = s; is = is; deep = omega (arith, flat, deep, most) }))
 
   eq_of : (x n : ℕ) → (x == n) ≡ true → x ≡ n
   eq_of x n e = grind (arith, nat_tests)
@@ -134,7 +144,7 @@ module _ (d : ℕ) (deep : d ≤ 256) (bytes : List ℕ) (are : AreBytes bytes) 
 
 module _ (d : ℕ) (bytes : List ℕ) (are : AreBytes bytes) (item : Item) (taken : ℕ) (shallow : d < 256) where
   struct_begun : is_read (struct_begin, 0) ≡ Ok (item, taken) → Begun d kinds.Struct bytes item taken
-  struct_begun e = begun (λ l. l ≡ []) d kinds.Struct bytes item struct_begin taken 0 e (record { front = []; rest = bytes; laid = refl; size = refl; spells = refl }) (λ limit most l none. inr (
+  struct_begun e = begun (λ l. l ≡ []) d kinds.Struct bytes item struct_begin taken 0 e (record { front = []; rest = bytes; laid = refl; size = refl; spells = refl }) (λ l none. inr (refl, none)) (λ limit most l none. inr (
     slots.Fields (pos 0),
     shallow,
     (λ up ids. (omega arith, ids)),
@@ -158,7 +168,7 @@ module _ (d : ℕ) (bytes : List ℕ) (are : AreBytes bytes) (item : Item) (take
       let p = then_read (elements_at bytes) (λ x. Ok (set_begin x.0.0 x.0.1, x.1)) (item, taken) e in
       let k = p.0.0.0 in
       let n = p.0.0.1 in
-      begun (IsElementsHeader k n) d kinds.Set bytes item (set_begin k n) taken p.0.1 p.2 (elements_read bytes are k n p.0.1 p.1) (λ limit most l head. inr (
+      begun (IsElementsHeader k n) d kinds.Set bytes item (set_begin k n) taken p.0.1 p.2 (elements_read bytes are k n p.0.1 p.1) (λ l head. inr (k, n, refl, head)) (λ limit most l head. inr (
         slots.Elements k n,
         shallow,
         (λ up ids. ids),
@@ -180,7 +190,7 @@ module _ (d : ℕ) (bytes : List ℕ) (are : AreBytes bytes) (item : Item) (take
       let p = then_read (elements_at bytes) (λ x. Ok (list_begin x.0.0 x.0.1, x.1)) (item, taken) e in
       let k = p.0.0.0 in
       let n = p.0.0.1 in
-      begun (IsElementsHeader k n) d kinds.List bytes item (list_begin k n) taken p.0.1 p.2 (elements_read bytes are k n p.0.1 p.1) (λ limit most l head. inr (
+      begun (IsElementsHeader k n) d kinds.List bytes item (list_begin k n) taken p.0.1 p.2 (elements_read bytes are k n p.0.1 p.1) (λ l head. inr (k, n, refl, head)) (λ limit most l head. inr (
         slots.Elements k n,
         shallow,
         (λ up ids. ids),
@@ -198,9 +208,9 @@ module _ (d : ℕ) (bytes : List ℕ) (are : AreBytes bytes) (item : Item) (take
 
   by_map : MapRead bytes item taken → Begun d kinds.Map bytes item taken
   by_map (inl (is, f)) =
-      begun (IsSize 0) d kinds.Map bytes item empty_map taken taken (ap (λ i. is_read (i, taken)) is) f (λ limit most l s. inl ((λ nest. refl), record { t = mapping_of_none; kind = refl; spells = s; is = refl; deep = omega (arith, shallow, most) }))
+      begun (IsSize 0) d kinds.Map bytes item empty_map taken taken (ap (λ i. is_read (i, taken)) is) f (λ l s. inr (inl (refl, s))) (λ limit most l s. inl ((λ nest. refl), record { t = mapping_of_none; kind = refl; spells = s; is = refl; deep = omega (arith, shallow, most) }))
   by_map (inr (key, value, n, is, some, few, f)) =
-      begun (IsPairsHeader key value n) d kinds.Map bytes item (map_begin key value n) taken taken (ap (λ i. is_read (i, taken)) is) f (λ limit most l head. inr (
+      begun (IsPairsHeader key value n) d kinds.Map bytes item (map_begin key value n) taken taken (ap (λ i. is_read (i, taken)) is) f (λ l head. inr (inr (key, value, n, some, refl, head))) (λ limit most l head. inr (
         slots.Keys key value n,
         shallow,
         (λ up ids. ids),

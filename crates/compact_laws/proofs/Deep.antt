@@ -45,7 +45,7 @@ behind xs nest bytes mid between w d = record {
   halts = d.halts;
 }
 
-shut : (depth : ℕ) (kind : Kind) (bytes : List ℕ) → opens kind ≡ true → 256 ≤ depth → value_in depth kind bytes ≡ fault 0 reasons.TooDeep
+pub shut : (depth : ℕ) (kind : Kind) (bytes : List ℕ) → opens kind ≡ true → 256 ≤ depth → value_in depth kind bytes ≡ fault 0 reasons.TooDeep
 unfolding value_in
 shut depth kind bytes n h = let t : nat_le 256 depth ≡ true = grind (arith, nat_tests) in rw (n, t) refl
 
@@ -77,7 +77,7 @@ flat_told : (t : Tree) → is_told t ≡ true → depth_of t ≡ 0
 flat_told t told = ap depth_of (told_is t told).1
 
 -- where fields may come
-field_scan : (last : ℤ) (d : ℕ) (flag : Bool) (bytes : List ℕ) → scan_at (Some (slots.Fields last)) (suc d) flag bytes ≡ field_at last bytes
+pub field_scan : (last : ℤ) (d : ℕ) (flag : Bool) (bytes : List ℕ) → scan_at (Some (slots.Fields last)) (suc d) flag bytes ≡ field_at last bytes
 unfolding item_in
 field_scan last d flag bytes = refl
 

@@ -12,14 +12,14 @@ use Rattle.compact_protocol.specs.Grammar.{SpellsHeader}
 use Rattle.binary_laws.proofs.Heading.{drop_front}
 use Rattle.compact_laws.proofs.Leaves.{varint32_again, string_again}
 
-type_again : (t : MessageType) (more : List ℕ) → type_at (130 ∷ (32 * type_code t + 1) ∷ more) ≡ Ok (t, 2)
+pub type_again : (t : MessageType) (more : List ℕ) → type_at (130 ∷ (32 * type_code t + 1) ∷ more) ≡ Ok (t, 2)
 unfolding type_at
 type_again types.Call more = grind (arith, nat_tests)
 type_again types.Reply more = grind (arith, nat_tests)
 type_again types.Exception more = grind (arith, nat_tests)
 type_again types.Oneway more = grind (arith, nat_tests)
 
-front_scan : (bytes : List ℕ) (t : MessageType) (n taken : ℕ) → type_at bytes ≡ Ok (t, 2) → varint32_at (drop 2 bytes) ≡ Ok (n, taken) → front_at bytes ≡ Ok ((t, cast_signed w32 n), 2 + taken)
+pub front_scan : (bytes : List ℕ) (t : MessageType) (n taken : ℕ) → type_at bytes ≡ Ok (t, 2) → varint32_at (drop 2 bytes) ≡ Ok (n, taken) → front_at bytes ≡ Ok ((t, cast_signed w32 n), 2 + taken)
 unfolding front_at
 front_scan bytes t n taken e v = rw (e, v) refl
 

@@ -122,7 +122,7 @@ kind_again kinds.Uuid code h = same_code kinds.Uuid code h
 
 -- ---- fields
 
-field_scan : (last : ℤ) (bytes : List ℕ) (k : Kind) → 1 ≤ length bytes → 0 < slice_index bytes 0 → kind_of (slice_index bytes 0 % 16) ≡ Some k → field_at last bytes ≡ field_of last bytes (Some k)
+pub field_scan : (last : ℤ) (bytes : List ℕ) (k : Kind) → 1 ≤ length bytes → 0 < slice_index bytes 0 → kind_of (slice_index bytes 0 % 16) ≡ Some k → field_at last bytes ≡ field_of last bytes (Some k)
 unfolding field_at
 field_scan last bytes k long some kind =
     let t : nat_lt (length bytes) 1 ≡ false = grind (arith, nat_tests) in
@@ -226,7 +226,7 @@ text_again b bytes more h = rw (string_again b bytes more h) refl
 
 -- ---- containers
 
-elements_scan : (bytes : List ℕ) (k : Kind) → 1 ≤ length bytes → kind_of (slice_index bytes 0 % 16) ≡ Some k → elements_at bytes ≡ elements_of bytes (Some k)
+pub elements_scan : (bytes : List ℕ) (k : Kind) → 1 ≤ length bytes → kind_of (slice_index bytes 0 % 16) ≡ Some k → elements_at bytes ≡ elements_of bytes (Some k)
 unfolding elements_at
 elements_scan bytes k long kind = let t : nat_lt (length bytes) 1 ≡ false = grind (arith, nat_tests) in rw (t, kind) refl
 

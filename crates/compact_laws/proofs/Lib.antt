@@ -24,8 +24,11 @@ pub mod Growing
 pub mod Reaching
 pub mod Placed
 pub mod Standing
-pub mod Faults
-pub mod Before
+pub mod Lying
+pub mod Leading
+pub mod Wrong
+pub mod Arriving
 pub mod Refusing
-pub mod Mending
-pub mod Calling
+pub mod Before
+pub mod Faults
+pub mod Each

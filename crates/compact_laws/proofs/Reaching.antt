@@ -63,7 +63,7 @@ unfolding reads
 refusal_place s f (inl (some, e)) = let m = moved_fault s (scan_at (first_of s.nest) (length s.nest) s.flag (rest s)) f e in let p = ap (λ (b : Fault). b.place) m.2 in omega (arith, p)
 refusal_place s f (inr (none, e)) = let m = end_fault s f none e in let p = m.place in omega (arith, p)
 
-pub last_place : (items : List Item) (s last : State) (f : Fault) → Reads s items last → Refuses last f → s.place ≤ f.place
+last_place : (items : List Item) (s last : State) (f : Fault) → Reads s items last → Refuses last f → s.place ≤ f.place
 last_place [] s last f r e = refusal_place s f (subst (λ x. Refuses x f) (sym r) e)
 last_place (item ∷ items) s last f (next, step, more) e =
     let p = step_place s next item step in
@@ -71,7 +71,7 @@ last_place (item ∷ items) s last f (next, step, more) e =
     omega (arith, p, q)
 
 -- one reading that goes no further than where another stops
-pub extends : (zs xs : List Item) (s mid new : State) → Reads s zs mid → Reads s xs new → Stops new → (rest : List Item) × (xs ≡ zs ++ rest) × Reads mid rest new
+extends : (zs xs : List Item) (s mid new : State) → Reads s zs mid → Reads s xs new → Stops new → (rest : List Item) × (xs ≡ zs ++ rest) × Reads mid rest new
 extends [] xs s mid new p q stops = (xs, refl, subst (λ x. Reads x xs new) p q)
 extends (z ∷ zs) [] s mid new (next, step, more) q stops = absurd (both s next z stops.0 step (ap reads q ∙ stops.1))
 extends (z ∷ zs) (x ∷ xs) s mid new (next, step, more) (n, first, others) stops =
@@ -86,7 +86,7 @@ abbrev pub Takes : List ℕ → List ℕ → Fault → Type 0
 Takes front bytes f = length front < f.place + extent f.reason (drop f.place bytes)
 
 -- the bytes from a place of what is left on are those from that place of the frame on
-pub left_at : (s : State) (nest : List Slot) (flag : Bool) (left : List ℕ) (p : ℕ) → At s nest flag left → drop (s.place + p) s.frame ≡ drop p left
+left_at : (s : State) (nest : List Slot) (flag : Bool) (left : List ℕ) (p : ℕ) → At s nest flag left → drop (s.place + p) s.frame ≡ drop p left
 left_at s nest flag left p a = ap (λ l. drop (s.place + p) l) a.laid ∙ ap (λ n. drop (n + p) (a.front ++ left)) a.place ∙ drop_on (length a.front) p (a.front ++ left) ∙ ap (drop p) (drop_front a.front left)
 
 pub not_trailing : reasons.Trailing ≡ reasons.Truncated → ⊥
@@ -158,7 +158,7 @@ module _ (more : List ℕ) (f : Fault) (other : f.reason ≡ reasons.Truncated �
 
 -- ---- a whole frame
 
-pub header_read : (bytes : List ℕ) (h : Header) (first : State) (p : HeadParts bytes h first) → header_at bytes ≡ Ok (h.name, p.at + p.long)
+header_read : (bytes : List ℕ) (h : Header) (first : State) (p : HeadParts bytes h first) → header_at bytes ≡ Ok (h.name, p.at + p.long)
 header_read bytes h first p = ap (λ (z : Scan (MessageType × ℤ)). z >>= λ t. shifted t.1 (string_at (drop t.1 bytes))) p.fronted ∙ ap (shifted p.at) p.named
 
 pub record HeaderFault (bytes : List ℕ) (f : Fault) : Type 0 where
@@ -173,7 +173,7 @@ header_fault bytes f (inr (front, at, g, e, s, is)) =
     let place = ap (λ (b : Fault). b.place) is in
     record { g = record { place = at + g.place; reason = g.reason }; scan = ap (λ (z : Scan (MessageType × ℤ)). z >>= λ t. shifted t.1 (string_at (drop t.1 bytes))) e ∙ ap (shifted at) s; place = omega (arith, place); reason = ap (λ (b : Fault). b.reason) is }
 
-pub no_both : (x : Header × State) (f : Fault) → is_step x ≡ Err f → ⊥
+no_both : (x : Header × State) (f : Fault) → is_step x ≡ Err f → ⊥
 no_both x f e = absurd (cc)
 
 module _ (a b : List ℕ) (g f : Fault) (t : g.reason ≡ reasons.Truncated) (other : f.reason ≡ reasons.Truncated → ⊥) where

@@ -214,7 +214,7 @@ pub begun_bad : (bytes : List ℕ) (g : Fault) → front_at bytes ≡ Err g → 
 unfolding reads_head
 begun_bad bytes g e = ap (headed (begun bytes)) e
 
-name_bad : (bytes : List ℕ) (front : MessageType × ℤ) (at : ℕ) (g : Fault) → front_at bytes ≡ Ok (front, at) → string_at (drop at bytes) ≡ Err g → reads_head (begun bytes) ≡ Err (record { place = 0 + (at + g.place); reason = g.reason })
+pub name_bad : (bytes : List ℕ) (front : MessageType × ℤ) (at : ℕ) (g : Fault) → front_at bytes ≡ Ok (front, at) → string_at (drop at bytes) ≡ Err g → reads_head (begun bytes) ≡ Err (record { place = 0 + (at + g.place); reason = g.reason })
 unfolding reads_head
 name_bad bytes front at g e s = ap (headed (begun bytes)) e ∙ ap (λ z. named (begun bytes) front at (shifted at z)) s
 

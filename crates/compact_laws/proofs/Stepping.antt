@@ -18,6 +18,7 @@ use Rattle.binary_laws.specs.Bytes.{AreBytes}
 use Rattle.binary_laws.proofs.Inverse.{either, is_read, same_value, same_size}
 use Rattle.binary_laws.proofs.Begun.{past}
 use Rattle.binary_laws.proofs.Walking.{length-spent}
+use Rattle.compact_laws.specs.Fronts.{Begins, SpellsItem, SpellsNext}
 use Rattle.compact_laws.proofs.Inverse.{IsHead, FieldRead, field_read, bool_is, kind_is}
 use Rattle.compact_laws.proofs.Begun.{Next, value_begun}
 use Rattle.compact_laws.proofs.Levels.{IsTree, Level, Ends, AreIds, AreOuter, outer_ids, outer_spent, outer_up, with_value}
@@ -45,6 +46,7 @@ pub record Stepped (nest : List Slot) (flag : Bool) (bytes : List ℕ) (item : I
   pub rest : List ℕ
   pub laid : bytes ≡ front ++ rest
   pub size : taken ≡ length front
+  pub spells : SpellsNext nest item front
   pub within : length (after item nest) ≤ 256
   pub ids : AreIds (after item nest)
   pub alike : (more : List ℕ) → Alike (after item nest) (flag_of bytes) (flag_of (bytes ++ more))
@@ -112,6 +114,7 @@ module _ (last : ℤ) (up : List Slot) (flag : Bool) (most : suc (length up) ≤
         rest = b.0;
         laid = b.1;
         size = sym (same_size stop item 1 taken e);
+        spells = inl (refl, refl);
         within = omega arith;
         ids = outer_ids up ids.1;
         alike = (λ more. outer_alike up ids.1 (flag_of bytes) (flag_of (bytes ++ more)));
@@ -155,6 +158,7 @@ module _ (last : ℤ) (up : List Slot) (flag : Bool) (most : suc (length up) ≤
         rest = f.rest;
         laid = f.laid;
         size = f.size;
+        spells = inr (r.id, r.kind, f.spells.code, refl, kind_is f.spells.code r.kind f.spells.kind, f.spells.header);
         within = most;
         ids = (r.fits, ids.1);
         alike = (λ more. same_alike (slots.Value r.kind r.id ∷ up) (flag_of bytes) (flag_of (bytes ++ more)) (told ∙ sym (longer_told f.front f.rest more f.laid (f.spells.code == 1) f.spells.told)));
@@ -200,6 +204,18 @@ next_ends : (limit : ℕ) (flag told : Bool) (nest : List Slot) (k : Kind) (item
 next_ends limit flag told nest k item front rest items c (inl (same, v)) ends = with_value limit flag nest k (item ∷ []) items front rest c v (told, subst (λ n. Ends limit told n items rest) (same nest) ends)
 next_ends limit flag told nest k item front rest items c (inr (slot, shallow, plain, same, closes)) ends = opened_ends limit flag told nest k slot item front rest items c (closes told) (subst (λ n. Ends limit told n items rest) (same nest) ends)
 
+is_true : true ≡ false → ⊥
+is_true e = absurd (cc)
+
+-- where a value is called for, its first item is spelled
+pub next_spells : (nest : List Slot) (k : Kind) (item : Item) (front : List ℕ) → CallsFor nest k → Begins k item front → SpellsNext nest item front
+next_spells [] k item front c b = absurd c
+next_spells (slots.Fields last ∷ up) k item front c b = absurd c
+next_spells (slots.Value kind id ∷ up) k item front c b = inr ((λ bool. is_true (sym (ap is_bool (sym c.0 ∙ bool)) ∙ c.1)), subst (λ z. Begins z item front) (sym c.0) b)
+next_spells (slots.Elements kind left ∷ up) k item front c b = inr (omega (arith, c.1), subst (λ z. Begins z item front) (sym c.0) b)
+next_spells (slots.Keys key value left ∷ up) k item front c b = inr (omega (arith, c.1), subst (λ z. Begins z item front) (sym c.0) b)
+next_spells (slots.Values key value left ∷ up) k item front c b = subst (λ z. Begins z item front) (sym c) b
+
 value_stepped : (nest : List Slot) (flag : Bool) (k : Kind) (bytes : List ℕ) (item : Item) (taken : ℕ) → length nest ≤ 256 → AreIds nest → AreBytes bytes → CallsFor nest k → value_in (length nest) k bytes ≡ Ok (item, taken) → Stepped nest flag bytes item taken
 value_stepped nest flag k bytes item taken most ids are c e =
     let b = value_begun (length nest) k bytes item taken most are e in
@@ -209,6 +225,7 @@ value_stepped nest flag k bytes item taken most ids are c e =
       rest = b.rest;
       laid = b.laid;
       size = b.size;
+      spells = next_spells nest k item b.front c b.spells;
       within = still_within nest k item b.front most (b.next 256 (omega arith));
       ids = outer_ids (after item nest) outer;
       alike = (λ more. outer_alike (after item nest) outer (flag_of bytes) (flag_of (bytes ++ more)));
@@ -224,6 +241,7 @@ told_stepped id up flag bytes item taken most ids e =
       rest = bytes;
       laid = refl;
       size = sym (same_size (bool_value flag) item 0 taken e);
+      spells = inl (refl, flag, refl, refl);
       within = most;
       ids = ids;
       alike = (λ more. outer_alike (slots.Fields id ∷ up) ids (flag_of bytes) (flag_of (bytes ++ more)));
@@ -259,13 +277,14 @@ field_value_stepped kinds.Uuid id up flag bytes item taken most ids are e = valu
 -- ---- the ends of containers
 
 end_stepped : (slot : Slot) (up : List Slot) (flag : Bool) (bytes : List ℕ) (item : Item) (taken : ℕ) → suc (length up) ≤ 256 → AreIds (slot ∷ up) → ((limit : ℕ) → 256 ≤ limit → Level limit flag slot (suc (length up)) (end ∷ []) [])
-    → is_read (end, 0) ≡ is_read (item, taken) → Stepped (slot ∷ up) flag bytes item taken
-end_stepped slot up flag bytes item taken most ids empty e =
+    → SpellsItem slot end [] → is_read (end, 0) ≡ is_read (item, taken) → Stepped (slot ∷ up) flag bytes item taken
+end_stepped slot up flag bytes item taken most ids empty spelled e =
     let made : Stepped (slot ∷ up) flag bytes end taken = record {
       front = [];
       rest = bytes;
       laid = refl;
       size = sym (same_size end item 0 taken e);
+      spells = spelled;
       within = omega arith;
       ids = outer_ids up (outer_up slot up ids);
       alike = (λ more. outer_alike up (outer_up slot up ids) (flag_of bytes) (flag_of (bytes ++ more)));
@@ -287,10 +306,10 @@ stepped (slots.Values key value left) up flag bytes item taken most ids are e = 
 stepped (slots.Elements k left) up flag bytes item taken most ids are e = by_left (left == 0) refl e
   where
     by_left : (b : Bool) → (left == 0) ≡ b → cond b (is_read (end, 0)) (value_in (suc (length up)) k bytes) ≡ Ok (item, taken) → Stepped (slots.Elements k left ∷ up) flag bytes item taken
-    by_left true t h = end_stepped (slots.Elements k left) up flag bytes item taken most ids (λ limit bound. record { ts = no_trees; count = sym (zero_of left t); spells = refl; is = refl; deep = omega arith }) h
+    by_left true t h = end_stepped (slots.Elements k left) up flag bytes item taken most ids (λ limit bound. record { ts = no_trees; count = sym (zero_of left t); spells = refl; is = refl; deep = omega arith }) (inl (zero_of left t, refl, refl)) h
     by_left false t h = value_stepped (slots.Elements k left ∷ up) flag k bytes item taken most ids are (refl, some_of left t) h
 stepped (slots.Keys key value left) up flag bytes item taken most ids are e = by_left (left == 0) refl e
   where
     by_left : (b : Bool) → (left == 0) ≡ b → cond b (is_read (end, 0)) (value_in (suc (length up)) key bytes) ≡ Ok (item, taken) → Stepped (slots.Keys key value left ∷ up) flag bytes item taken
-    by_left true t h = end_stepped (slots.Keys key value left) up flag bytes item taken most ids (λ limit bound. record { ps = no_pairs; count = sym (zero_of left t); spells = refl; is = refl; deep = omega arith }) h
+    by_left true t h = end_stepped (slots.Keys key value left) up flag bytes item taken most ids (λ limit bound. record { ps = no_pairs; count = sym (zero_of left t); spells = refl; is = refl; deep = omega arith }) (inl (zero_of left t, refl, refl)) h
     by_left false t h = value_stepped (slots.Keys key value left ∷ up) flag key bytes item taken most ids are (refl, some_of left t) h

@@ -38,7 +38,7 @@ pub record Goes (nest : List Slot) (flag : Bool) (bytes : List ℕ) : Type 0 whe
 
 -- ---- the item that is cut
 
-completed_goes : (slot : Slot) (up : List Slot) (flag : Bool) (bytes : List ℕ) → suc (length up) ≤ 256 → AreIds (slot ∷ up) → AreBytes bytes → Completed (item_in (suc (length up)) slot flag) bytes → Goes (slot ∷ up) flag bytes
+pub completed_goes : (slot : Slot) (up : List Slot) (flag : Bool) (bytes : List ℕ) → suc (length up) ≤ 256 → AreIds (slot ∷ up) → AreBytes bytes → Completed (item_in (suc (length up)) slot flag) bytes → Goes (slot ∷ up) flag bytes
 completed_goes slot up flag bytes most ids are c =
     let front = bytes ++ c.more in
     let one = stepped slot up flag (front ++ []) c.item (length front) most ids (bytes_join front [] (bytes_join bytes c.more are c.are) tt) (c.whole []) in

@@ -3,17 +3,19 @@
 //! Each law is the contract of a function that does nothing. The code rests on none of them.
 #![tactic(auto)]
 
-ghost use Rattle.std.specs.Prelude.{◌≡◌, ◌<◌, ◌≤◌, ◌⊎◌, List, ℕ, [], ◌++◌, length};
+ghost use Rattle.std.specs.Prelude.{◌≡◌, ◌<◌, ◌≤◌, ◌⊎◌, List, ℕ, ℤ, pos, [], ◌∷◌, ◌++◌, length, take};
 ghost use Rattle.thrift_value.specs.Items.{Item};
-ghost use Rattle.thrift_value.specs.Trees.{Message, depth_of_members, items_of_members};
+ghost use Rattle.thrift_value.specs.Trees.{Message, Members, depth_of_members, items_of_members};
 ghost use Rattle.protocol_traits.specs.Heads.{Header};
 ghost use Rattle.protocol_traits.specs.declared.fault.Fault.{Fault};
 ghost use Rattle.protocol_traits.specs.declared.fault.Reason.TheVariants as reasons;
-ghost use Rattle.compact_protocol.specs.Grammar.{CompactSpells};
+ghost use Rattle.protocol_traits.specs.declared.nest.Slot.TheVariants as slots;
+ghost use Rattle.compact_protocol.specs.Grammar.{CompactSpells, SpellsMembers};
 ghost use Rattle.binary_laws.specs.Bytes.{AreBytes};
 ghost use Rattle.binary_laws.specs.Reads.{header_of_message};
 ghost use Rattle.binary_laws.specs.Written.{IsMessage};
-ghost use Rattle.compact_laws.specs.Faults.{IsWhole, with_item, FaultAt, IsCertain};
+ghost use Rattle.compact_laws.specs.Faults.{IsWhole, with_item, FaultAt};
+ghost use Rattle.compact_laws.specs.Fronts.{Leads};
 ghost use Rattle.compact_laws.specs.Reads.{IsRead};
 ghost use Rattle.compact_laws.specs.Refused.{IsViable, IsRefused};
 ghost use Rattle.compact_laws.specs.Written.{IsWritten};
@@ -73,17 +75,25 @@ pub fn each_frame_is_read_or_refused()
     ensures one_reading { (bytes : List ℕ) (h k : Header) (xs ys : List Item) → IsRead bytes h xs → IsRead bytes k ys → (h ≡ k) × (xs ≡ ys) }
 {}
 
-/// The fault that refuses a frame stands there, with its place and its reason. An item at fault: what begins at the place is none of
-/// the reason's sort, some message begins with what stands before the place and bytes of the sort behind, and with the item at fault
-/// the frame begins none. A value that lies too deep: what stands before the place begins a message, and none of depth at most 256.
-/// Else the frame begins a message and ends before it does, or a message stands before the place and a byte follows. Each frame of
-/// bytes spells a message of depth at most 256 or is refused with such a fault, never both. A version, a type or a byte behind the
-/// message that stands so at fault refuses the frame, and so does its end, where it begins a message of depth at most 256. What follows
-/// the item at fault, or the place of a value that lies too deep, tells nothing.
+/// The fault that refuses a frame is the one fault that stands there, with its place and its reason: a value is called for that lies
+/// too deep, at the first such place; or, with none so far, the frame begins a message and ends before it does, or a message stands
+/// before the place and a byte follows, or a part of a message is called for there and what begins there is none of it. Each frame of
+/// bytes spells a message of depth at most 256 or has exactly one such fault, never both. What stands before the fault begins a
+/// message, of any depth, and with the item at fault, as far as the frame has it, the frame begins none. What follows the item, or the
+/// place of a value that lies too deep, tells nothing.
 pub fn the_fault_that_stands_there()
     ensures stands { (bytes : List ℕ) (f : Fault) → AreBytes bytes → IsRefused bytes f → FaultAt bytes f }
+    ensures refuses { (bytes : List ℕ) (f : Fault) → AreBytes bytes → FaultAt bytes f → IsRefused bytes f }
     ensures judged { (bytes : List ℕ) → AreBytes bytes → IsWhole bytes ⊎ ((f : Fault) × IsRefused bytes f × FaultAt bytes f) }
-    ensures apart { (bytes : List ℕ) (f : Fault) → FaultAt bytes f → IsWhole bytes → ⊥ }
-    ensures refuses { (bytes : List ℕ) (f : Fault) → AreBytes bytes → FaultAt bytes f → IsCertain f.reason bytes → IsRefused bytes f }
+    ensures apart { (bytes : List ℕ) (f : Fault) → AreBytes bytes → FaultAt bytes f → IsWhole bytes → ⊥ }
+    ensures one { (bytes : List ℕ) (f g : Fault) → AreBytes bytes → FaultAt bytes f → FaultAt bytes g → f ≡ g }
+    ensures before { (bytes : List ℕ) (f : Fault) → AreBytes bytes → FaultAt bytes f → IsViable (take f.place bytes) }
+    ensures behind { (bytes : List ℕ) (f : Fault) → AreBytes bytes → FaultAt bytes f → (f.reason ≡ reasons.Truncated → ⊥) → (f.reason ≡ reasons.Trailing → ⊥) → (f.reason ≡ reasons.TooDeep → ⊥) → IsViable (with_item f.reason bytes f.place) → ⊥ }
     ensures item_tells { (bytes : List ℕ) (f : Fault) → AreBytes bytes → IsRefused bytes f → (f.reason ≡ reasons.Truncated → ⊥) → (f.reason ≡ reasons.Trailing → ⊥) → IsRefused (with_item f.reason bytes f.place) f }
+{}
+
+/// A body is spelled item by item: the levels go on from item to item with bytes that spell it there, and behind the last none is open.
+/// So a front of a body calls for what the levels behind its items go on with.
+pub fn each_item_is_spelled()
+    ensures { (ms : Members) (bytes : List ℕ) → SpellsMembers (pos 0) ms bytes → Leads (slots.Fields (pos 0) ∷ []) (items_of_members ms) bytes [] }
 {}

@@ -30,8 +30,9 @@ use Rattle.binary_laws.specs.Reads.{header_of_message}
 use Rattle.compact_laws.specs.Refused.{Refuses, IsRefused}
 use Rattle.verdict_laws.specs.Following.{Follows}
 use Rattle.verdict_laws.specs.Spellings.{plain_of}
-use Rattle.verdict_laws.specs.Verdicts.{IsPlain, IsVerdict}
-use Rattle.verdict_laws.specs.Verdicts.IsVerdict.{Passes, IsFaulty, IsUnread}
+use Rattle.verdict_laws.specs.Verdicts.{IsPlain}
+use Rattle.verdict_laws.proofs.Readings.{IsReadVerdict}
+use Rattle.verdict_laws.proofs.Readings.IsReadVerdict.{ReadPasses, ReadFaulty, ReadUnread}
 use Rattle.verdict_laws.proofs.Bodies.{IsNested, judged_whole, judged_faulty, judged_trailing}
 use Rattle.verdict_laws.proofs.Firm.{AreFirm, binary_takes_all, compact_takes_all}
 use Rattle.verdict_laws.proofs.CompactFirm.{members_firm}
@@ -92,30 +93,30 @@ module _ (d : Declarations) (route : Route) (to : Proto) (frame : List ℕ) {T :
   abbrev verdict : Judged
   verdict = judge compact_source typed (start_of d route) (info_of d route) target frame
 
-  read_passes : AreBytes frame → (header : Header) (items : List Item) → IsRead frame header items → IsVerdict compact_source CompactSpells IsRefused d route to frame verdict
+  read_passes : AreBytes frame → (header : Header) (items : List Item) → IsRead frame header items → IsReadVerdict compact_source CompactSpells IsRefused d route to frame verdict
   read_passes are header items (first, last, headed, reads, ends) =
       let m = read_spelled frame header items are (first, last, headed, reads, ends) in
       let firm = members_firm (pos 0) m.0.body m.4.1 m.4.3 in
       let level = body_level frame header first headed in
       let is = judged_whole compact_source target levels nested (start_of d route) (info_of d route) frame header first last items headed level (follows items first last (start_of d route header) reads)
       (free header.name) (takes items (start_of d route header) (subst AreFirm (sym m.2) firm)) (end_closed last last ends) ends in
-      Passes m.0 (plain_of target d route m.0) m.4 m.3 (plain m.0)
+      ReadPasses m.0 (plain_of target d route m.0) m.4 m.3 (plain m.0)
       (subst (λ h. verdict ≡ judged (Passed (info_of d route h)) (target.plain_head h ++ spelled target.plain target.after target.begun (marked (start_of d route h) (items_of_members m.0.body)))) m.1
       (subst (λ xs. verdict ≡ judged (Passed (info_of d route header)) (target.plain_head header ++ spelled target.plain target.after target.begun (marked (start_of d route header) xs))) m.2 is))
 
-  refused_is : (f : Fault) → IsRefused frame f → IsVerdict compact_source CompactSpells IsRefused d route to frame verdict
-  refused_is f (inl e) = IsUnread f e (inl e) (judge_err compact_source typed (start_of d route) (info_of d route) target frame f e)
+  refused_is : (f : Fault) → IsRefused frame f → IsReadVerdict compact_source CompactSpells IsRefused d route to frame verdict
+  refused_is f (inl e) = ReadUnread f e (inl e) (judge_err compact_source typed (start_of d route) (info_of d route) target frame f e)
   refused_is f (inr (header, items, first, last, headed, reads, refuses)) = by_end refuses
     where
       whole_refused : IsRefused frame f
       whole_refused = inr (header, items, first, last, headed, reads, refuses)
 
-      by_end : Refuses last f → IsVerdict compact_source CompactSpells IsRefused d route to frame verdict
+      by_end : Refuses last f → IsReadVerdict compact_source CompactSpells IsRefused d route to frame verdict
       by_end (inl (some, e)) =
-          IsFaulty header first f headed whole_refused (judged_faulty compact_source target levels nested (start_of d route) (info_of d route) frame header first last items headed (body_level frame header first headed)
+          ReadFaulty header first f headed whole_refused (judged_faulty compact_source target levels nested (start_of d route) (info_of d route) frame header first last items headed (body_level frame header first headed)
           (follows items first last (start_of d route header) reads) f (some_levels last.nest some) e)
       by_end (inr (none, e)) =
-          IsFaulty header first f headed whole_refused (judged_trailing compact_source target levels nested (start_of d route) (info_of d route) frame header first last items headed (body_level frame header first headed)
+          ReadFaulty header first f headed whole_refused (judged_trailing compact_source target levels nested (start_of d route) (info_of d route) frame header first last items headed (body_level frame header first headed)
           (follows items first last (start_of d route header) reads) f (ap length none) e)
 
   -- a frame that spells a message passes with its plain spelling
@@ -138,14 +139,14 @@ module _ (d : Declarations) (route : Route) (to : Proto) (frame : List ℕ) {T :
       let begin = begins frame in
       short target light compact_source levels nested (header_of_message m) (items_of_members m.body) r.0 r.1 p (length frame) (follows (items_of_members m.body) r.0 r.1 p r.3) sized (light_head (header_of_message m) is.seq) (omega (arith, head, begin))
 
-  pub compact_verdict : AreBytes frame → IsVerdict compact_source CompactSpells IsRefused d route to frame verdict
+  pub compact_verdict : AreBytes frame → IsReadVerdict compact_source CompactSpells IsRefused d route to frame verdict
   compact_verdict are = by_outcome (read_or_refused frame)
     where
-      by_outcome : ((header : Header) × (items : List Item) × IsRead frame header items) ⊎ ((f : Fault) × IsRefused frame f) → IsVerdict compact_source CompactSpells IsRefused d route to frame verdict
+      by_outcome : ((header : Header) × (items : List Item) × IsRead frame header items) ⊎ ((f : Fault) × IsRefused frame f) → IsReadVerdict compact_source CompactSpells IsRefused d route to frame verdict
       by_outcome (inl (header, items, read)) = read_passes are header items read
       by_outcome (inr (f, refused)) = refused_is f refused
 
-pub compact_judged : (d : Declarations) (route : Route) (to : Proto) (frame : List ℕ) → AreBytes frame → (to ≡ protocols.Json → ⊥) → IsVerdict compact_source CompactSpells IsRefused d route to frame (pairs.judged d route protocols.Compact to frame)
+pub compact_judged : (d : Declarations) (route : Route) (to : Proto) (frame : List ℕ) → AreBytes frame → (to ≡ protocols.Json → ⊥) → IsReadVerdict compact_source CompactSpells IsRefused d route to frame (pairs.judged d route protocols.Compact to frame)
 unfolding pairs.judged
 compact_judged d route protocols.Binary frame are other = compact_verdict d route protocols.Binary frame binary_target (λ name. refl) binary_takes_all (λ m. refl) are
 compact_judged d route protocols.Compact frame are other = compact_verdict d route protocols.Compact frame compact_target (λ name. refl) compact_takes_all (λ m. refl) are

@@ -4,6 +4,8 @@ pub mod CompactFirm
 pub mod Ranges
 pub mod Sizes
 pub mod Plain
+pub mod Readings
 pub mod Binary
 pub mod Compact
+pub mod Faulted
 pub mod Round

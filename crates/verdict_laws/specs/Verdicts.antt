@@ -1,6 +1,7 @@
 -- The verdict on a frame in the words of the grammars.
-use Rattle.std.specs.Prelude.{◌≡◌, ℕ, ◌<◌, List, [], Ok, Err}
-use Rattle.thrift_value.specs.Trees.{Message, depth_of_members}
+use Rattle.std.specs.Prelude.{◌≡◌, ◌⊎◌, ℕ, ◌<◌, ◌^◌, List, [], ◌++◌, length, FitsSigned}
+use Rattle.std.specs.Int.{w32}
+use Rattle.thrift_value.specs.Trees.{Message, no_members, depth_of_members}
 use Rattle.protocol_traits.specs.declared.fault.Fault.{Fault}
 use Rattle.protocol_traits.specs.declared.proto.Proto.{Proto}
 use Rattle.protocol_traits.specs.declared.proto.Proto.TheVariants as protocols
@@ -10,9 +11,10 @@ use Rattle.translate_core.specs.declared.route.Route.{Route}
 use Rattle.translate_core.specs.declared.verdict.Cause.TheVariants.{Grammar}
 use Rattle.translate_core.specs.declared.verdict.Verdict.TheVariants.{Passed, Refused, Unread}
 use Rattle.translate_core.specs.Routes.{info_of}
-use Rattle.translate_core.specs.Body.{Source}
 use Rattle.translate_core.specs.Judged.{Judged, judged}
 use Rattle.protocol_pairs.specs.Pairs.{binary_target, compact_target}
+use Rattle.binary_protocol.specs.Grammar.{SpellsStrictHeader, SpellsOldHeader}
+use Rattle.compact_protocol.specs.Grammar.{SpellsHeader}
 use Rattle.binary_laws.specs.Reads.{header_of_message}
 use Rattle.verdict_laws.specs.Spellings.{plain_of}
 
@@ -22,11 +24,23 @@ IsPlain protocols.Binary d route m bytes = bytes ≡ plain_of binary_target d ro
 IsPlain protocols.Compact d route m bytes = bytes ≡ plain_of compact_target d route m
 IsPlain protocols.Json d route m bytes = ⊥
 
+-- a message with this header
+abbrev headed : Header → Message
+headed h = record { name = h.name; mtype = h.mtype; seq = h.seq; body = no_members }
+
+-- these bytes spell the header
+abbrev pub BinaryHead : Header → List ℕ → Type 0
+BinaryHead h bytes = (length h.name < 2 ^ 31) × FitsSigned w32 h.seq × (SpellsStrictHeader (headed h) bytes ⊎ SpellsOldHeader (headed h) bytes)
+
+abbrev pub CompactHead : Header → List ℕ → Type 0
+CompactHead h bytes = SpellsHeader (headed h) bytes
+
 -- The frame spells a message of depth at most 256, of which its body is one level, and that passes with its plain spelling; or it is
 -- refused with the fault that stands in it, and nothing is written; where no front of it is a whole header, it is unread.
-pub data IsVerdict {S : Type 0} (source : Source S) (Spells : Message → List ℕ → Type 0) (IsRefused : List ℕ → Fault → Type 0) (d : Declarations) (route : Route) (to : Proto) (frame : List ℕ) (j : Judged) : Type 0 where
+pub data IsVerdict (SpellsHead : Header → List ℕ → Type 0) (Spells : Message → List ℕ → Type 0) (FaultAt : List ℕ → Fault → Type 0) (d : Declarations) (route : Route) (to : Proto) (frame : List ℕ) (j : Judged) : Type 0 where
   Passes : (m : Message) (bytes : List ℕ) → Spells m frame → depth_of_members m.body < 256 → IsPlain to d route m bytes
-      → j ≡ judged (Passed (info_of d route (header_of_message m))) bytes → IsVerdict source Spells IsRefused d route to frame j
-  IsFaulty : (header : Header) (first : S) (f : Fault) → source.reads_head (source.begun frame) ≡ Ok (header, first) → IsRefused frame f
-      → j ≡ judged (Refused (info_of d route header) (Grammar f)) [] → IsVerdict source Spells IsRefused d route to frame j
-  IsUnread : (f : Fault) → source.reads_head (source.begun frame) ≡ Err f → IsRefused frame f → j ≡ judged (Unread f) [] → IsVerdict source Spells IsRefused d route to frame j
+      → j ≡ judged (Passed (info_of d route (header_of_message m))) bytes → IsVerdict SpellsHead Spells FaultAt d route to frame j
+  IsFaulty : (header : Header) (front rest : List ℕ) (f : Fault) → frame ≡ front ++ rest → SpellsHead header front → FaultAt frame f
+      → j ≡ judged (Refused (info_of d route header) (Grammar f)) [] → IsVerdict SpellsHead Spells FaultAt d route to frame j
+  IsUnread : (f : Fault) → ((header : Header) (front rest : List ℕ) → frame ≡ front ++ rest → SpellsHead header front → ⊥) → FaultAt frame f
+      → j ≡ judged (Unread f) [] → IsVerdict SpellsHead Spells FaultAt d route to frame j

@@ -9,26 +9,26 @@ ghost use Rattle.protocol_traits.specs.declared.proto.Proto.{Proto};
 ghost use Rattle.protocol_traits.specs.declared.proto.Proto.TheVariants as protocols;
 ghost use Rattle.type_tables.specs.Declarations.{Declarations};
 ghost use Rattle.translate_core.specs.declared.route.Route.{Route};
-ghost use Rattle.protocol_pairs.specs.Pairs.{judged, binary_source, compact_source};
+ghost use Rattle.protocol_pairs.specs.Pairs.{judged};
 ghost use Rattle.binary_protocol.specs.Grammar.{BinarySpells};
 ghost use Rattle.compact_protocol.specs.Grammar.{CompactSpells};
 ghost use Rattle.binary_laws.specs.Bytes.{AreBytes};
-ghost use Rattle.binary_laws.specs.Refused as binary_faults;
-ghost use Rattle.compact_laws.specs.Refused as compact_faults;
+ghost use Rattle.binary_laws.specs.Faults as binary_faults;
+ghost use Rattle.compact_laws.specs.Faults as compact_faults;
 ghost use Rattle.verdict_laws.specs.Rounds.{SpellsIn, IsRound};
-ghost use Rattle.verdict_laws.specs.Verdicts.{IsVerdict};
+ghost use Rattle.verdict_laws.specs.Verdicts.{BinaryHead, CompactHead, IsVerdict};
 
 /// A frame of Binary, for Binary or Compact, passes with the plain spelling of the message that it spells, or is refused with the
-/// fault that stands in it, unread where that stands in the header.
+/// one fault that stands in it, unread where no front of it is a whole header.
 pub fn a_binary_frame_is_judged_by_its_grammar()
     ensures { (d : Declarations) (route : Route) (to : Proto) (frame : List ℕ) → AreBytes frame → (to ≡ protocols.Json → ⊥)
-        → IsVerdict binary_source BinarySpells binary_faults.IsRefused d route to frame (judged d route protocols.Binary to frame) }
+        → IsVerdict BinaryHead BinarySpells binary_faults.FaultAt d route to frame (judged d route protocols.Binary to frame) }
 {}
 
 /// The same for a frame of Compact.
 pub fn a_compact_frame_is_judged_by_its_grammar()
     ensures { (d : Declarations) (route : Route) (to : Proto) (frame : List ℕ) → AreBytes frame → (to ≡ protocols.Json → ⊥)
-        → IsVerdict compact_source CompactSpells compact_faults.IsRefused d route to frame (judged d route protocols.Compact to frame) }
+        → IsVerdict CompactHead CompactSpells compact_faults.FaultAt d route to frame (judged d route protocols.Compact to frame) }
 {}
 
 /// A frame of Binary or Compact that spells a message of depth at most 256 passes to Binary or Compact with the message's plain spelling,

@@ -1,5 +1,5 @@
-use Rattle.verdict_laws.proofs.Binary.{binary_judged}
+use Rattle.verdict_laws.proofs.Faulted.{binary_told}
 use Rattle.verdict_laws.proofs.a_binary_frame_is_judged_by_its_grammar.Goals as goal
 
 pub returns : goal.returns
-returns c = binary_judged
+returns c = binary_told

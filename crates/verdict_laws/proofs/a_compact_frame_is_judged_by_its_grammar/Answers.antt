@@ -1,5 +1,5 @@
-use Rattle.verdict_laws.proofs.Compact.{compact_judged}
+use Rattle.verdict_laws.proofs.Faulted.{compact_told}
 use Rattle.verdict_laws.proofs.a_compact_frame_is_judged_by_its_grammar.Goals as goal
 
 pub returns : goal.returns
-returns c = compact_judged
+returns c = compact_told
