@@ -34,9 +34,11 @@ COMMAND = PROGRAM + " serve binary binary {listen} {target} --accept {accept} --
 HOST = "127.0.0.1"
 MOST_FILES = 8192
 
-# The most bytes that a session holds at --limit 1024 and 1,024 open calls, and the buffers of its sockets.
+# The most bytes that a session holds at --limit 1024 and 1,024 open calls, and the buffers of its sockets where
+# there may be up to 64 sessions, and where there may be more.
 SESSION = 52 * 1024 + 16 * 1024 + 4096
-SOCKETS = 262_144
+FEW_SESSIONS = 64
+SOCKETS_OF_FEW, SOCKETS_OF_MANY = 1_048_576, 262_144
 REST = 16 << 20
 
 
@@ -111,7 +113,8 @@ class Gateway:
     def __init__(self, target: str, accept: int = 0, sessions: int = 32, files: Optional[int] = None,
                  before: Optional[List[str]] = None) -> None:
         self.port = free_port()
-        self.bound = sessions * SESSION + (sessions + 1) * SOCKETS + REST
+        sockets = SOCKETS_OF_FEW if sessions <= FEW_SESSIONS else SOCKETS_OF_MANY
+        self.bound = sessions * SESSION + (sessions + 1) * sockets + REST
         self.is_traced = before is not None
         self.output = tempfile.TemporaryFile("w+")
         listen = "%s:%d" % (HOST, self.port)
@@ -216,6 +219,17 @@ def ask(stream: socket.socket, sent: bytes) -> None:
     sender.start()
     want(read_bytes(stream, len(sent)) == answers(sent), "other answers")
     sender.join()
+
+
+def come_in(gate: Gateway) -> None:
+    """Connects until a connection is served: one that comes while descriptors are few is closed."""
+    until = time.monotonic() + options.seconds
+    while True:
+        try:
+            return ask(gate.connect(), calls(0, 10))
+        except (Failed, OSError):
+            want(time.monotonic() < until, "none came in")
+            time.sleep(0.1)
 
 
 def half_close() -> str:
@@ -462,12 +476,11 @@ def no_connection_left() -> str:
         want(spent < 0.5, "%.2f s of processor time in a second" % spent)
         for stream in crowd:
             stream.close()
-        time.sleep(1)
-        ask(gate.connect(), calls(0, 10))
+        waited = timed(lambda: come_in(gate))
         ask(other, calls(0, 10))
         want(gate.runs(), "it ended")
-    return "%d connections stood before 100 descriptors; 1,000 calls beside them took %.2f s, and one came in when they had left" % (
-        len(crowd), beside)
+    return "%d connections stood before 100 descriptors; 1,000 calls beside them took %.2f s, and one came in %.1f s after they had left" % (
+        len(crowd), beside, waited)
 
 
 def too_many() -> str:
