@@ -2,8 +2,11 @@
 //! wasn't ready.
 ghost use Rattle.std.specs.Prelude.{◌≡◌, ◌<◌, ◌-◌, ◌^◌, ◌≤◌};
 ghost use Rattle.gate_io.specs.Causes.{Rose};
-ghost use Rattle.gate_io.specs.Hubs.{Later};
+ghost use Rattle.gate_io.specs.Hubs.{HasStarted, Later, Leads, NextLeads, NotStarted, StartLeads};
+ghost use Rattle.gate_io.specs.declared.hub.Began.TheVariants as began;
+ghost use Rattle.gate_io.specs.declared.hub.HubNext.TheVariants as event;
 ghost use Rattle.mio_edge.specs.Counting.{counts_of, side_counts};
+ghost use Rattle.mio_edge.specs.Numbers.{Numbers};
 
 use crate::Sockets;
 use gate_io::{Began, Hub, HubNext, LinkGot, LinkPut, Side, Text};
@@ -82,7 +85,12 @@ impl<N: Net> Hub for MioHub<'_, N> {
         upstream: &[u8],
         accept: u64,
         sessions: usize,
-    ) -> Began {
+    ) -> Began
+        ensures leads { Leads (λ _. ⊥) (λ _. ⊥) NotStarted (StartLeads (record { listen = listen.now; upstream = upstream.now; accept = accept; sessions = sessions }) result) }
+        ensures later { Later (counts_of self.old.sockets.faults self.old.client self.old.upstream) (counts_of self.new.sockets.faults self.new.client self.new.upstream) }
+        ensures cause { result ≡ began.Failed → Rose self.old.sockets.faults self.new.sockets.faults }
+        ensures accept { result ≡ began.Done → self.new.sockets.accept ≡ accept }
+    {
         match Text::new(alloc, upstream) {
             Ok(upstream) => self
                 .sockets
@@ -91,7 +99,13 @@ impl<N: Net> Hub for MioHub<'_, N> {
         }
     }
 
-    fn next(&mut self) -> HubNext {
+    fn next(&mut self) -> HubNext
+        ensures leads { Leads (λ _. ⊥) (λ _. ⊥) HasStarted (NextLeads result) }
+        ensures later { Later (counts_of self.old.sockets.faults self.old.client self.old.upstream) (counts_of self.new.sockets.faults self.new.client self.new.upstream) }
+        ensures cause { result ≡ event.Failed → Rose self.old.sockets.faults self.new.sockets.faults }
+        ensures numbers { Numbers result self.old.sockets.announced self.new.sockets.announced }
+        ensures stopped { result ≡ event.Stopped → (0 < self.new.sockets.accept) × (self.new.sockets.accept ≤ self.new.sockets.announced) }
+    {
         self.sockets.next()
     }
 

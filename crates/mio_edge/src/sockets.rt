@@ -204,7 +204,9 @@ impl<'n, N: Net> Sockets<'n, N> {
         let Some(listening) = &mut self.listening else {
             return Some(self.fails());
         };
-        if let Some(number) = listening.table.next_ready() {
+        if let Some(number) = listening.table.next_ready()
+            && number < self.announced
+        {
             return Some(HubNext::Ready(number));
         }
         match listening.rest() {
