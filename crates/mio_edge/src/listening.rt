@@ -36,12 +36,22 @@ pub(crate) enum OpenError {
 }
 
 impl From<gate_io::OutOfMemory> for OpenError {
+    ghost use Rattle.std.specs.Prelude.{◌≡◌};
+    ghost use Rattle.mio_edge.specs.declared.listening.OpenError.TheVariants.{OutOfMemory};
+
+    ghost from_gives = { λ _ e. e ≡ OutOfMemory };
+
     fn from(_: gate_io::OutOfMemory) -> Self {
         OpenError::OutOfMemory
     }
 }
 
 impl From<std::alloc::AllocError> for OpenError {
+    ghost use Rattle.std.specs.Prelude.{◌≡◌};
+    ghost use Rattle.mio_edge.specs.declared.listening.OpenError.TheVariants.{OutOfMemory};
+
+    ghost from_gives = { λ _ e. e ≡ OutOfMemory };
+
     fn from(_: std::alloc::AllocError) -> Self {
         OpenError::OutOfMemory
     }
