@@ -1,17 +1,16 @@
 -- Values that are judged one after another.
-use Rattle.std.proofs.Common.{◌≡◌, ◌∙◌, refl, ap, sym, subst, ℕ, ◌+◌, ◌*◌, ◌^◌, ◌<◌, ◌≤◌, suc, List, [], ◌∷◌, ◌++◌, map, drop, drop-cons, add-one, get_or, length, Option, None, Some, inl, inr, arith}
-use Rattle.std.proofs.lemmas.List.{drop-map, length-map}
-use Rattle.idl_parser.specs.Declarations.{definition_tree, definition_trees}
+use Rattle.std.proofs.Common.{◌≡◌, ◌∙◌, refl, ap, sym, subst, ℕ, ◌+◌, ◌<◌, suc, List, [], ◌∷◌, ◌++◌, map, drop, drop-cons, add-one, get_or, length, Option, None, Some, inl, inr, arith}
+use Rattle.std.proofs.lemmas.List.{drop-map}
+use Rattle.idl_parser.specs.Declarations.{definition_trees}
 use Rattle.idl_names.specs.declared.documents.FileDoc.{FileDoc}
 use Rattle.idl_names.specs.Files.{FileTree, file_tree, file_trees}
-use Rattle.idl_names.specs.Meaning.{HasFewDefinitions}
 use Rattle.idl_consts.specs.declared.row.ConstRow.{ConstRow}
 use Rattle.idl_consts.specs.declared.survey.Stand.{Stand}
 use Rattle.idl_consts.specs.Course.{Course}
 use Rattle.idl_consts.specs.Following.{Fault, IsFirst, IsFree, IsWrong}
 use Rattle.idl_consts.specs.Meant.{meant_at}
 use Rattle.idl_consts.specs.Pieces.{chained}
-use Rattle.idl_consts.specs.Told.{Asked, Told, IsLeast, IsTold, told_by, lesser, all_values, IsReady}
+use Rattle.idl_consts.specs.Told.{Asked, Told, IsLeast, IsTold, told_by, lesser, all_values}
 
 -- some values, and then others
 pub least_append : (d : List FileTree) (file : ℕ) (before mid told : Option Fault) (xs ys : List Asked) → IsLeast d file before xs mid → IsLeast d file mid ys told

@@ -9,7 +9,7 @@ use Rattle.idl_names.specs.Files.{FileTree}
 use Rattle.idl_names.specs.Meaning.{meaning}
 use Rattle.idl_typedefs.specs.Hops.{LandsAt, alias_in, alias_of, next, reached}
 use Rattle.idl_typedefs.specs.declared.typedefs.Landing.{Landing}
-use Rattle.idl_consts.specs.Meant.{Meant, definition_of, defined_type, named_type, spot_type, left_below}
+use Rattle.idl_consts.specs.Meant.{definition_of, defined_type, named_type, spot_type, left_below}
 use Rattle.idl_consts.specs.declared.types.Step.{Step}
 use Rattle.idl_consts.specs.declared.types.Step.TheVariants as steps
 

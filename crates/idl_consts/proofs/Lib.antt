@@ -5,3 +5,4 @@ mod Judged
 mod Kept
 mod Once
 mod Landing
+mod Halves

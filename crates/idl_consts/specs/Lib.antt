@@ -10,3 +10,4 @@ pub mod Told
 pub mod Trails
 pub mod Knowing
 pub mod Views
+pub mod Words

@@ -1,5 +1,5 @@
 -- The names that are being followed one from the other.
-use Rattle.std.specs.Prelude.{◌≡◌, ◌⊎◌, ℕ, List, [], ◌∷◌, drop, Option, Some, None}
+use Rattle.std.specs.Prelude.{◌≡◌, ◌⊎◌, ℕ, ◌+◌, ◌/◌, List, [], ◌∷◌, ◌++◌, length, drop, slice_get, Option, Some, None}
 use Rattle.idl_names.specs.declared.documents.Spot.{Spot}
 use Rattle.idl_names.specs.Files.{FileTree}
 use Rattle.idl_consts.specs.declared.row.ConstRow.{ConstRow}
@@ -12,6 +12,7 @@ use Rattle.idl_consts.specs.Course.{Course, ends, fails, stands}
 use Rattle.idl_consts.specs.Following.{IsFree, IsWrong, constant_course}
 use Rattle.idl_consts.specs.Meant.{Meant, meant_at}
 use Rattle.idl_consts.specs.Pieces.{chained, ending}
+use Rattle.idl_consts.specs.Words.{IsSameRef}
 
 -- of a course this is left, and through the names before it nothing is refused
 abbrev pub IsPassed : List FileTree → Course → Course → Type 0
@@ -44,6 +45,15 @@ IsTrail d s m trail = Leads d s m trail.outer.items (trail.top).constant (meant_
 abbrev pub IsAmong : List FileTree → Spot → Meant → List Frame → Spot → Meant → Type 0
 IsAmong d x y [] t n = (x ≡ t) × (y ≡ n)
 IsAmong d x y (f ∷ fs) t n = ((x ≡ f.constant) × (y ≡ meant_at d f.ty)) ⊎ IsAmong d x y fs t n
+
+-- the name stands for a frame's constant, and the type is asked for in the same words
+abbrev pub IsOf : Stand → Frame → Type 0
+IsOf name f = (name.constant ≡ f.constant) × IsSameRef name.ty f.ty
+
+-- the name stands for what the frame half way up the trail is of, the last one counted in
+abbrev pub IsHalfway : Stand → Trail → Type 0
+IsHalfway name trail =
+    (f : Frame) × (slice_get (trail.outer.items ++ trail.top ∷ []) ((length trail.outer.items + 1) / 2) ≡ Some f) × IsOf name f
 
 -- what was taken from the front of what is left of a frame
 abbrev pub IsNext : List FileTree → Frame → Upcoming → Frame → Type 0

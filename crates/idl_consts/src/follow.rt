@@ -1,12 +1,13 @@
 //! The names of a value followed to the values of their constants.
-ghost use Rattle.std.specs.Prelude.{◌≡◌, ℕ, List, IfOk, IfSome, IsTrue, Some, option_copied, slice_get};
+ghost use Rattle.std.specs.Prelude.{◌≡◌, ℕ, List, IfOk, IfSome, IsTrue, Ok, Some, option_copied, slice_get};
 ghost use Rattle.idl_names.specs.declared.documents.Spot.{Spot};
 ghost use Rattle.idl_names.specs.Files.{FileTree};
+ghost use Rattle.idl_consts.specs.declared.row.ConstRow.{ConstRow};
 ghost use Rattle.idl_consts.specs.Following.{IsRow, constant_course};
 ghost use Rattle.idl_consts.specs.Knowing.{IsSound};
 ghost use Rattle.idl_consts.specs.Meant.{Meant, meant_at};
 ghost use Rattle.idl_consts.specs.Pieces.{course_of};
-ghost use Rattle.idl_consts.specs.Trails.{IsFrame, IsTrail, IsAmong, IsNext, IsFollowing, IsLeaving, IsHalted, GoesOn, met, upcoming_fault};
+ghost use Rattle.idl_consts.specs.Trails.{IsFrame, IsTrail, IsAmong, IsNext, IsFollowing, IsLeaving, IsHalted, IsOf, IsHalfway, GoesOn, met, upcoming_fault};
 ghost use Rattle.idl_consts.specs.Views.{files_of};
 
 use crate::fitting::same_spot;
@@ -202,7 +203,8 @@ fn follow_name<'d>(
     trail: &mut Trail<'d>,
     name: Stand<'d>,
 ) -> Result<Option<Option<ConstRow>>, OutOfMemory>
-    ensures { IfOk result (λ done. (s : Spot) → (m : Meant) → IsFollowing (files_of view.now) s m trail.old name.entry → GoesOn (files_of view.now) s m done trail.new) }
+    ensures cycle { IsHalfway name.entry trail.old → result ≡ Ok (Some (Some ConstRow.CycleOfConstants)) }
+    ensures goes { IfOk result (λ done. (s : Spot) → (m : Meant) → IsFollowing (files_of view.now) s m trail.old name.entry → GoesOn (files_of view.now) s m done trail.new) }
 {
     if comes_again(trail, name) {
         return Ok(Some(Some(ConstRow::CycleOfConstants)));
@@ -292,9 +294,12 @@ fn leave(trail: &mut Trail<'_>) -> Option<Option<ConstRow>>
 
 /// Whether a name stands for a constant whose value waits for it already, where the same type is asked for.
 ///
-/// Only the value half way up is compared: values that come in a circle are found so, after less than three rounds.
+/// Only the value half way up is compared. Where names lead in a circle, it is found so before twice as many values wait as
+/// there are different ones among them; that it is found is not proved. If it were not, names would be followed until memory
+/// ends.
 fn comes_again(trail: &Trail<'_>, name: Stand<'_>) -> bool
-    ensures { IsTrue result → ((d : List FileTree) → IsAmong d name.entry.constant (meant_at d name.entry.ty) trail.now.outer.items trail.now.top.constant (meant_at d trail.now.top.ty)) }
+    ensures half { IsHalfway name.entry trail.now → IsTrue result }
+    ensures among { IsTrue result → ((d : List FileTree) → IsAmong d name.entry.constant (meant_at d name.entry.ty) trail.now.outer.items trail.now.top.constant (meant_at d trail.now.top.ty)) }
 {
     let half = (trail.outer.len() + 1) / 2;
     match frame_at(trail.outer.as_slice(), half) {
@@ -312,6 +317,7 @@ fn frame_at<'t, 'd>(frames: &'t [Frame<'d>], place: usize) -> Option<&'t Frame<'
 fn is_of(frame: &Frame<'_>, name: Stand<'_>) -> bool
     ensures constant { IsTrue result → name.entry.constant ≡ frame.now.constant }
     ensures ty { IsTrue result → ((d : List FileTree) → meant_at d name.entry.ty ≡ meant_at d frame.now.ty) }
+    ensures same { IsOf name.entry frame.now → IsTrue result }
 {
     same_spot(name.constant, frame.constant) && same_ref(name.ty, frame.ty)
 }

@@ -1,5 +1,5 @@
 //! What is refused through constants, so that each is looked through once.
-ghost use Rattle.std.specs.Prelude.{◌≡◌, List, IfOk, IfSome, IsTrue, slice_get, option_copied, option_map};
+ghost use Rattle.std.specs.Prelude.{◌≡◌, List, IfOk, IfSome, IsTrue, Some, slice_get, option_copied, option_map};
 ghost use Rattle.idl_parser.specs.Declarations.{definition_tree};
 ghost use Rattle.idl_names.specs.Files.{FileTree};
 ghost use Rattle.idl_names.specs.Targets.{definition_count};
@@ -18,6 +18,9 @@ use std::alloc::Global;
 
 /// Of each file the number of the definitions before it, and for each definition, if it is a constant, what is refused
 /// through it where its own type is asked for, as far as it is known.
+///
+/// What is kept is right. That it is kept, and found again, is not proved: a constant of which nothing is found is looked
+/// through again, so only time rests on it.
 #[derive(Drop)]
 pub struct Known {
     pub starts: Vec<usize>,
@@ -65,7 +68,8 @@ impl Known {
 }
 
 fn row_of(other: Spot, spot: Spot, row: Option<ConstRow>) -> Option<Option<ConstRow>>
-    ensures { (d : List FileTree) → IsOwnRow d other row → IfSome result (IsOwnRow d spot) }
+    ensures found { other ≡ spot → result ≡ Some row }
+    ensures own { (d : List FileTree) → IsOwnRow d other row → IfSome result (IsOwnRow d spot) }
 {
     if is_spot(other, spot) {
         Some(row)
@@ -104,6 +108,8 @@ fn row_in(
 }
 
 /// Whether a type is that of the constant at a spot.
+///
+/// A yes is sure. After a no the constant is looked through for this type again, so only time rests on it.
 pub fn is_own(view: &View<'_, '_>, spot: Spot, ty: TypeRef<'_>) -> bool
     ensures { IsTrue result → meant_at (files_of view.now) ty.entry ≡ own_type (files_of view.now) spot }
 {

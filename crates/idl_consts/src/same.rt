@@ -4,6 +4,7 @@ ghost use Rattle.idl_parser.specs.Trees.{type_tree};
 ghost use Rattle.idl_names.specs.Files.{FileTree};
 ghost use Rattle.idl_consts.specs.Meant.{Meant, meant_at, meant_by, type_by};
 ghost use Rattle.idl_consts.specs.Views.{files_of};
+ghost use Rattle.idl_consts.specs.Words.{words_of, AreOneWord, IsSameRef};
 
 use crate::fitting::same_spot;
 use crate::types::{Shape, TypeRef, resolve};
@@ -13,14 +14,19 @@ use idl_parser::{TypeExpr, TypeForm};
 
 /// Whether two types are one by their words: types of one file, or the same word of the language.
 pub fn same_ref(a: TypeRef<'_>, b: TypeRef<'_>) -> bool
-    ensures { IsTrue result → ((d : List FileTree) → meant_at d a.entry ≡ meant_at d b.entry) }
+    ensures meant { IsTrue result → ((d : List FileTree) → meant_at d a.entry ≡ meant_at d b.entry) }
+    ensures same { IsSameRef a.entry b.entry → IsTrue result }
+    ensures word { AreOneWord (type_tree a.entry.ty.now) (type_tree b.entry.ty.now) → IsTrue result }
 {
     same_word(a.ty, b.ty) || (a.file == b.file && a.left == b.left && same_type(a.ty, b.ty))
 }
 
 /// Whether two types are one: by their words, or by what their typedefs stand for.
+///
+/// A yes is sure. Types that are one may get a no, as where their parts are one by typedefs alone: only time rests on it.
 pub fn same_meaning(view: &View<'_, '_>, a: TypeRef<'_>, b: TypeRef<'_>) -> bool
-    ensures { IsTrue result → meant_at (files_of view.now) a.entry ≡ meant_at (files_of view.now) b.entry }
+    ensures meant { IsTrue result → meant_at (files_of view.now) a.entry ≡ meant_at (files_of view.now) b.entry }
+    ensures same { IsSameRef a.entry b.entry → IsTrue result }
 {
     same_ref(a, b) || same_shape(&resolve(view, a), &resolve(view, b))
 }
@@ -42,13 +48,16 @@ fn same_shape(a: &Shape<'_>, b: &Shape<'_>) -> bool
 
 /// Whether two spots are one.
 pub fn is_spot(spot: Spot, other: Spot) -> bool
-    ensures { IsTrue result → spot ≡ other }
+    ensures yes { IsTrue result → spot ≡ other }
+    ensures no { spot ≡ other → IsTrue result }
 {
     same_spot(spot, other)
 }
 
+/// Whether two types are the same word of the language.
 fn same_word(a: &TypeExpr, b: &TypeExpr) -> bool
-    ensures { IsTrue result → ((named : ℕ → List ℕ → Meant) → (other : ℕ → List ℕ → Meant) → (file : ℕ) → (place : ℕ) → type_by named file (type_tree a.now) ≡ type_by other place (type_tree b.now)) }
+    ensures word { AreOneWord (type_tree a.now) (type_tree b.now) → IsTrue result }
+    ensures meant { IsTrue result → ((named : ℕ → List ℕ → Meant) → (other : ℕ → List ℕ → Meant) → (file : ℕ) → (place : ℕ) → type_by named file (type_tree a.now) ≡ type_by other place (type_tree b.now)) }
 {
     match (&a.form, &b.form) {
         (TypeForm::Base(word), TypeForm::Base(other)) => *word == *other,
@@ -58,7 +67,8 @@ fn same_word(a: &TypeExpr, b: &TypeExpr) -> bool
 
 /// Whether two types are written in the same words.
 fn same_type(a: &TypeExpr, b: &TypeExpr) -> bool
-    ensures { IsTrue result → ((named : ℕ → List ℕ → Meant) → (file : ℕ) → type_by named file (type_tree a.now) ≡ type_by named file (type_tree b.now)) }
+    ensures words { words_of (type_tree a.now) ≡ words_of (type_tree b.now) → IsTrue result }
+    ensures meant { IsTrue result → ((named : ℕ → List ℕ → Meant) → (file : ℕ) → type_by named file (type_tree a.now) ≡ type_by named file (type_tree b.now)) }
 {
     match (&a.form, &b.form) {
         (TypeForm::Base(word), TypeForm::Base(other)) => *word == *other,

@@ -1,4 +1,4 @@
-use Rattle.std.proofs.Common.{◌≡◌, ◌∙◌, ◌<◌, ap, subst, List, ℕ, Some, None, Option, length, get_or}
+use Rattle.std.proofs.Common.{◌∙◌, ap, subst, List, ℕ, Some, None, Option}
 use Rattle.idl_parser.specs.Declarations.{definition_trees}
 use Rattle.idl_names.specs.Files.{file_trees}
 use Rattle.idl_consts.specs.Following.{Fault}

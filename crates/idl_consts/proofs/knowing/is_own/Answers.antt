@@ -6,4 +6,4 @@ use Rattle.idl_consts.proofs.knowing.is_own.Goals as goal
 pub returns-in-Some : goal.returns-in-Some
 returns-in-Some c = λ yes.
     let d = files_of c.args.view.now in
-    c.same_meaning.ensures yes ∙ c.in-Some.ensures d c.definition_count.ensures.count ∙ ap (own_by d c.args.spot) c.definition.ensures
+    c.same_meaning.ensures.meant yes ∙ c.in-Some.ensures d c.definition_count.ensures.count ∙ ap (own_by d c.args.spot) c.definition.ensures
