@@ -1,6 +1,8 @@
 //! How an event changes the open levels. Every reader and writer follows by it.
-ghost use Rattle.std.specs.Prelude.{◌≡◌, ◌<◌, ◌≤◌, ◌∷◌, length};
+ghost use Rattle.std.specs.Prelude.{◌≡◌, ◌<◌, ◌≤◌, ◌∷◌, List, Some, length};
 ghost use Rattle.thrift_value.specs.Items.{item_of};
+ghost use Rattle.protocol_traits.specs.declared.nest.Slot.{Slot};
+ghost use Rattle.protocol_traits.specs.Stack.{first_of};
 ghost use Rattle.protocol_traits.specs.Follow.{after, spent, depth_after};
 
 use crate::{Nest, Slot};
@@ -13,47 +15,52 @@ pub fn follow(nest: &mut Nest, event: &Event<'_>)
     requires shallow { depth_after (item_of event.now) (length nest.old) ≤ 256 }
     ensures { nest.new ≡ after (item_of event.now) nest.old }
 {
+    let Some(level) = nest.top() else {
+        unreachable!()
+    };
+    follow_in(nest, level, event);
+}
+
+/// `follow` where the innermost level is known.
+#[inline(always)]
+pub fn follow_in(nest: &mut Nest, level: Slot, event: &Event<'_>)
+    requires known { first_of nest.old ≡ Some level }
+    requires shallow { depth_after (item_of event.now) (length nest.old) ≤ 256 }
+    ensures { nest.new ≡ after (item_of event.now) nest.old }
+{
     match *event {
         Event::Field(id, kind) => nest.set_top(Slot::Value(kind, id)),
         Event::Stop | Event::End => nest.pop(),
-        Event::StructBegin => open(nest, Slot::Fields(0)),
-        Event::MapBegin(key, value, size) => open(nest, Slot::Keys(key, value, size)),
+        Event::StructBegin => open(nest, level, Slot::Fields(0)),
+        Event::MapBegin(key, value, size) => open(nest, level, Slot::Keys(key, value, size)),
         Event::SetBegin(kind, size) | Event::ListBegin(kind, size) => {
-            open(nest, Slot::Elements(kind, size));
+            open(nest, level, Slot::Elements(kind, size));
         }
-        _ => spend(nest),
+        _ => nest.set_top(spent_in(level)),
     }
 }
 
 /// A value that is itself a level has begun.
 #[inline(always)]
-fn open(nest: &mut Nest, slot: Slot)
-    requires begun { 0 < length nest.old }
+fn open(nest: &mut Nest, level: Slot, slot: Slot)
+    requires known { first_of nest.old ≡ Some level }
     requires shallow { length nest.old < 256 }
     ensures { nest.new ≡ slot ∷ spent nest.old }
 {
-    spend(nest);
+    nest.set_top(spent_in(level));
     nest.push(slot);
 }
 
-/// The value that the innermost level called for has come.
+/// A level when the value that it called for has come.
 #[inline(always)]
-fn spend(nest: &mut Nest)
-    requires { 0 < length nest.old }
-    ensures { nest.new ≡ spent nest.old }
+fn spent_in(level: Slot) -> Slot
+    ensures { (up : List Slot) → spent (level ∷ up) ≡ result ∷ up }
 {
-    match nest.top() {
-        Some(Slot::Value(_, id)) => nest.set_top(Slot::Fields(id)),
-        Some(Slot::Elements(kind, left)) => nest.set_top(Slot::Elements(
-            kind,
-            left.saturating_sub(1),
-        )),
-        Some(Slot::Keys(key, value, left)) => nest.set_top(Slot::Values(key, value, left)),
-        Some(Slot::Values(key, value, left)) => nest.set_top(Slot::Keys(
-            key,
-            value,
-            left.saturating_sub(1),
-        )),
-        Some(Slot::Fields(_)) | None => {}
+    match level {
+        Slot::Fields(last) => Slot::Fields(last),
+        Slot::Value(_, id) => Slot::Fields(id),
+        Slot::Elements(kind, left) => Slot::Elements(kind, left.saturating_sub(1)),
+        Slot::Keys(key, value, left) => Slot::Values(key, value, left),
+        Slot::Values(key, value, left) => Slot::Keys(key, value, left.saturating_sub(1)),
     }
 }

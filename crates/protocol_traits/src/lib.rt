@@ -12,7 +12,7 @@ mod proto;
 mod traits;
 
 pub use fault::{Bar, Fault, Reason};
-pub use following::follow;
+pub use following::{follow, follow_in};
 pub use nest::{DEPTH, Nest, Slot};
 pub use proto::{Head, Hint, Mark, Proto};
 pub use traits::{ReadRules, WireRead, WireWrite};
