@@ -317,6 +317,14 @@ pub reads_nests : (s : State) → IfOk (reads s) (λ x. length x.1.nest ≡ dept
 unfolding reads
 reads_nests s = moved_nests s _ (top_good s.nest (rest s))
 
+moved_follows : (s : State) (scan : Scan Item) → IfOk (moved s scan) (λ x. x.1.nest ≡ after x.0 s.nest)
+moved_follows s (Ok x) = refl
+moved_follows s (Err f) = tt
+
+pub reads_follows : (s : State) → IfOk (reads s) (λ x. x.1.nest ≡ after x.0 s.nest)
+unfolding reads
+reads_follows s = moved_follows s _
+
 -- what the reader's code gives
 pub reads_ok : (s : State) (slot : Slot) (depth : ℕ) (item : Item) (taken : ℕ) → first_of s.nest ≡ Some slot → depth ≡ length s.nest → Ok (item, taken) ≡ item_in depth slot (rest s)
     → reads s ≡ Ok (item, record { frame = s.frame; place = s.place + taken; value = s.place; nest = after item s.nest })
@@ -442,6 +450,14 @@ headed_good s (Err f) good = tt
 pub reads_head_pays : (s : State) → IfOk (reads_head s) (λ x. (head_weight (length x.0.name) + ahead x.1 ≤ ahead s) × (length x.1.nest ≡ 1))
 unfolding reads_head
 reads_head_pays s = headed_good s (head_at (rest s)) (head_good (rest s))
+
+headed_opens : (s : State) (scan : Scan Header) → IfOk (headed s scan) (λ x. x.1.nest ≡ slots.Fields (pos 0) ∷ [])
+headed_opens s (Ok x) = refl
+headed_opens s (Err f) = tt
+
+pub reads_head_opens : (s : State) → IfOk (reads_head s) (λ x. x.1.nest ≡ slots.Fields (pos 0) ∷ [])
+unfolding reads_head
+reads_head_opens s = headed_opens s _
 
 -- what is known of a header that the code read
 pub head_was_read : (bytes : List ℕ) (header : Header) (taken : ℕ) → Ok (header, taken) ≡ head_at bytes → GoodHead bytes header taken

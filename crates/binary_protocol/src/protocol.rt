@@ -5,12 +5,12 @@ ghost use Rattle.protocol_traits.specs.Heads.{header_of};
 ghost use Rattle.protocol_traits.specs.Follow.{depth_after};
 ghost use Rattle.binary_protocol.specs.Reading.{begun, reads, reads_head, reads_end, ahead};
 ghost use Rattle.binary_protocol.specs.Plain.{bar, plain, plain_head};
-ghost use Rattle.binary_protocol.specs.Laws.{reads_pays, reads_nests, reads_head_pays, begins, light, light_head};
+ghost use Rattle.binary_protocol.specs.Laws.{reads_pays, reads_nests, reads_follows, reads_head_pays, reads_head_opens, begins, light, light_head};
 
 use crate::reader::BinaryRead;
 use crate::writer::{BinaryWrite, put_event, put_head};
 use gate_io::Out;
-use protocol_traits::{Bar, Fault, Head, Hint, Mark, ReadRules, WireRead, WireWrite};
+use protocol_traits::{Bar, Fault, Head, Hint, Mark, ReadRules, Slot, WireRead, WireWrite};
 use thrift_value::Event;
 
 impl<'f> ReadRules for BinaryRead<'f> {
@@ -24,6 +24,8 @@ impl<'f> ReadRules for BinaryRead<'f> {
 
     ghost value_place = { λ s. s.value };
 
+    ghost nest = { λ s. s.nest };
+
     ghost depth = { λ s. length s.nest };
 
     ghost ahead = { ahead };
@@ -33,6 +35,12 @@ impl<'f> ReadRules for BinaryRead<'f> {
     ghost pays = { λ s hint. reads_pays s };
 
     ghost nests = { λ s hint. reads_nests s };
+
+    ghost opens = { reads_head_opens };
+
+    ghost follows = { λ s hint. reads_follows s };
+
+    ghost counts = { λ s. refl };
 
     ghost begins = { begins };
 }
@@ -52,6 +60,17 @@ impl<'f> WireRead<'f> for BinaryRead<'f> {
     #[inline(always)]
     fn next(&mut self, _hint: Hint) -> Result<Event<'_>, Fault> {
         let event = self.read()?;
+        Ok(self.lend(event))
+    }
+
+    #[inline(always)]
+    fn level(&self) -> Option<Slot> {
+        self.open_level()
+    }
+
+    #[inline(always)]
+    fn next_in(&mut self, level: Slot, _hint: Hint) -> Result<Event<'_>, Fault> {
+        let event = self.read_in(level)?;
         Ok(self.lend(event))
     }
 

@@ -1,7 +1,8 @@
 //! The reader: a frame, a place in it and the open levels.
-ghost use Rattle.std.specs.Prelude.{◌≡◌, ◌<◌, ◌≤◌, ◌+◌, ◌^◌, [], ◌∷◌, length, IfOk};
+ghost use Rattle.std.specs.Prelude.{◌≡◌, ◌<◌, ◌≤◌, ◌+◌, ◌^◌, [], ◌∷◌, Some, length, IfOk};
 ghost use Rattle.thrift_value.specs.Items.{item_of};
 ghost use Rattle.protocol_traits.specs.Heads.{header_of};
+ghost use Rattle.protocol_traits.specs.Stack.{first_of};
 ghost use Rattle.protocol_traits.specs.Follow.{depth_after};
 ghost use Rattle.protocol_traits.specs.Room.{IsSized};
 ghost use Rattle.protocol_traits.specs.Steps.{Answers};
@@ -9,7 +10,7 @@ ghost use Rattle.binary_protocol.specs.Reading.{body_open};
 
 use crate::head::{head_at, name_place};
 use crate::scan::{fault, item_in};
-use protocol_traits::{Fault, Head, Nest, Reason, Slot, follow};
+use protocol_traits::{Fault, Head, Nest, Reason, Slot, follow_in};
 use std::marker::Model;
 use thrift_value::Event;
 
@@ -77,20 +78,39 @@ impl<'f> BinaryRead<'f> {
         ensures sized { IfOk result (λ e. IsSized (item_of e)) }
         ensures shallow { IfOk result (λ e. depth_after (item_of e) (length self.old.nest) ≤ 256) }
     {
-        let frame = self.frame;
-        let rest = &frame[self.place..];
-        let Some(slot) = self.nest.top() else {
+        let Some(level) = self.nest.top() else {
             return Err(fault(self.place, Reason::Trailing));
         };
-        match item_in(self.nest.depth(), slot, rest) {
+        self.read_in(level)
+    }
+
+    /// `read` where the innermost level is known, so that what depends on the level alone is settled by the caller.
+    #[inline(always)]
+    pub fn read_in(&mut self, level: Slot) -> Result<Event<'f>, Fault>
+        requires level { first_of self.old.nest ≡ Some level }
+        ensures exact { Answers item_of result self.new (reads self.old) }
+        ensures sized { IfOk result (λ e. IsSized (item_of e)) }
+        ensures shallow { IfOk result (λ e. depth_after (item_of e) (length self.old.nest) ≤ 256) }
+    {
+        let frame = self.frame;
+        let rest = &frame[self.place..];
+        match item_in(self.nest.depth(), level, rest) {
             Ok((event, taken)) => {
-                follow(&mut self.nest, &event);
+                follow_in(&mut self.nest, level, &event);
                 self.value = self.place;
                 self.place += taken;
                 Ok(event)
             }
             Err(f) => Err(fault(self.place + f.place, f.reason)),
         }
+    }
+
+    /// The innermost open level; None behind the body.
+    #[inline(always)]
+    pub fn open_level(&self) -> Option<Slot>
+        ensures { result ≡ first_of self.now.nest }
+    {
+        self.nest.top()
     }
 
     /// Where the last item began; after the header, where the name began.

@@ -420,6 +420,14 @@ reads_pays s = first_part _ _ (reads s) (reads_good s)
 pub reads_nests : (s : State) → IfOk (reads s) (λ x. length x.1.nest ≡ depth_after x.0 (length s.nest))
 reads_nests s = second_part _ _ (reads s) (reads_good s)
 
+moved_follows : (s : State) (scan : Scan Item) → IfOk (moved s scan) (λ x. x.1.nest ≡ after x.0 s.nest)
+moved_follows s (Ok x) = refl
+moved_follows s (Err f) = tt
+
+pub reads_follows : (s : State) → IfOk (reads s) (λ x. x.1.nest ≡ after x.0 s.nest)
+unfolding reads
+reads_follows s = moved_follows s _
+
 pub begins : (frame : List ℕ) → ahead (begun frame) ≤ 24 * length frame + 64
 begins frame = omega (arith, length-drop {A = ℕ})
 
@@ -527,6 +535,18 @@ headed_good s (Err f) h = tt
 pub reads_head_pays : (s : State) → IfOk (reads_head s) (λ x. (head_weight (length x.0.name) + ahead x.1 ≤ ahead s) × (length x.1.nest ≡ 1))
 unfolding reads_head
 reads_head_pays s = headed_good s (front_at (rest s)) (front_found (rest s))
+
+named_opens : (s : State) (front : MessageType × ℤ) (at : ℕ) (scan : Scan (List ℕ)) → IfOk (named s front at scan) (λ x. x.1.nest ≡ slots.Fields (pos 0) ∷ [])
+named_opens s front at (Ok x) = refl
+named_opens s front at (Err f) = tt
+
+headed_opens : (s : State) (scan : Scan (MessageType × ℤ)) → IfOk (headed s scan) (λ x. x.1.nest ≡ slots.Fields (pos 0) ∷ [])
+headed_opens s (Ok x) = named_opens s x.0 x.1 _
+headed_opens s (Err f) = tt
+
+pub reads_head_opens : (s : State) → IfOk (reads_head s) (λ x. x.1.nest ≡ slots.Fields (pos 0) ∷ [])
+unfolding reads_head
+reads_head_opens s = headed_opens s _
 
 -- a name is shorter than the frame
 pub name_sized : (bytes : List ℕ) (at : ℕ) (name : List ℕ) (taken : ℕ) → length bytes < 2 ^ 31 → Ok (name, taken) ≡ shifted at (string_at (drop at bytes)) → length name < 2 ^ 31

@@ -3,13 +3,13 @@ ghost use Rattle.std.specs.Prelude.{◌≡◌, None, length, refl};
 ghost use Rattle.thrift_value.specs.Items.{item_of};
 ghost use Rattle.protocol_traits.specs.Heads.{header_of};
 ghost use Rattle.compact_protocol.specs.Reading.{begun, reads, reads_head, reads_end, ahead};
-ghost use Rattle.compact_protocol.specs.Laws.{reads_pays, reads_nests, reads_head_pays, begins, light, light_head, follows_nests};
+ghost use Rattle.compact_protocol.specs.Laws.{reads_pays, reads_nests, reads_follows, reads_head_pays, reads_head_opens, begins, light, light_head, follows_nests};
 ghost use Rattle.compact_protocol.specs.Plain.{spelling, head_spelling, follows, bar, begun as begun_writing};
 
 use crate::reader::CompactRead;
 use crate::writer::{CompactWrite, put_head};
 use gate_io::Out;
-use protocol_traits::{Bar, Fault, Head, Hint, Mark, ReadRules, WireRead, WireWrite};
+use protocol_traits::{Bar, Fault, Head, Hint, Mark, ReadRules, Slot, WireRead, WireWrite};
 use thrift_value::Event;
 
 impl<'f> CompactRead<'f> {
@@ -41,6 +41,8 @@ impl<'f> ReadRules for CompactRead<'f> {
 
     ghost value_place = { λ s. s.value };
 
+    ghost nest = { λ s. s.nest };
+
     ghost depth = { λ s. length s.nest };
 
     ghost ahead = { ahead };
@@ -50,6 +52,12 @@ impl<'f> ReadRules for CompactRead<'f> {
     ghost pays = { λ s hint. reads_pays s };
 
     ghost nests = { λ s hint. reads_nests s };
+
+    ghost opens = { reads_head_opens };
+
+    ghost follows = { λ s hint. reads_follows s };
+
+    ghost counts = { λ s. refl };
 
     ghost begins = { begins };
 }
@@ -67,6 +75,17 @@ impl<'f> WireRead<'f> for CompactRead<'f> {
 
     #[inline(always)]
     fn next(&mut self, _hint: Hint) -> Result<Event<'_>, Fault> {
+        let event = self.read()?;
+        Ok(self.lend(event))
+    }
+
+    #[inline(always)]
+    fn level(&self) -> Option<Slot> {
+        self.open_level()
+    }
+
+    #[inline(always)]
+    fn next_in(&mut self, _level: Slot, _hint: Hint) -> Result<Event<'_>, Fault> {
         let event = self.read()?;
         Ok(self.lend(event))
     }

@@ -2,6 +2,7 @@
 ghost use Rattle.std.specs.Prelude.{◌≡◌, ◌≤◌, ◌<◌, ◌^◌, [], ◌∷◌, length, IfOk, pos, false};
 ghost use Rattle.thrift_value.specs.Items.{item_of};
 ghost use Rattle.protocol_traits.specs.Heads.{header_of};
+ghost use Rattle.protocol_traits.specs.Stack.{first_of};
 ghost use Rattle.protocol_traits.specs.Follow.{depth_after};
 ghost use Rattle.protocol_traits.specs.Room.{IsSized};
 ghost use Rattle.protocol_traits.specs.Steps.{Answers};
@@ -99,6 +100,14 @@ impl<'f> CompactRead<'f> {
             }
             Err(f) => Err(fault(self.place + f.place, f.reason)),
         }
+    }
+
+    /// The innermost open level; None behind the body.
+    #[inline(always)]
+    pub fn open_level(&self) -> Option<Slot>
+        ensures { result ≡ first_of self.now.nest }
+    {
+        self.nest.top()
     }
 
     /// Where the last value began; after the header, where the name began.

@@ -626,6 +626,14 @@ pub reads_nests : (s : State) (hint : Hint) → IfOk (reads s hint) (λ x. lengt
 unfolding reads
 reads_nests s hint = nests_by s hint s.nest refl
 
+moved_follows : (s : State) (scan : Scan (Item × ℕ)) → IfOk (moved s scan) (λ x. x.1.nest ≡ after x.0 s.nest)
+moved_follows s (Ok x) = refl
+moved_follows s (Err f) = tt
+
+pub reads_follows : (s : State) (hint : Hint) → IfOk (reads s hint) (λ x. x.1.nest ≡ after x.0 s.nest)
+unfolding reads
+reads_follows s hint = moved_follows s _
+
 pub begins : (frame : List ℕ) → ahead (begun frame) ≤ 24 * length frame + 64
 begins frame = omega (arith, length-drop {A = ℕ})
 
@@ -751,6 +759,14 @@ headed_pays s (Err f) h = tt
 pub reads_head_pays : (s : State) → IfOk (reads_head s) (λ x. (head_weight (length x.0.name) + ahead x.1 ≤ ahead s) × (length x.1.nest ≡ 1))
 unfolding reads_head
 reads_head_pays s = headed_pays s (head_at (rest s)) (head_pays (rest s))
+
+headed_opens : (s : State) (scan : Scan (Header × ℕ)) → IfOk (headed s scan) (λ x. x.1.nest ≡ slots.Fields (pos 0) ∷ [])
+headed_opens s (Ok x) = refl
+headed_opens s (Err f) = tt
+
+pub reads_head_opens : (s : State) → IfOk (reads_head s) (λ x. x.1.nest ≡ slots.Fields (pos 0) ∷ [])
+unfolding reads_head
+reads_head_opens s = headed_opens s _
 
 pub head_sized : (bytes : List ℕ) (header : Header) (start taken : ℕ) → Ok ((header, start), taken) ≡ head_at bytes → length bytes < 2 ^ 31 → length header.name < 2 ^ 31
 head_sized bytes header start taken e small =

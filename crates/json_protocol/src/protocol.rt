@@ -1,13 +1,13 @@
 //! The reader as a protocol's.
-ghost use Rattle.std.specs.Prelude.{◌≡◌, length};
+ghost use Rattle.std.specs.Prelude.{◌≡◌, length, refl};
 ghost use Rattle.thrift_value.specs.Items.{item_of};
 ghost use Rattle.protocol_traits.specs.Heads.{header_of};
 ghost use Rattle.json_protocol.specs.Reading.{begun, reads, ahead};
 ghost use Rattle.json_protocol.specs.Head.{reads_head, reads_end};
-ghost use Rattle.json_protocol.specs.Laws.{reads_pays, reads_nests, reads_head_pays, begins};
+ghost use Rattle.json_protocol.specs.Laws.{reads_pays, reads_nests, reads_follows, reads_head_pays, reads_head_opens, begins};
 
 use crate::reader::JsonRead;
-use protocol_traits::{Fault, Head, Hint, ReadRules, WireRead};
+use protocol_traits::{Fault, Head, Hint, ReadRules, Slot, WireRead};
 use thrift_value::Event;
 
 impl<'f> JsonRead<'f> {
@@ -36,6 +36,8 @@ impl<'f> ReadRules for JsonRead<'f> {
 
     ghost value_place = { λ s. s.value };
 
+    ghost nest = { λ s. s.nest };
+
     ghost depth = { λ s. length s.nest };
 
     ghost ahead = { ahead };
@@ -45,6 +47,12 @@ impl<'f> ReadRules for JsonRead<'f> {
     ghost pays = { reads_pays };
 
     ghost nests = { reads_nests };
+
+    ghost opens = { reads_head_opens };
+
+    ghost follows = { reads_follows };
+
+    ghost counts = { λ s. refl };
 
     ghost begins = { begins };
 }
@@ -60,6 +68,15 @@ impl<'f> WireRead<'f> for JsonRead<'f> {
     }
 
     fn next(&mut self, hint: Hint) -> Result<Event<'_>, Fault> {
+        let event = self.read(hint)?;
+        Ok(self.lend(event))
+    }
+
+    fn level(&self) -> Option<Slot> {
+        self.open_level()
+    }
+
+    fn next_in(&mut self, _level: Slot, hint: Hint) -> Result<Event<'_>, Fault> {
         let event = self.read(hint)?;
         Ok(self.lend(event))
     }

@@ -3,6 +3,7 @@ ghost use Rattle.std.specs.Prelude.{◌≡◌, ◌<◌, ◌≤◌, ◌+◌, ◌^
 ghost use Rattle.thrift_value.specs.Items.{item_of};
 ghost use Rattle.protocol_traits.specs.Heads.{header_of};
 ghost use Rattle.protocol_traits.specs.Steps.{Answers};
+ghost use Rattle.protocol_traits.specs.Stack.{first_of};
 ghost use Rattle.protocol_traits.specs.Follow.{depth_after};
 ghost use Rattle.protocol_traits.specs.Room.{IsSized};
 ghost use Rattle.json_protocol.specs.Head.{reads_head, reads_end};
@@ -84,6 +85,12 @@ impl<'f> JsonRead<'f> {
             }
             Err(f) => Err(fault(self.place + f.place, f.reason)),
         }
+    }
+
+    pub(crate) fn open_level(&self) -> Option<Slot>
+        ensures { result ≡ first_of self.now.nest }
+    {
+        self.nest.top()
     }
 
     /// After a fault nothing more is read: the place is the frame's end.

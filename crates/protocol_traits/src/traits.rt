@@ -1,5 +1,5 @@
 //! A protocol's reader and writer.
-ghost use Rattle.std.specs.Prelude.{◌≡◌, ℕ, ◌+◌, ◌*◌, ◌≤◌, ◌^◌, ◌<◌, List, ◌++◌, length, Option, None, IfOk, FitsSigned};
+ghost use Rattle.std.specs.Prelude.{◌≡◌, ℕ, pos, ◌+◌, ◌*◌, ◌≤◌, ◌^◌, ◌<◌, List, [], ◌∷◌, ◌++◌, length, Option, None, Some, IfOk, FitsSigned};
 ghost use Rattle.std.specs.Int.{w32};
 ghost use Rattle.std.specs.Borrow.{sem};
 ghost use Rattle.std.specs.Io.BufRead.{Rests};
@@ -8,11 +8,14 @@ ghost use Rattle.protocol_traits.specs.declared.proto.Hint.{Hint};
 ghost use Rattle.protocol_traits.specs.declared.proto.Mark.{Mark};
 ghost use Rattle.protocol_traits.specs.declared.fault.Bar.{Bar};
 ghost use Rattle.protocol_traits.specs.Heads.{Header, header_of};
-ghost use Rattle.protocol_traits.specs.Follow.{depth_after};
+ghost use Rattle.protocol_traits.specs.declared.nest.Slot.{Slot};
+ghost use Rattle.protocol_traits.specs.declared.nest.Slot.TheVariants.{Fields};
+ghost use Rattle.protocol_traits.specs.Stack.{first_of};
+ghost use Rattle.protocol_traits.specs.Follow.{depth_after, after as levels_after};
 ghost use Rattle.protocol_traits.specs.Steps.{Step, told, seen, Leaves, IsFree};
 ghost use Rattle.protocol_traits.specs.Room.{weight, head_weight, IsSized};
 
-use crate::{Bar, Fault, Head, Hint, Mark};
+use crate::{Bar, Fault, Head, Hint, Mark, Slot};
 use gate_io::Out;
 use thrift_value::Event;
 
@@ -33,6 +36,9 @@ pub trait ReadRules {
     /// Where the value that was read last began.
     ghost value_place: { Self → ℕ };
 
+    /// The open structs and containers, the innermost first.
+    ghost nest: { Self → List Slot };
+
     /// How many levels are open.
     ghost depth: { Self → ℕ };
 
@@ -44,6 +50,14 @@ pub trait ReadRules {
     ghost pays: { (s : Self) (hint : Hint) → IfOk (reads s hint) (λ x. weight x.0 + ahead x.1 ≤ ahead s) };
 
     ghost nests: { (s : Self) (hint : Hint) → IfOk (reads s hint) (λ x. depth x.1 ≡ depth_after x.0 (depth s)) };
+
+    /// Behind the header the body's struct is open alone.
+    ghost opens: { (s : Self) → IfOk (reads_head s) (λ x. nest x.1 ≡ Fields (pos 0) ∷ []) };
+
+    /// The levels follow each item.
+    ghost follows: { (s : Self) (hint : Hint) → IfOk (reads s hint) (λ x. nest x.1 ≡ levels_after x.0 (nest s)) };
+
+    ghost counts: { (s : Self) → depth s ≡ length (nest s) };
 
     ghost begins: { (frame : List ℕ) → ahead (begun frame) ≤ 24 * length frame + 64 };
 }
@@ -66,6 +80,18 @@ pub trait WireRead<'f>: ReadRules + Sized + Drop {
 
     /// The next event of the body, or the fault that stands in it. `hint` says how a string is read if one stands next.
     fn next(&mut self, hint: Hint) -> Result<Event<'_>, Fault>
+        ensures answer { seen item_of result ≡ told (Self.reads self.old hint) }
+        ensures sized { IfOk result (λ e. IsSized (item_of e)) }
+        ensures shallow { IfOk result (λ e. depth_after (item_of e) (Self.depth self.old) ≤ 256) }
+        ensures* after { sem 𝓛 (Rests Self.row self.entry (λ new. Leaves (Self.reads self.old hint) new)) };
+
+    /// The innermost open level; None behind the body.
+    fn level(&self) -> Option<Slot>
+        ensures { result ≡ first_of (Self.nest self.now) };
+
+    /// `next` where the innermost level is known, so that it isn't looked at again.
+    fn next_in(&mut self, level: Slot, hint: Hint) -> Result<Event<'_>, Fault>
+        requires level { first_of (Self.nest self.old) ≡ Some level }
         ensures answer { seen item_of result ≡ told (Self.reads self.old hint) }
         ensures sized { IfOk result (λ e. IsSized (item_of e)) }
         ensures shallow { IfOk result (λ e. depth_after (item_of e) (Self.depth self.old) ≤ 256) }
