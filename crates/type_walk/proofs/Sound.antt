@@ -1,11 +1,18 @@
 -- What stays known of the open levels, and how many they are.
-use Rattle.std.proofs.Common.{◌≡◌, ℕ, zero, suc, ◌+◌, List, [], ◌∷◌, length, arith}
-use Rattle.std.specs.Prelude.{IfSome}
+use Rattle.std.proofs.Common.{◌≡◌, ℕ, ℤ, zero, suc, ◌+◌, List, [], ◌∷◌, Bool, true, false, Option, Some, None, length, arith, refl}
+use Rattle.std.specs.Prelude.{IfSome, if◌then◌else◌}
 use Rattle.type_tables.specs.Declarations.{Declarations}
 use Rattle.type_walk.specs.declared.levels.Level.{Level}
 use Rattle.type_walk.specs.declared.levels.Level.TheVariants as levels
 use Rattle.type_walk.specs.Stack.{first_of, rest_of}
-use Rattle.type_walk.specs.Positions.{passed}
+use Rattle.thrift_value.specs.declared.kind.Kind.{Kind}
+use Rattle.thrift_value.specs.Gathering.{same_kind}
+use Rattle.type_tables.specs.declared.declared.FieldInfo.{FieldInfo}
+use Rattle.type_tables.specs.declared.declared.Ty.TheVariants as types
+use Rattle.type_tables.specs.Fields.{field_in}
+use Rattle.type_tables.specs.Kinds.{kind_of}
+use Rattle.type_tables.specs.Structs.{fields_of}
+use Rattle.type_walk.specs.Positions.{passed, kept, under, has_kind, of_kind, declared_type, declared_in, field_type}
 use Rattle.type_walk.specs.Known.{IsKnownLevel, AreKnown, shaded}
 
 pub known-first : (d : Declarations) (known : List Level) → AreKnown d known → IfSome (first_of known) (IsKnownLevel d)
@@ -27,3 +34,23 @@ known-passed d (levels.Values key value ∷ up) all = all
 pub length-shaded : (n : ℕ) (known : List Level) → length (shaded n known) ≡ n + length known
 length-shaded zero known = omega arith
 length-shaded (suc n) known = omega (arith, length-shaded n known)
+
+chosen : (own : Bool) (f : FieldInfo) → declared_type (if own then Some f else None) ≡ (if own then f.ty else types.Unknown)
+chosen true f = refl
+chosen false f = refl
+
+of_own_kind : (own : Option Kind) (kind : Kind) (f : FieldInfo) → declared_type (if has_kind own kind then Some f else None) ≡ kept own kind f.ty
+of_own_kind None kind f = refl
+of_own_kind (Some own) kind f = chosen (same_kind own kind) f
+
+declared_kinds : (found : Option FieldInfo) (kind : Kind) → declared_type (of_kind kind found) ≡ under (declared_type found) kind
+declared_kinds None kind = refl
+declared_kinds (Some f) kind = of_own_kind (kind_of f.ty) kind f
+
+-- the declared field has the type that is known where it is announced
+pub declared_types : (d : Declarations) (level : Level) (id : ℤ) (kind : Kind) → declared_type (declared_in d (Some level) id kind) ≡ field_type d (Some level) id kind
+declared_types d levels.Unknown id kind = refl
+declared_types d (levels.Fields s) id kind = declared_kinds (field_in id (fields_of d.structs s.0)) kind
+declared_types d (levels.Elements element) id kind = refl
+declared_types d (levels.Keys key value) id kind = refl
+declared_types d (levels.Values key value) id kind = refl

@@ -1,7 +1,7 @@
 -- The declared types of the positions in a body, by Apache Thrift's IDL: a field has the type that its struct declares
 -- for its id, an element, a key or a value the type that its container declares, and a position below one that nothing
 -- declares is unknown.
-use Rattle.std.specs.Prelude.{ℤ, List, [], ◌∷◌, Option, Some, None, if◌then◌else◌, slice_get}
+use Rattle.std.specs.Prelude.{ℤ, List, [], ◌∷◌, Bool, false, Option, Some, None, if◌then◌else◌, slice_get}
 use Rattle.thrift_value.specs.declared.kind.Kind.{Kind}
 use Rattle.thrift_value.specs.declared.kind.Kind.TheVariants as kinds
 use Rattle.thrift_value.specs.Items.{Item, field, stop, struct_begin, map_begin, set_begin, list_begin, end}
@@ -54,6 +54,20 @@ declared_type (Some f) = f.ty
 abbrev pub field_type : Declarations → Option Level → ℤ → Kind → Ty
 field_type d (Some (levels.Fields s)) id kind = under (declared_type (field_in id (fields_of d.structs s.0))) kind
 field_type d level id kind = types.Unknown
+
+-- whether there is a kind and it is this one
+abbrev pub has_kind : Option Kind → Kind → Bool
+has_kind None kind = false
+has_kind (Some own) kind = same_kind own kind
+
+abbrev pub of_kind : Kind → Option FieldInfo → Option FieldInfo
+of_kind kind None = None
+of_kind kind (Some f) = if has_kind (kind_of f.ty) kind then Some f else None
+
+-- the field with this id that the innermost level declares, if its values have the kind that is announced
+abbrev pub declared_in : Declarations → Option Level → ℤ → Kind → Option FieldInfo
+declared_in d (Some (levels.Fields s)) id kind = of_kind kind (field_in id (fields_of d.structs s.0))
+declared_in d level id kind = None
 
 -- what a struct, a map, a set and a list of a declared type are inside
 abbrev pub in_struct : Ty → Level

@@ -99,6 +99,7 @@ impl Levels {
         requires { 0 < length self.now }
         ensures { first_of self.now ≡ Some result.now }
     {
+        // It lies apart, so that nothing needs to be asked of the depth, which the contract alone speaks of.
         let _ = &self.depth;
         &self.top
     }

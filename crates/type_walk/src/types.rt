@@ -5,35 +5,68 @@ ghost use Rattle.type_tables.specs.Declarations.{Declarations};
 ghost use Rattle.type_tables.specs.Kinds.{kind_of};
 ghost use Rattle.type_tables.specs.Known.{IsKnown};
 ghost use Rattle.type_walk.specs.Known.{IsKnownLevel};
-ghost use Rattle.type_walk.specs.Positions.{under, field_type, type_at, in_struct, in_map, in_set, in_list, called_for, mark_at, hint_at, filler};
+ghost use Rattle.type_walk.specs.Positions.{under, field_type, type_at, in_struct, in_map, in_set, in_list, called_for, mark_at, hint_at, filler, declared_in, declared_type, of_kind, has_kind};
 
 use crate::levels::Level;
 use protocol_traits::{Hint, Mark};
 use thrift_value::Kind;
-use type_tables::{Schema, StructId, Ty, TyId};
+use type_tables::{FieldInfo, Schema, StructId, Ty, TyId};
 
-/// The type of the field with this id, where a value of this kind is announced.
+/// The field with this id that a level declares, if its values have the kind that is announced.
 #[inline(always)]
-pub fn field_type(schema: &Schema, level: &Level, id: i16, kind: Kind) -> Ty
+#[tactic(auto, using(crate::proofs::Sound::declared_types))]
+pub fn declared_in<'s>(
+    schema: &'s Schema,
+    level: &Level,
+    id: i16,
+    kind: Kind,
+) -> Option<&'s FieldInfo>
     requires { IsKnownLevel schema.now level.now }
-    ensures value { result ≡ field_type schema.now (Some level.now) id kind }
-    ensures known { IsKnown schema.now result }
+    ensures value { option_copied result ≡ declared_in schema.now (Some level.now) id kind }
+    ensures typed { declared_type (option_copied result) ≡ field_type schema.now (Some level.now) id kind }
+    ensures known { IfSome result (λ f. IsKnown schema.now f.now.ty) }
 {
     match level {
-        Level::Fields(s) => declared_field(schema, *s, id, kind),
-        _ => Ty::Unknown,
+        Level::Fields(s) => of_kind(schema.field(*s, id), kind),
+        _ => None,
     }
 }
 
 #[inline(always)]
-fn declared_field(schema: &Schema, s: StructId, id: i16, kind: Kind) -> Ty
-    requires { IsKnownLevel schema.now (Level.Fields s) }
-    ensures value { result ≡ field_type schema.now (Some (Level.Fields s)) id kind }
-    ensures known { IsKnown schema.now result }
+fn of_kind(field: Option<&FieldInfo>, kind: Kind) -> Option<&FieldInfo>
+    ensures value { option_copied result ≡ of_kind kind (option_copied field.entry) }
+    ensures known { (d : Declarations) → IfSome field.entry (λ f. IsKnown d f.now.ty) → IfSome result (λ f. IsKnown d f.now.ty) }
 {
-    match schema.field(s, id) {
-        Some(field) => under(field.ty, kind),
+    match field {
+        Some(field) => {
+            if has_kind(field.ty.kind(), kind) {
+                Some(field)
+            } else {
+                None
+            }
+        }
+        None => None,
+    }
+}
+
+/// The type of a field, where one is declared.
+#[inline(always)]
+pub fn declared_type(field: Option<&FieldInfo>) -> Ty
+    ensures { result ≡ declared_type (option_copied field.entry) }
+{
+    match field {
+        Some(field) => field.ty,
         None => Ty::Unknown,
+    }
+}
+
+#[inline(always)]
+fn has_kind(own: Option<Kind>, kind: Kind) -> bool
+    ensures { result ≡ has_kind own kind }
+{
+    match own {
+        Some(own) => own as u8 == kind as u8,
+        None => false,
     }
 }
 
