@@ -8,7 +8,7 @@ use Rattle.thrift_value.specs.declared.kind.Kind.{Kind}
 use Rattle.thrift_value.specs.declared.event.Event.{Event}
 use Rattle.thrift_value.specs.declared.event.Event.TheVariants as events
 use Rattle.thrift_value.specs.Items.{item_of}
-use Rattle.type_tables.specs.declared.declared.StructId.{StructId}
+use Rattle.type_walk.specs.declared.levels.Level.{Level}
 use Rattle.type_tables.specs.Declarations.{Declarations}
 use Rattle.message_show.specs.Line.{Levels, lead, value_text, item_text, name_text, kind_text, field_text}
 
@@ -28,26 +28,26 @@ unfolding field_text
 field_joined before id name kind = joined before (signed_decimal id) (name_text name) (kind_text kind)
 
 -- an item that is a value or the beginning of one
-pub value_item : (d : Declarations) (inside : Option StructId) (levels : Levels) (event : Event) → ((id : ℤ) (kind : Kind) → event ≡ events.Field id kind → ⊥) → (event ≡ events.Stop → ⊥) → (event ≡ events.End → ⊥)
-    → lead levels ++ value_text (item_of event) ≡ item_text d inside levels (item_of event)
-value_item d inside levels (events.Field id kind) no_field no_stop no_end = absurd (no_field id kind refl)
-value_item d inside levels events.Stop no_field no_stop no_end = absurd (no_stop refl)
-value_item d inside levels events.End no_field no_stop no_end = absurd (no_end refl)
-value_item d inside levels (events.Bool b) no_field no_stop no_end = refl
-value_item d inside levels (events.I8 n) no_field no_stop no_end = refl
-value_item d inside levels (events.I16 n) no_field no_stop no_end = refl
-value_item d inside levels (events.I32 n) no_field no_stop no_end = refl
-value_item d inside levels (events.I64 n) no_field no_stop no_end = refl
-value_item d inside levels (events.Double bytes) no_field no_stop no_end = refl
-value_item d inside levels (events.Str bytes) no_field no_stop no_end = refl
-value_item d inside levels (events.NumberText bytes) no_field no_stop no_end = refl
-value_item d inside levels (events.UnknownText bytes) no_field no_stop no_end = refl
-value_item d inside levels events.StructBegin no_field no_stop no_end = refl
-value_item d inside levels events.EmptyMap no_field no_stop no_end = refl
-value_item d inside levels (events.MapBegin key value size) no_field no_stop no_end = refl
-value_item d inside levels (events.SetBegin kind size) no_field no_stop no_end = refl
-value_item d inside levels (events.ListBegin kind size) no_field no_stop no_end = refl
-value_item d inside levels (events.Uuid bytes) no_field no_stop no_end = refl
+pub value_item : (d : Declarations) (known : Option Level) (levels : Levels) (event : Event) → ((id : ℤ) (kind : Kind) → event ≡ events.Field id kind → ⊥) → (event ≡ events.Stop → ⊥) → (event ≡ events.End → ⊥)
+    → lead levels ++ value_text (item_of event) ≡ item_text d known levels (item_of event)
+value_item d known levels (events.Field id kind) no_field no_stop no_end = absurd (no_field id kind refl)
+value_item d known levels events.Stop no_field no_stop no_end = absurd (no_stop refl)
+value_item d known levels events.End no_field no_stop no_end = absurd (no_end refl)
+value_item d known levels (events.Bool b) no_field no_stop no_end = refl
+value_item d known levels (events.I8 n) no_field no_stop no_end = refl
+value_item d known levels (events.I16 n) no_field no_stop no_end = refl
+value_item d known levels (events.I32 n) no_field no_stop no_end = refl
+value_item d known levels (events.I64 n) no_field no_stop no_end = refl
+value_item d known levels (events.Double bytes) no_field no_stop no_end = refl
+value_item d known levels (events.Str bytes) no_field no_stop no_end = refl
+value_item d known levels (events.NumberText bytes) no_field no_stop no_end = refl
+value_item d known levels (events.UnknownText bytes) no_field no_stop no_end = refl
+value_item d known levels events.StructBegin no_field no_stop no_end = refl
+value_item d known levels events.EmptyMap no_field no_stop no_end = refl
+value_item d known levels (events.MapBegin key value size) no_field no_stop no_end = refl
+value_item d known levels (events.SetBegin kind size) no_field no_stop no_end = refl
+value_item d known levels (events.ListBegin kind size) no_field no_stop no_end = refl
+value_item d known levels (events.Uuid bytes) no_field no_stop no_end = refl
 
 -- a number of one digit
 pub small_id : (id : ℤ) → pos 0 ≤ℤ id → id ≤ℤ pos 9 → signed_decimal id ≡ (48 + nat_abs id) ∷ []

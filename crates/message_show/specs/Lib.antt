@@ -3,3 +3,4 @@ pub mod Texts
 pub mod Line
 pub mod Pieces
 pub mod Shown
+pub mod Turns

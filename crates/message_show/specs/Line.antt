@@ -1,16 +1,13 @@
 -- The line that shows a message, item by item: what stands before an item, the item, and its names.
-use Rattle.std.specs.Prelude.{ℕ, ℤ, pos, List, [], ◌∷◌, ◌++◌, codes, Bool, true, false, Option, Some, None, if◌then◌else◌}
+use Rattle.std.specs.Prelude.{ℕ, ℤ, pos, List, [], ◌∷◌, ◌++◌, codes, Bool, true, false, Option, Some, None}
 use Rattle.std.specs.Fmt.{signed_decimal}
 use Rattle.thrift_value.specs.declared.kind.Kind.{Kind}
 use Rattle.thrift_value.specs.declared.kind.MessageType.{MessageType}
 use Rattle.thrift_value.specs.Items.{Item, field, stop, bool_value, i8_value, i16_value, i32_value, i64_value, double_value, text, number_text, unknown_text, struct_begin, empty_map, map_begin, set_begin, list_begin, end, uuid_value}
-use Rattle.thrift_value.specs.Gathering.{same_kind}
 use Rattle.type_tables.specs.declared.declared.FieldInfo.{FieldInfo}
-use Rattle.type_tables.specs.declared.declared.StructId.{StructId}
 use Rattle.type_tables.specs.Declarations.{Declarations}
-use Rattle.type_tables.specs.Fields.{field_in}
-use Rattle.type_tables.specs.Kinds.{kind_of}
-use Rattle.type_tables.specs.Structs.{fields_of}
+use Rattle.type_walk.specs.declared.levels.Level.{Level}
+use Rattle.type_walk.specs.Positions.{declared_in}
 use Rattle.protocol_traits.specs.declared.nest.Slot.{Slot}
 use Rattle.protocol_traits.specs.declared.nest.Slot.TheVariants as slots
 use Rattle.protocol_traits.specs.Stack.{first_of}
@@ -75,18 +72,10 @@ closing None = bracket
 
 -- ---- names
 
-abbrev pub has_kind : Option Kind → Kind → Bool
-has_kind None kind = false
-has_kind (Some own) kind = same_kind own kind
-
-abbrev pub named : Kind → Option FieldInfo → Option (List ℕ)
-named kind None = None
-named kind (Some f) = if has_kind (kind_of f.ty) kind then Some f.name else None
-
--- the name of the field with this id, where it stands in a known struct that declares the id with this kind
-abbrev pub field_name : Declarations → Option StructId → ℤ → Kind → Option (List ℕ)
-field_name d None id kind = None
-field_name d (Some s) id kind = named kind (field_in id (fields_of d.structs s.0))
+-- the name of a field, where one is declared
+abbrev pub field_name : Option FieldInfo → Option (List ℕ)
+field_name None = None
+field_name (Some f) = Some f.name
 
 unfoldable pub name_text : Option (List ℕ) → List ℕ
 name_text None = []
@@ -140,12 +129,12 @@ value_text (field id kind) = []
 value_text stop = []
 value_text end = []
 
--- an item that stands in this struct, if any, and at these levels
-abbrev pub item_text : Declarations → Option StructId → Levels → Item → List ℕ
-item_text d inside levels (field id kind) = lead levels ++ field_text id (field_name d inside id kind) kind
-item_text d inside levels stop = stop_text
-item_text d inside levels end = closing (first_of levels.nest)
-item_text d inside levels item = lead levels ++ value_text item
+-- an item that stands at these levels, of which the innermost is declared so; a field has the name that stands there for its id and kind
+abbrev pub item_text : Declarations → Option Level → Levels → Item → List ℕ
+item_text d known levels (field id kind) = lead levels ++ field_text id (field_name (declared_in d known id kind)) kind
+item_text d known levels stop = stop_text
+item_text d known levels end = closing (first_of levels.nest)
+item_text d known levels item = lead levels ++ value_text item
 
 unfoldable pub type_text : MessageType → List ℕ
 type_text mtype = type_word mtype ++ codes " "

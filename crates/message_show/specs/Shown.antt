@@ -6,7 +6,8 @@ use Rattle.std.specs.Io.KnownBytes.{Keeps, Appends}
 use Rattle.thrift_value.specs.Items.{Item}
 use Rattle.type_tables.specs.declared.declared.ServiceId.{ServiceId}
 use Rattle.type_tables.specs.Declarations.{Declarations}
-use Rattle.type_walk.specs.Positions.{Position, inside_of}
+use Rattle.type_walk.specs.Stack.{first_of}
+use Rattle.type_walk.specs.Positions.{Position}
 use Rattle.type_walk.specs.Positions as positions
 use Rattle.protocol_traits.specs.declared.fault.Fault.{Fault}
 use Rattle.protocol_traits.specs.declared.proto.Proto.{Proto}
@@ -37,7 +38,7 @@ place position levels = record { position = position; levels = levels }
 
 -- the text of an item where it stands
 abbrev pub text_at : Place → Item → List ℕ
-text_at p item = item_text p.position.schema (inside_of p.position) p.levels item
+text_at p item = item_text p.position.schema (first_of p.position.levels) p.levels item
 
 -- a writer of the line
 abbrev pub line_target : Place → Target Place

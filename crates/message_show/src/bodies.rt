@@ -1,30 +1,46 @@
 //! The struct of a message's body, and of what is open in it.
-ghost use Rattle.std.specs.Prelude.{◌≡◌, ◌<◌, None, IfSome, length};
+ghost use Rattle.std.specs.Prelude.{◌≡◌, ◌<◌, ◌≤◌, None, IfSome, length, option_copied};
+ghost use Rattle.std.specs.Borrow.{sem};
+ghost use Rattle.std.specs.Io.BufRead.{Rests};
 ghost use Rattle.protocol_traits.specs.Heads.{header_of};
 ghost use Rattle.translate_core.specs.Routes.{args_of, result_of, body_of};
 ghost use Rattle.translate_core.specs.declared.route.Route.TheVariants.{ByName};
-ghost use Rattle.type_walk.specs.Positions.{start, inside_of};
+ghost use Rattle.thrift_value.specs.Items.{field};
+ghost use Rattle.type_walk.specs.Stack.{first_of};
+ghost use Rattle.type_walk.specs.Positions.{start, after, declared_in};
 ghost use Rattle.message_show.specs.Shown.{IsService};
 
 use multiplex_names::find;
 use protocol_traits::{Head, Hint, Mark};
 use std::marker::Model;
-use thrift_value::{Event, MessageType};
-use type_tables::{MethodInfo, Schema, ServiceId, StructId};
+use thrift_value::{Event, Kind, MessageType};
+use type_tables::{FieldInfo, MethodInfo, Schema, ServiceId, StructId};
 use type_walk::{Undeclared, Walk, Walking};
 
-/// What follows a body and knows the struct that an event stands in.
-pub trait Inside: Walking {
-    /// The declared struct of the struct in which the next event stands, where it is known.
-    fn inside(&self) -> Option<StructId>
-        ensures { result ≡ inside_of (Self.at self.now) };
+/// What follows a body and knows the fields that its structs declare.
+pub trait Announcing: Walking {
+    /// Goes past a field, and tells its declaration where the struct that it stands in declares its id with its kind.
+    fn announce(&mut self, id: i16, kind: Kind) -> Option<&FieldInfo>
+        requires open { 0 < length (Self.at self.old).levels }
+        requires shallow { length (Self.at self.old).levels ≤ 256 }
+        ensures value { option_copied result ≡ declared_in (Self.at self.old).schema (first_of (Self.at self.old).levels) id kind }
+        ensures* after { sem 𝓛 (Rests Self.row self.entry (λ new. Self.at new ≡ after (Self.at self.old) (field id kind))) };
 }
 
-impl<'s> Inside for Walk<'s> {
+impl<'s> Announcing for Walk<'s> {
     #[inline(always)]
-    fn inside(&self) -> Option<StructId> {
-        Walk::inside(self)
+    fn announce(&mut self, id: i16, kind: Kind) -> Option<&FieldInfo> {
+        let found = Walk::announce(self, id, kind);
+        lend(self, found)
     }
+}
+
+/// The declaration for as long as the walk is lent.
+#[inline(always)]
+fn lend<'w, 's>(_walk: &'w Walk<'s>, found: Option<&'s FieldInfo>) -> Option<&'w FieldInfo>
+    ensures same { option_copied result ≡ option_copied found.entry }
+{
+    found
 }
 
 /// A walk through a body of which nothing is declared, so that no field has a name.
@@ -76,10 +92,10 @@ impl<'s> Walking for Nameless<'s> {
     }
 }
 
-impl<'s> Inside for Nameless<'s> {
+impl<'s> Announcing for Nameless<'s> {
     #[inline(always)]
-    fn inside(&self) -> Option<StructId> {
-        let _ = &self.walk;
+    fn announce(&mut self, id: i16, kind: Kind) -> Option<&FieldInfo> {
+        self.walk.step(&Event::Field(id, kind));
         None
     }
 }

@@ -1,80 +1,24 @@
-//! The open levels, and what stands before the next item.
-ghost use Rattle.std.specs.Prelude.{◌≡◌, ◌+◌, ◌≤◌, ◌<◌, ◌++◌, ◌∷◌, [], length};
+//! What stands before an item in its level, and what closes the level.
+ghost use Rattle.std.specs.Prelude.{◌≡◌, ◌+◌, ◌≤◌, ◌++◌, ◌∷◌, [], Some, length};
 ghost use Rattle.thrift_value.specs.Items.{item_of};
-ghost use Rattle.protocol_traits.specs.Stack.{first_of};
-ghost use Rattle.protocol_traits.specs.Follow.{depth_after};
-ghost use Rattle.message_show.specs.Line.{begun, after, opens, comma, mark_before, lead, closing};
+ghost use Rattle.message_show.specs.Line.{opens, comma, mark_before, closing};
 
 use crate::line::Line;
-use protocol_traits::{Nest, Slot, follow};
-use std::marker::Model;
+use protocol_traits::Slot;
 use thrift_value::Event;
 
-/// The open structs and containers, and whether nothing was told of the innermost yet.
-#[derive(Drop)]
-pub struct Levels {
-    nest: Nest,
-    first: bool,
-}
-
-/// Clauses see the open levels and whether the next item is the first of its level.
-impl Model for Levels {
-    ghost use Rattle.message_show.specs.Line as line;
-
-    ghost Value = { line.Levels };
-
-    ghost view = { λ l. record { nest = l.nest; first = l.first } };
-}
-
-impl Levels {
-    /// At the beginning of a body.
-    pub fn begin() -> Levels
-        ensures { result ≡ begun }
-    {
-        Levels {
-            nest: Nest::new(Slot::Fields(0)),
-            first: true,
-        }
-    }
-
-    /// Goes past an event.
-    #[inline(always)]
-    pub fn pass(&mut self, event: &Event<'_>)
-        requires open { 0 < length self.old.nest }
-        requires shallow { depth_after (item_of event.now) (length self.old.nest) ≤ 256 }
-        ensures { self.new ≡ after self.old (item_of event.now) }
-    {
-        follow(&mut self.nest, event);
-        self.first = opens(event);
-    }
-
-    /// Appends what stands before the next field, element, key or value.
-    #[inline(always)]
-    #[tactic(auto, unfolding(crate::specs::Line::colon), using(crate::proofs::Told::same_line))]
-    pub fn push_lead(&self, line: &mut Line)
-        requires { length line.old.bytes + 2 ≤ 4096 }
-        ensures text { line.new ≡ record line.old { bytes = line.old.bytes ++ lead self.now } }
-        ensures short { length line.new.bytes ≤ length line.old.bytes + 2 }
-    {
-        match self.nest.top() {
-            Some(Slot::Values(_, _, _)) => line.push(b": "),
-            Some(Slot::Value(_, _)) | None => {}
-            Some(Slot::Fields(_) | Slot::Elements(_, _) | Slot::Keys(_, _, _)) => {
-                push_comma(line, self.first);
-            }
-        }
-    }
-
-    /// What closes the innermost container.
-    #[tactic(auto, unfolding(crate::specs::Line::brace, crate::specs::Line::bracket))]
-    pub fn closing(&self) -> u8
-        ensures { result ∷ [] ≡ closing (first_of self.now.nest) }
-    {
-        match self.nest.top() {
-            Some(Slot::Keys(_, _, _)) => b'}',
-            Some(Slot::Fields(_) | Slot::Value(_, _) | Slot::Elements(_, _) | Slot::Values(_, _, _))
-            | None => b']',
-        }
+/// Appends what stands before a field, an element, a key or a value: the first of its level has no comma.
+#[inline(always)]
+#[tactic(auto, unfolding(crate::specs::Line::colon), using(crate::proofs::Told::same_line))]
+pub fn push_lead(line: &mut Line, level: Slot, first: bool)
+    requires { length line.old.bytes + 2 ≤ 4096 }
+    ensures text { line.new ≡ record line.old { bytes = line.old.bytes ++ mark_before first (Some level) } }
+    ensures short { length line.new.bytes ≤ length line.old.bytes + 2 }
+{
+    match level {
+        Slot::Values(_, _, _) => line.push(b": "),
+        Slot::Value(_, _) => {}
+        Slot::Fields(_) | Slot::Elements(_, _) | Slot::Keys(_, _, _) => push_comma(line, first),
     }
 }
 
@@ -91,8 +35,21 @@ fn push_comma(line: &mut Line, first: bool)
     line.push(b", ");
 }
 
+/// What closes a container.
 #[inline(always)]
-fn opens(event: &Event<'_>) -> bool
+#[tactic(auto, unfolding(crate::specs::Line::brace, crate::specs::Line::bracket))]
+pub fn closing(level: Slot) -> u8
+    ensures { result ∷ [] ≡ closing (Some level) }
+{
+    match level {
+        Slot::Keys(_, _, _) => b'}',
+        Slot::Fields(_) | Slot::Value(_, _) | Slot::Elements(_, _) | Slot::Values(_, _, _) => b']',
+    }
+}
+
+/// Whether an event begins a level, in which the next item is the first.
+#[inline(always)]
+pub fn opens(event: &Event<'_>) -> bool
     ensures { result ≡ opens (item_of event.now) }
 {
     matches!(

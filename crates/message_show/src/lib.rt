@@ -10,7 +10,6 @@ mod bodies;
 mod checking;
 mod levels;
 mod line;
-mod names;
 mod nowhere;
 mod showing;
 mod telling;

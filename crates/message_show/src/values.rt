@@ -1,48 +1,64 @@
 //! The texts of events.
-ghost use Rattle.std.specs.Prelude.{IfSome, ◌≡◌, ◌+◌, ◌≤◌, ◌<◌, ◌++◌, ◌∷◌, [], length, flat_map, take, slice_index, false};
+ghost use Rattle.std.specs.Prelude.{IfSome, Some, List, option_copied, ◌≡◌, ◌+◌, ◌≤◌, ◌<◌, ◌++◌, ◌∷◌, [], length, flat_map, take, slice_index, false};
 ghost use Rattle.std.specs.Fmt.{signed_decimal};
 ghost use Rattle.thrift_value.specs.Items.{item_of};
-ghost use Rattle.type_walk.specs.Positions.{inside_of};
+ghost use Rattle.protocol_traits.specs.declared.nest.Slot.{Slot};
+ghost use Rattle.protocol_traits.specs.Stack.{first_of};
+ghost use Rattle.protocol_traits.specs.Follow.{depth_after};
+ghost use Rattle.type_walk.specs.Stack.{first_of as known_of};
+ghost use Rattle.type_walk.specs.Positions.{after};
 ghost use Rattle.message_show.specs.Texts.{is_plain, upper_byte, byte_text, quoted};
-ghost use Rattle.message_show.specs.Line.{value_text, lead, closing, item_text, field_name, field_text, name_text, kind_text, map_text, list_text};
+ghost use Rattle.message_show.specs.Line.{value_text, mark_before, closing, item_text, field_name, field_text, name_text, kind_text, map_text, list_text};
 ghost use Rattle.message_show.specs.Pieces.{Tells, output};
 
-use crate::bodies::Inside;
-use crate::levels::Levels;
+use crate::bodies::Announcing;
+use crate::levels::{closing, push_lead};
 use crate::line::{Line, SPARE};
-use crate::names::field_name;
 use crate::texts::{
     bool_word, is_plain, kind_word, push_double, push_number, push_uuid, upper_byte,
 };
 use gate_io::Sink;
+use protocol_traits::Slot;
 use thrift_value::{Event, Kind};
-use type_tables::{Schema, StructId};
+use type_tables::FieldInfo;
 
-/// Tells an event that stands where this walk is and at these levels.
+/// Tells an event that stands in this level, and goes past it.
 #[inline(always)]
-#[tactic(auto, unfolding(crate::specs::Line::stop_text), using(crate::proofs::Told::tells_broken))]
-pub fn tell_event<K: Inside, O: Sink>(
-    schema: &Schema,
-    walk: &K,
-    levels: &Levels,
+#[tactic(auto, unfolding(crate::specs::Line::stop_text))]
+pub fn tell_event<K: Announcing, O: Sink>(
+    walk: &mut K,
+    level: Slot,
+    first: bool,
     event: &Event<'_>,
     line: &mut Line,
     out: &mut O,
 )
-    ensures told { Tells (output (O.written out.old) (O.faults out.old)) line.old (output (O.written out.new) (O.faults out.new)) line.new
-        (item_text schema.now (inside_of (K.at walk.now)) levels.now (item_of event.now)) }
+    requires open { 0 < length (K.at walk.old).levels }
+    requires shallow { length (K.at walk.old).levels ≤ 256 }
+    requires deep { depth_after (item_of event.now) (length (K.at walk.old).levels) ≤ 256 }
+    ensures told { (nest : List Slot) → first_of nest ≡ Some level → Tells (output (O.written out.old) (O.faults out.old)) line.old (output (O.written out.new) (O.faults out.new)) line.new
+        (item_text (K.at walk.old).schema (known_of (K.at walk.old).levels) (record { nest = nest; first = first }) (item_of event.now)) }
+    ensures after { K.at walk.new ≡ after (K.at walk.old) (item_of event.now) }
+    ensures depth { length (K.at walk.new).levels ≡ depth_after (item_of event.now) (length (K.at walk.old).levels) }
 {
-    if !line.is_whole() {
-        return;
-    }
     line.make_room(out);
     match *event {
-        Event::Field(id, kind) => tell_field(schema, walk.inside(), levels, id, kind, line, out),
-        Event::Stop => line.push_byte(b')'),
-        Event::End => line.push_byte(levels.closing()),
+        Event::Field(id, kind) => {
+            let field = walk.announce(id, kind);
+            tell_field(level, first, id, field, kind, line, out);
+        }
+        Event::Stop => {
+            line.push_byte(b')');
+            walk.step(event);
+        }
+        Event::End => {
+            line.push_byte(closing(level));
+            walk.step(event);
+        }
         _ => {
-            levels.push_lead(line);
+            push_lead(line, level, first);
             tell_value(event, line, out);
+            walk.step(event);
         }
     }
 }
@@ -101,21 +117,21 @@ fn push_list(line: &mut Line, kind: Kind)
 /// Tells a field: its id, its name where it is declared, and its kind.
 #[inline(always)]
 fn tell_field<O: Sink>(
-    schema: &Schema,
-    inside: Option<StructId>,
-    levels: &Levels,
+    level: Slot,
+    first: bool,
     id: i16,
+    field: Option<&FieldInfo>,
     kind: Kind,
     line: &mut Line,
     out: &mut O,
 )
     requires { length line.old.bytes + SPARE ≤ 4096 }
     ensures told { Tells (output (O.written out.old) (O.faults out.old)) line.old (output (O.written out.new) (O.faults out.new)) line.new
-        (lead levels.now ++ field_text id (field_name schema.now inside id kind) kind) }
+        (mark_before first (Some level) ++ field_text id (field_name (option_copied field.entry)) kind) }
 {
-    levels.push_lead(line);
+    push_lead(line, level, first);
     push_id(line, id);
-    tell_name(schema, inside, id, kind, line, out);
+    tell_name(field, line, out);
     line.make_room(out);
     push_kind(line, kind);
 }
@@ -173,22 +189,15 @@ fn push_kind(line: &mut Line, kind: Kind)
 
 /// Tells a colon and the name of a field, where it is declared.
 #[inline(always)]
-fn tell_name<O: Sink>(
-    schema: &Schema,
-    inside: Option<StructId>,
-    id: i16,
-    kind: Kind,
-    line: &mut Line,
-    out: &mut O,
-)
+fn tell_name<O: Sink>(field: Option<&FieldInfo>, line: &mut Line, out: &mut O)
     requires { length line.old.bytes + 1 ≤ 4096 }
     ensures told { Tells (output (O.written out.old) (O.faults out.old)) line.old (output (O.written out.new) (O.faults out.new)) line.new
-        (name_text (field_name schema.now inside id kind)) }
+        (name_text (field_name (option_copied field.entry))) }
 {
-    match field_name(schema, inside, id, kind) {
-        Some(name) => {
+    match field {
+        Some(field) => {
             line.push_byte(b':');
-            line.put(name.as_slice(), out);
+            line.put(field.name.as_slice(), out);
         }
         None => {}
     }

@@ -1,8 +1,8 @@
-use Rattle.std.proofs.Common.{[], ◌++◌}
+use Rattle.std.proofs.Common.{[], ◌++◌, Some, option_copied}
 use Rattle.std.specs.Fmt.{signed_decimal}
 use Rattle.std.proofs.lemmas.Int.{to_z-of_z}
 use Rattle.std.specs.Int.{w16}
-use Rattle.message_show.specs.Line.{lead, field_name, name_text, kind_text}
+use Rattle.message_show.specs.Line.{mark_before, field_name, name_text, kind_text}
 use Rattle.message_show.specs.Pieces.{output}
 use Rattle.message_show.proofs.Items.{field_joined}
 use Rattle.message_show.proofs.Told.{tells_none, tells_more, tells_then, tells_same}
@@ -15,12 +15,12 @@ returns g c =
     let mid = output (sink.written c.tell_name.new.out) (sink.faults c.tell_name.new.out) in
     let new = output (sink.written c.make_room.new.out) (sink.faults c.make_room.new.out) in
     let line = c.args.line.now in
-    let before = lead c.args.levels.now in
+    let before = mark_before c.args.first (Some c.args.level) in
     let id = signed_decimal c.args.id in
-    let name = field_name c.args.schema.now c.args.inside c.args.id c.args.kind in
+    let name = field_name (option_copied c.args.field) in
     let led = tells_more old old line line c.push_lead.new.line [] before (tells_none old line) c.push_lead.ensures.text in
     let numbered = tells_more old old line c.push_lead.new.line c.push_id.new.line before id led (rw (to_z-of_z w16 c.args.id c.ranges.id) at c.push_id.ensures.text) in
-    let named = tells_then old old mid line c.push_id.new.line c.tell_name.new.line (before ++ id) (name_text name) numbered (rw (to_z-of_z w16 c.args.id c.ranges.id) at c.tell_name.ensures.told) in
+    let named = tells_then old old mid line c.push_id.new.line c.tell_name.new.line (before ++ id) (name_text name) numbered c.tell_name.ensures.told in
     let roomy = tells_then old mid new line c.tell_name.new.line c.make_room.new.self ((before ++ id) ++ name_text name) [] named c.make_room.ensures.told in
     let told = tells_more old new line c.make_room.new.self c.push_kind.new.line (((before ++ id) ++ name_text name) ++ []) (kind_text c.args.kind) roomy c.push_kind.ensures in
     record { told = tells_same old new line c.push_kind.new.line _ _ (field_joined before c.args.id name c.args.kind) told }

@@ -1,6 +1,4 @@
-use Rattle.std.proofs.Common.{[], ◌∷◌, ap, ◌∙◌}
-use Rattle.std.proofs.lemmas.Int.{to_z-of_z}
-use Rattle.std.specs.Int.{w16}
+use Rattle.std.proofs.Common.{[], ◌∷◌, ap, ◌∙◌, refl, option_copied}
 use Rattle.message_show.specs.Line.{field_name, name_text}
 use Rattle.message_show.specs.Pieces.{output}
 use Rattle.message_show.proofs.Items.{some_name, no_name}
@@ -12,8 +10,8 @@ returns-in-Some g c =
     let sink = g.O.Sink in
     let old = output (sink.written c.args.out.now) (sink.faults c.args.out.now) in
     let new = output (sink.written c.put.new.out) (sink.faults c.put.new.out) in
-    let name = field_name c.args.schema.now c.args.inside c.args.id c.args.kind in
-    let same = ap (λ xs. 58 ∷ xs) c.as_slice.ensures ∙ some_name name c.in-Some.name.now (rw (to_z-of_z w16 c.args.id c.ranges.id) at c.in-Some.ensures) in
+    let name = field_name (option_copied c.args.field) in
+    let same = ap (λ xs. 58 ∷ xs) c.as_slice.ensures ∙ some_name name c.in-Some.field.now.name (rw c.in-Some.is refl) in
     let colon = tells_more old old c.args.line.now c.args.line.now c.push_byte.new.self [] (58 ∷ []) (tells_none old c.args.line.now) c.push_byte.ensures in
     record {
       told = tells_same old new c.args.line.now c.put.new.self (58 ∷ c.as_slice.result.now) (name_text name) same
@@ -24,5 +22,5 @@ pub returns-in-None : goal.returns-in-None
 returns-in-None g c =
     let sink = g.O.Sink in
     let old = output (sink.written c.args.out.now) (sink.faults c.args.out.now) in
-    let name = field_name c.args.schema.now c.args.inside c.args.id c.args.kind in
-    record { told = tells_same old old c.args.line.now c.args.line.now [] (name_text name) (no_name name (rw (to_z-of_z w16 c.args.id c.ranges.id) at c.in-None.ensures)) (tells_none old c.args.line.now) }
+    let name = field_name (option_copied c.args.field) in
+    record { told = tells_same old old c.args.line.now c.args.line.now [] (name_text name) (no_name name (rw c.in-None.is refl)) (tells_none old c.args.line.now) }
