@@ -128,7 +128,8 @@ fn tell_declared<'f, R: WireRead<'f>, O: Sink>(
     tell_by(reader, &mut walk, line, out)
 }
 
-/// Tells a body, event by event.
+/// Tells a body, event by event. It is compiled into its callers, whose walk then lies where they keep it.
+#[inline(always)]
 fn tell_by<'f, R: WireRead<'f>, K: Announcing, O: Sink>(
     reader: &mut R,
     walk: &mut K,

@@ -1,12 +1,13 @@
 -- What stays known of the open levels, and how many they are.
-use Rattle.std.proofs.Common.{◌≡◌, ℕ, ℤ, zero, suc, ◌+◌, List, [], ◌∷◌, Bool, true, false, Option, Some, None, length, arith, refl}
+use Rattle.std.proofs.Common.{◌≡◌, ℕ, ℤ, zero, suc, ◌+◌, ◌<◌, List, [], ◌∷◌, Bool, true, false, Option, Some, None, length, arith, refl}
 use Rattle.std.specs.Prelude.{IfSome, if◌then◌else◌}
 use Rattle.type_tables.specs.Declarations.{Declarations}
 use Rattle.type_walk.specs.declared.levels.Level.{Level}
 use Rattle.type_walk.specs.declared.levels.Level.TheVariants as levels
 use Rattle.type_walk.specs.Stack.{first_of, rest_of}
 use Rattle.thrift_value.specs.declared.kind.Kind.{Kind}
-use Rattle.thrift_value.specs.Gathering.{same_kind}
+use Rattle.thrift_value.specs.declared.kind.Kind.TheVariants as kinds
+use Rattle.thrift_value.specs.Gathering.{rank_of, same_kind}
 use Rattle.type_tables.specs.declared.declared.FieldInfo.{FieldInfo}
 use Rattle.type_tables.specs.declared.declared.Ty.TheVariants as types
 use Rattle.type_tables.specs.Fields.{field_in}
@@ -54,3 +55,18 @@ declared_types d (levels.Fields s) id kind = declared_kinds (field_in id (fields
 declared_types d (levels.Elements element) id kind = refl
 declared_types d (levels.Keys key value) id kind = refl
 declared_types d (levels.Values key value) id kind = refl
+
+-- there are twelve kinds
+pub rank_short : (kind : Kind) → rank_of kind < 12
+rank_short kinds.Bool = omega arith
+rank_short kinds.I8 = omega arith
+rank_short kinds.I16 = omega arith
+rank_short kinds.I32 = omega arith
+rank_short kinds.I64 = omega arith
+rank_short kinds.Double = omega arith
+rank_short kinds.Str = omega arith
+rank_short kinds.Struct = omega arith
+rank_short kinds.Map = omega arith
+rank_short kinds.Set = omega arith
+rank_short kinds.List = omega arith
+rank_short kinds.Uuid = omega arith

@@ -1,5 +1,5 @@
 //! The declared types at one step down from a struct or container.
-ghost use Rattle.std.specs.Prelude.{◌≡◌, IfSome, Some, option_copied};
+ghost use Rattle.std.specs.Prelude.{◌≡◌, IfSome, None, Some, option_copied};
 ghost use Rattle.thrift_value.specs.Gathering.{rank_of};
 ghost use Rattle.type_tables.specs.Declarations.{Declarations};
 ghost use Rattle.type_tables.specs.Kinds.{kind_of};
@@ -39,7 +39,7 @@ fn of_kind(field: Option<&FieldInfo>, kind: Kind) -> Option<&FieldInfo>
 {
     match field {
         Some(field) => {
-            if has_kind(field.ty.kind(), kind) {
+            if has_kind(field.ty, kind) {
                 Some(field)
             } else {
                 None
@@ -60,14 +60,13 @@ pub fn declared_type(field: Option<&FieldInfo>) -> Ty
     }
 }
 
+/// Whether values of this type have this kind.
 #[inline(always)]
-fn has_kind(own: Option<Kind>, kind: Kind) -> bool
-    ensures { result ≡ has_kind own kind }
+#[tactic(auto, using(crate::proofs::Sound::rank_short))]
+fn has_kind(ty: Ty, kind: Kind) -> bool
+    ensures { result ≡ has_kind (kind_of ty) kind }
 {
-    match own {
-        Some(own) => own as u8 == kind as u8,
-        None => false,
-    }
+    own_rank(ty) == rank(kind)
 }
 
 /// What a struct of this type is inside.
@@ -190,20 +189,22 @@ fn under(ty: Ty, kind: Kind) -> Ty
     ensures value { result ≡ under ty kind }
     ensures known { (d : Declarations) → IsKnown d ty → IsKnown d result }
 {
-    if own_rank(ty) == rank(kind) {
+    if has_kind(ty, kind) {
         ty
     } else {
         Ty::Unknown
     }
 }
 
-/// The number of the kind of a declared type's values; of `Unknown`, which has none, any. One look-up in a table, and
-/// no jump by the type for each field.
+/// The number of the kind of a declared type's values; of `Unknown`, which has none, a number that no kind has. One look-up
+/// in a table, and no jump by the type for each field.
+#[inline(always)]
 fn own_rank(ty: Ty) -> u8
-    ensures { IfSome (kind_of ty) (λ own. result ≡ rank_of own) }
+    ensures some { IfSome (kind_of ty) (λ own. result ≡ rank_of own) }
+    ensures none { kind_of ty ≡ None → result ≡ 12 }
 {
     match ty {
-        Ty::Unknown => 0,
+        Ty::Unknown => 12,
         Ty::Bool => rank(Kind::Bool),
         Ty::I8 => rank(Kind::I8),
         Ty::I16 => rank(Kind::I16),
@@ -222,6 +223,7 @@ fn own_rank(ty: Ty) -> u8
 }
 
 /// A number for each kind.
+#[inline(always)]
 fn rank(kind: Kind) -> u8
     ensures { result ≡ rank_of kind }
 {
