@@ -204,6 +204,7 @@ impl<'n, N: Net> Sockets<'n, N> {
         let Some(listening) = &mut self.listening else {
             return Some(self.fails());
         };
+        // The table holds announced sessions alone, but its contract doesn't say so; one comparison a turn says it here.
         if let Some(number) = listening.table.next_ready()
             && number < self.announced
         {
