@@ -189,11 +189,7 @@ fn under(ty: Ty, kind: Kind) -> Ty
     ensures value { result ≡ under ty kind }
     ensures known { (d : Declarations) → IsKnown d ty → IsKnown d result }
 {
-    if has_kind(ty, kind) {
-        ty
-    } else {
-        Ty::Unknown
-    }
+    if has_kind(ty, kind) { ty } else { Ty::Unknown }
 }
 
 /// The number of the kind of a declared type's values; of `Unknown`, which has none, a number that no kind has. One look-up
