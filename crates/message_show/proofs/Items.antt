@@ -20,10 +20,15 @@ pub no_name : (name : Option (List ℕ)) → None ≡ name → [] ≡ name_text 
 unfolding name_text
 no_name name e = rw (← e) refl
 
-joined : (a b c d : List ℕ) → (((a ++ b) ++ c) ++ []) ++ d ≡ a ++ ((b ++ c) ++ d)
-joined a b c d = rw (append-nil ((a ++ b) ++ c), append_assoc a b c, append_assoc a (b ++ c) d) refl
+-- a number of one digit and a name
+pub named_digit : (id : List ℕ) (digit : ℕ) (name : Option (List ℕ)) (bytes : List ℕ) → id ≡ digit ∷ [] → name ≡ Some bytes → [] ++ digit ∷ 58 ∷ bytes ≡ id ++ name_text name
+unfolding name_text
+named_digit id digit name bytes is named = rw (is, named) refl
 
-pub field_joined : (before : List ℕ) (id : ℤ) (name : Option (List ℕ)) (kind : Kind) → (((before ++ signed_decimal id) ++ name_text name) ++ []) ++ kind_text kind ≡ before ++ field_text id name kind
+joined : (a b c d : List ℕ) → ((a ++ (b ++ c)) ++ []) ++ d ≡ a ++ ((b ++ c) ++ d)
+joined a b c d = rw (append-nil (a ++ (b ++ c)), append_assoc a (b ++ c) d) refl
+
+pub field_joined : (before : List ℕ) (id : ℤ) (name : Option (List ℕ)) (kind : Kind) → ((before ++ (signed_decimal id ++ name_text name)) ++ []) ++ kind_text kind ≡ before ++ field_text id name kind
 unfolding field_text
 field_joined before id name kind = joined before (signed_decimal id) (name_text name) (kind_text kind)
 

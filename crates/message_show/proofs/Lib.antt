@@ -4,5 +4,6 @@ pub mod Strings
 pub mod Items
 pub mod Frames
 pub mod Ends
+pub mod Bytes
 pub mod Ending
 pub mod Turns

@@ -11,6 +11,7 @@ mod checking;
 mod levels;
 mod line;
 mod nowhere;
+mod printed;
 mod showing;
 mod telling;
 #[cfg(test)]

@@ -3,7 +3,7 @@ ghost use Rattle.std.specs.Prelude.{◌≡◌, ◌+◌, ◌*◌, ◌<◌, ◌≤
 ghost use Rattle.message_show.specs.Pieces.{Tells, output};
 ghost use Rattle.message_show.specs.Texts.{is_plain, byte_text};
 
-use crate::texts::{escape, is_plain};
+use crate::printed::printed;
 use gate_io::{Sink, Wrote, write_all};
 use std::marker::Model;
 
@@ -63,6 +63,18 @@ impl Line {
     {
         append_byte(&mut self.cells, self.len, byte);
         self.len += 1;
+    }
+
+    /// Appends a digit, a colon and a name, for which there must be room.
+    #[inline(always)]
+    pub fn push_named(&mut self, digit: u8, name: &[u8])
+        requires { length self.old.bytes + (length name.now + 2) ≤ 4096 }
+        ensures { self.new ≡ record self.old { bytes = self.old.bytes ++ digit ∷ 58 ∷ name.now } }
+    {
+        let at = self.len;
+        append(&mut self.cells, at, &[digit, b':']);
+        append(&mut self.cells, at + 2, name);
+        self.len = at + 2 + name.len();
     }
 
     /// Whether so many bytes fit, however they are printed, and four more.
@@ -174,37 +186,14 @@ fn print_all(cells: &mut [u8], len: usize, bytes: &[u8]) -> usize
 }
 
 #[inline(always)]
-#[tactic(auto, using(crate::proofs::Strings::plain_byte))]
 fn print_byte(cells: &mut [u8], len: usize, byte: u8) -> usize
     requires { len + 4 ≤ length cells.old }
     ensures printed { take result cells.new ≡ take len cells.old ++ byte_text byte }
     ensures short { result ≤ len + 4 }
 {
-    if is_plain(byte) {
-        append_byte(cells, len, byte);
-        return len + 1;
-    }
-    print_escape(cells, len, byte)
-}
-
-#[inline(always)]
-#[tactic(auto, using(crate::proofs::Strings::quote_byte, crate::proofs::Strings::slash_byte, crate::proofs::Strings::other_byte))]
-fn print_escape(cells: &mut [u8], len: usize, byte: u8) -> usize
-    requires room { len + 4 ≤ length cells.old }
-    requires other { is_plain byte ≡ false }
-    ensures printed { take result cells.new ≡ take len cells.old ++ byte_text byte }
-    ensures short { result ≤ len + 4 }
-{
-    if byte == b'"' {
-        append(cells, len, b"\\\"");
-        return len + 2;
-    }
-    if byte == b'\\' {
-        append(cells, len, b"\\\\");
-        return len + 2;
-    }
-    append(cells, len, &escape(byte));
-    len + 4
+    let (text, used) = printed(byte);
+    append(cells, len, &text);
+    len + used
 }
 
 // Writes bytes behind those that wait.

@@ -147,7 +147,7 @@ fn tell_by<'f, R: WireRead<'f>, K: Announcing, O: Sink>(
     'turns: while let Some(level) = reader.level() {
         match turn_in(reader, walk, level, &mut first, line, out) {
             Ok(()) => {}
-            Err(fault) => return Checked::Refused(fault),
+            Err(fault) => return Checked::Refused(by_fields(&fault)),
         }
     }
     match reader.finish() {
@@ -176,12 +176,15 @@ fn turn_in<'f, R: WireRead<'f>, K: Announcing, O: Sink>(
     ensures shallow { IfOk result (λ u. length (K.at walk.new).levels ≤ 256) }
     ensures falls { IfOk result (λ u. R.ahead reader.new < R.ahead reader.old) }
 {
-    match level {
-        Slot::Fields(last) => turn(reader, walk, Slot::Fields(last), first, line, out)?,
-        Slot::Value(kind, id) => turn(reader, walk, Slot::Value(kind, id), first, line, out)?,
-        level => turn(reader, walk, level, first, line, out)?,
+    let turned = match level {
+        Slot::Fields(last) => turn(reader, walk, Slot::Fields(last), first, line, out),
+        Slot::Value(kind, id) => turn(reader, walk, Slot::Value(kind, id), first, line, out),
+        level => turn(reader, walk, level, first, line, out),
+    };
+    match turned {
+        Ok(()) => Ok(()),
+        Err(fault) => Err(by_fields(&fault)),
     }
-    Ok(())
 }
 
 /// Reads an event in this level and tells it.
@@ -210,6 +213,18 @@ fn turn<'f, R: WireRead<'f>, K: Announcing, O: Sink>(
             *first = opens(&event);
             Ok(())
         }
-        Err(fault) => Err(fault),
+        Err(fault) => Err(by_fields(&fault)),
+    }
+}
+
+/// The same fault, copied by its fields. A copy of the whole would take along the bytes behind the reason, which mean nothing, by
+/// two moves that overlap, and that at each event, whether or not there is a fault.
+#[inline(always)]
+fn by_fields(fault: &Fault) -> Fault
+    ensures { result ≡ fault.now }
+{
+    Fault {
+        place: fault.place,
+        reason: fault.reason,
     }
 }

@@ -79,15 +79,6 @@ pub fn upper_byte(byte: u8) -> [u8; 2]
     [upper_digit(byte / 16), upper_digit(byte % 16)]
 }
 
-/// A byte by its two digits behind a backslash and an x.
-#[inline(always)]
-#[tactic(auto, unfolding(crate::specs::Texts::upper_byte))]
-pub fn escape(byte: u8) -> [u8; 4]
-    ensures { result ≡ 92 ∷ 120 ∷ upper_byte byte }
-{
-    [b'\\', b'x', upper_digit(byte / 16), upper_digit(byte % 16)]
-}
-
 #[inline(always)]
 #[tactic(auto, unfolding(crate::specs::Texts::upper_digit))]
 fn upper_digit(n: u8) -> u8
@@ -117,12 +108,12 @@ fn lower_digit(n: u8) -> u8
 
 /// Appends a double.
 #[tactic(auto, unfolding(crate::specs::Texts::double_text))]
-pub fn push_double(line: &mut Line, bytes: [u8; 8])
+pub fn push_double(line: &mut Line, bytes: &[u8; 8])
     requires { length line.old.bytes + 18 ≤ 4096 }
-    ensures { line.new ≡ record line.old { bytes = line.old.bytes ++ double_text bytes } }
+    ensures { line.new ≡ record line.old { bytes = line.old.bytes ++ double_text bytes.now } }
 {
     line.push(b"0x");
-    push_upper(line, &bytes);
+    push_upper(line, bytes);
 }
 
 fn push_upper(line: &mut Line, bytes: &[u8])

@@ -76,7 +76,7 @@ fn tell_value<O: Sink>(event: &Event<'_>, line: &mut Line, out: &mut O)
         Event::I16(value) => push_number(line, value),
         Event::I32(value) => push_number(line, value),
         Event::I64(value) => push_number(line, value),
-        Event::Double(bytes) => push_double(line, bytes),
+        Event::Double(bytes) => push_double(line, &bytes),
         Event::Uuid(bytes) => push_uuid(line, bytes),
         Event::Str(bytes) => tell_string(bytes, line, out),
         Event::UnknownText(bytes) => tell_string(bytes, line, out),
@@ -130,10 +130,40 @@ fn tell_field<O: Sink>(
         (mark_before first (Some level) ++ field_text id (field_name (option_copied field.entry)) kind) }
 {
     push_lead(line, level, first);
-    push_id(line, id);
-    tell_name(field, line, out);
+    tell_number(id, field, line, out);
     line.make_room(out);
     push_kind(line, kind);
+}
+
+/// Tells a field's id, and its name where it is declared. Most ids are small and most names short.
+#[inline(always)]
+fn tell_number<O: Sink>(id: i16, field: Option<&FieldInfo>, line: &mut Line, out: &mut O)
+    requires { length line.old.bytes + 120 ≤ 4096 }
+    ensures told { Tells (output (O.written out.old) (O.faults out.old)) line.old (output (O.written out.new) (O.faults out.new)) line.new
+        (signed_decimal id ++ name_text (field_name (option_copied field.entry))) }
+{
+    if let Some((digit, name)) = short_name(id, field, line) {
+        line.push_named(digit, name);
+        return;
+    }
+    push_id(line, id);
+    tell_name(field, line, out);
+}
+
+/// The digit of an id and its field's name, where it is declared, if the id has one digit and the name fits behind what waits.
+#[inline(always)]
+fn short_name<'n>(id: i16, field: Option<&'n FieldInfo>, line: &Line) -> Option<(u8, &'n [u8])>
+    ensures digit { IfSome result (λ r. signed_decimal id ≡ r.0 ∷ []) }
+    ensures name { IfSome result (λ r. field_name (option_copied field.entry) ≡ Some r.1.now) }
+    ensures fits { IfSome result (λ r. length line.now.bytes + (length r.1.now + 2) ≤ 4096) }
+{
+    let digit = one_digit(id)?;
+    let name = field?.name.as_slice();
+    if line.has_room_for(name.len()) {
+        Some((digit, name))
+    } else {
+        None
+    }
 }
 
 /// Appends a field's id. Most ids are small.

@@ -38,7 +38,7 @@ returns-in-Err-clause-found g c text =
     let start = place (g.K.Walking.at c.args.walk.now) begun in
     let told = c.turns.invariant.found text in
     let ended = sym told.1 ∙ c.in-Err.ensures.turned start told.0 in
-    rw ended refl
+    rw ended c.by_fields.ensures
 
 pub returns-in-Err-clause-told : goal.returns-in-Err-clause-told
 returns-in-Err-clause-told g c from text end whole h =

@@ -47,4 +47,4 @@ returns-in-Err-clause-turned g c begun told =
     let at = g.K.Walking.at c.args.walk.now in
     let levels : Levels = record { nest = rules.nest c.args.reader.now; first = c.args.first.now } in
     let open_is : 0 < length at.levels = omega (arith, c.requires.even, rules.counts c.args.reader.now, is_open (rules.nest c.args.reader.now) c.args.level c.requires.level) in
-    whole_fault source typed (line_target begun) rules.pays (going c.args.reader.now at (place at levels) (length at.levels) None told) c.in-Err.fault open_is (step_err _ _ (rw (← c.hint.ensures) c.in-Err.ensures.answer))
+    rw c.by_fields.ensures (whole_fault source typed (line_target begun) rules.pays (going c.args.reader.now at (place at levels) (length at.levels) None told) c.in-Err.fault open_is (step_err _ _ (rw (← c.hint.ensures) c.in-Err.ensures.answer)))
