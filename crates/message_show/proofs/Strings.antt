@@ -1,26 +1,13 @@
 -- The bytes of a string, run by run.
-use Rattle.std.proofs.Common.{◌≡◌, ℕ, ◌+◌, ◌-◌, ◌≤◌, ◌<◌, List, [], ◌∷◌, ◌++◌, length, take, drop, flat_map, slice_index, true, false, arith, refl, sym, ◌∙◌, ap, add-one}
-use Rattle.std.proofs.lemmas.Bool.{ne_eqb}
+use Rattle.std.proofs.Common.{◌≡◌, ℕ, ◌+◌, ◌-◌, ◌≤◌, ◌<◌, List, [], ◌∷◌, ◌++◌, length, take, drop, flat_map, slice_index, true, arith, refl, sym, ◌∙◌, ap, add-one}
 use Rattle.std.proofs.lemmas.Grind.{flat_map-append}
 use Rattle.std.proofs.lemmas.List.{append-nil, take_all, length-drop}
 use Rattle.std.proofs.Math.Seq.{take-suc, take-add}
-use Rattle.message_show.specs.Texts.{is_plain, byte_text, upper_byte}
+use Rattle.message_show.specs.Texts.{is_plain, byte_text}
 
 pub plain_byte : (b : ℕ) → is_plain b ≡ true → byte_text b ≡ b ∷ []
 unfolding byte_text
 plain_byte b e = rw e refl
-
-pub quote_byte : (b : ℕ) → b ≡ 34 → byte_text b ≡ 92 ∷ 34 ∷ []
-unfolding byte_text
-quote_byte b e = rw e refl
-
-pub slash_byte : (b : ℕ) → b ≡ 92 → byte_text b ≡ 92 ∷ 92 ∷ []
-unfolding byte_text
-slash_byte b e = rw e refl
-
-pub other_byte : (b : ℕ) → is_plain b ≡ false → (b ≡ 34 → ⊥) → (b ≡ 92 → ⊥) → byte_text b ≡ 92 ∷ 120 ∷ upper_byte b
-unfolding byte_text
-other_byte b e quote slash = rw (e, ne_eqb b 34 quote, ne_eqb b 92 slash) refl
 
 -- one byte more
 pub byte_more : (bytes : List ℕ) (i : ℕ) → i < length bytes → flat_map byte_text (take (i + 1) bytes) ≡ flat_map byte_text (take i bytes) ++ byte_text (slice_index bytes i)

@@ -14,9 +14,8 @@ ghost use Rattle.message_show.specs.Pieces.{Tells, output};
 use crate::bodies::Announcing;
 use crate::levels::{closing, push_lead};
 use crate::line::{Line, SPARE};
-use crate::texts::{
-    bool_word, is_plain, kind_word, push_double, push_number, push_uuid, upper_byte,
-};
+use crate::printed::printed;
+use crate::texts::{bool_word, is_plain, kind_word, push_double, push_number, push_uuid};
 use gate_io::Sink;
 use protocol_traits::Slot;
 use thrift_value::{Event, Kind};
@@ -301,28 +300,11 @@ fn plain_run(bytes: &[u8]) -> usize
     count
 }
 
-/// Tells a byte that isn't printed as it is.
+/// Tells a byte as it is printed.
 fn tell_escape<O: Sink>(byte: u8, line: &mut Line, out: &mut O)
-    requires { is_plain byte ≡ false }
     ensures told { Tells (output (O.written out.old) (O.faults out.old)) line.old (output (O.written out.new) (O.faults out.new)) line.new (byte_text byte) }
 {
     line.make_room(out);
-    if byte == b'"' {
-        line.push(b"\\\"");
-        return;
-    }
-    if byte == b'\\' {
-        line.push(b"\\\\");
-        return;
-    }
-    push_digits(line, byte);
-}
-
-/// Appends a byte by its two digits.
-fn push_digits(line: &mut Line, byte: u8)
-    requires { length line.old.bytes + 4 ≤ 4096 }
-    ensures { line.new ≡ record line.old { bytes = line.old.bytes ++ 92 ∷ 120 ∷ upper_byte byte } }
-{
-    line.push(b"\\x");
-    line.push(&upper_byte(byte));
+    let (text, used) = printed(byte);
+    line.push(&text[..used]);
 }
