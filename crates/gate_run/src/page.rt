@@ -48,6 +48,7 @@ impl Page {
         requires { len ≤ length self.old.out.bytes }
         ensures bytes { self.new.out.bytes ≡ take len self.old.out.bytes }
         ensures room { self.new.out.room ≡ self.old.out.room }
+        ensures faults { self.new.faults ≡ self.old.faults }
     {
         self.out.cut(len);
     }
@@ -56,6 +57,7 @@ impl Page {
     pub fn flush<O: Sink>(&mut self, output: &mut O) -> Wrote
         ensures all { result ≡ Wrote.All → (self.new.out.bytes ≡ []) × Appends (O.written output.old) (O.written output.new) self.old.out.bytes }
         ensures room { self.new.out.room ≡ self.old.out.room }
+        ensures faults { self.new.faults ≡ self.old.faults }
         ensures front { AppendsFront (O.written output.old) (O.written output.new) self.old.out.bytes }
         ensures later { O.faults output.old ≤ O.faults output.new }
         ensures cause { result ≡ Wrote.Failed → Rose (O.faults output.old) (O.faults output.new) }
