@@ -10,29 +10,26 @@ use thrift_value::Event;
 /// Appends what stands before a field, an element, a key or a value: the first of its level has no comma.
 #[inline(always)]
 #[tactic(auto, unfolding(crate::specs::Line::colon), using(crate::proofs::Told::same_line))]
-pub fn push_lead(line: &mut Line, level: Slot, first: bool)
-    requires { length line.old.bytes + 2 ≤ 4096 }
-    ensures text { line.new ≡ record line.old { bytes = line.old.bytes ++ mark_before first (Some level) } }
-    ensures short { length line.new.bytes ≤ length line.old.bytes + 2 }
+pub fn push_lead<'c>(line: Line<'c>, level: Slot, first: bool) -> Line<'c>
+    requires { length line.bytes + 2 ≤ 4096 }
+    ensures text { result ≡ record line.entry { bytes = line.entry.bytes ++ mark_before first (Some level) } }
+    ensures short { length result.bytes ≤ length line.entry.bytes + 2 }
 {
     match level {
         Slot::Values(_, _, _) => line.push(b": "),
-        Slot::Value(_, _) => {}
+        Slot::Value(_, _) => line,
         Slot::Fields(_) | Slot::Elements(_, _) | Slot::Keys(_, _, _) => push_comma(line, first),
     }
 }
 
 #[inline(always)]
 #[tactic(auto, unfolding(crate::specs::Line::comma), using(crate::proofs::Told::same_line))]
-fn push_comma(line: &mut Line, first: bool)
-    requires { length line.old.bytes + 2 ≤ 4096 }
-    ensures text { line.new ≡ record line.old { bytes = line.old.bytes ++ comma first } }
-    ensures short { length line.new.bytes ≤ length line.old.bytes + 2 }
+fn push_comma<'c>(line: Line<'c>, first: bool) -> Line<'c>
+    requires { length line.bytes + 2 ≤ 4096 }
+    ensures text { result ≡ record line.entry { bytes = line.entry.bytes ++ comma first } }
+    ensures short { length result.bytes ≤ length line.entry.bytes + 2 }
 {
-    if first {
-        return;
-    }
-    line.push(b", ");
+    if first { line } else { line.push(b", ") }
 }
 
 /// What closes a container.

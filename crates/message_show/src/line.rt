@@ -8,38 +8,40 @@ use gate_io::{Sink, Wrote, write_all};
 use std::marker::Model;
 
 /// How many bytes may wait.
-const ROOM: usize = 4096;
+pub const ROOM: usize = 4096;
 
 /// At least so many bytes of room are made for an event.
 pub const SPARE: usize = 128;
 
-/// What waits of a line. Once a write has failed nothing more is written.
+/// What waits of a line, in a place that is lent to it. Once a write has failed nothing more is written.
+///
+/// It goes from call to call by value, so that how much waits need not be looked up in memory for each piece.
 #[derive(Drop)]
-pub struct Line {
-    cells: [u8; ROOM],
+pub struct Line<'c> {
+    cells: &'c mut [u8; ROOM],
     len: usize,
     broken: bool,
 }
 
 /// Clauses see the bytes that wait and whether a write has failed.
-impl Model for Line {
+impl<'c> Model for Line<'c> {
     ghost use Rattle.std.specs.Prelude.{◌≤◌, take};
     ghost use Rattle.message_show.specs.Pieces.{Waiting};
 
     ghost Value = { Waiting };
 
-    ghost view = { λ l. record { bytes = take l.len l.cells; broken = l.broken } };
+    ghost view = { λ l. record { bytes = take l.len l.cells.now; broken = l.broken } };
 
     ghost invariant = { λ l. l.len ≤ 4096 };
 }
 
-impl Line {
+impl<'c> Line<'c> {
     /// Nothing waits.
-    pub fn new() -> Line
+    pub fn over(cells: &'c mut [u8; ROOM]) -> Line<'c>
         ensures { result ≡ record { bytes = []; broken = false } }
     {
         Line {
-            cells: [0; ROOM],
+            cells,
             len: 0,
             broken: false,
         }
@@ -47,34 +49,39 @@ impl Line {
 
     /// Appends bytes, for which there must be room.
     #[inline(always)]
-    pub fn push(&mut self, piece: &[u8])
-        requires { length self.old.bytes + length piece.now ≤ 4096 }
-        ensures { self.new ≡ record self.old { bytes = self.old.bytes ++ piece.now } }
+    pub fn push(mut self, piece: &[u8]) -> Line<'c>
+        requires { length self.bytes + length piece.now ≤ 4096 }
+        ensures { result ≡ record self.entry { bytes = self.entry.bytes ++ piece.now } }
     {
-        append(&mut self.cells, self.len, piece);
+        let at = self.len;
+        append(self.cells, at, piece);
         self.len += piece.len();
+        self
     }
 
     /// Appends one byte, for which there must be room.
     #[inline(always)]
-    pub fn push_byte(&mut self, byte: u8)
-        requires { length self.old.bytes + 1 ≤ 4096 }
-        ensures { self.new ≡ record self.old { bytes = self.old.bytes ++ byte ∷ [] } }
+    pub fn push_byte(mut self, byte: u8) -> Line<'c>
+        requires { length self.bytes + 1 ≤ 4096 }
+        ensures { result ≡ record self.entry { bytes = self.entry.bytes ++ byte ∷ [] } }
     {
-        append_byte(&mut self.cells, self.len, byte);
+        let at = self.len;
+        append_byte(self.cells, at, byte);
         self.len += 1;
+        self
     }
 
     /// Appends a digit, a colon and a name, for which there must be room.
     #[inline(always)]
-    pub fn push_named(&mut self, digit: u8, name: &[u8])
-        requires { length self.old.bytes + (length name.now + 2) ≤ 4096 }
-        ensures { self.new ≡ record self.old { bytes = self.old.bytes ++ digit ∷ 58 ∷ name.now } }
+    pub fn push_named(mut self, digit: u8, name: &[u8]) -> Line<'c>
+        requires { length self.bytes + (length name.now + 2) ≤ 4096 }
+        ensures { result ≡ record self.entry { bytes = self.entry.bytes ++ digit ∷ 58 ∷ name.now } }
     {
         let at = self.len;
-        append(&mut self.cells, at, &[digit, b':']);
-        append(&mut self.cells, at + 2, name);
+        append(self.cells, at, &[digit, b':']);
+        append(self.cells, at + 2, name);
         self.len = at + 2 + name.len();
+        self
     }
 
     /// Whether so many bytes fit, however they are printed, and four more.
@@ -87,80 +94,88 @@ impl Line {
 
     /// Appends bytes, each as it is printed, for which there must be room.
     #[inline(always)]
-    pub fn push_printed(&mut self, bytes: &[u8])
-        requires { length self.old.bytes + 4 * length bytes.now ≤ 4096 }
-        ensures printed { self.new ≡ record self.old { bytes = self.old.bytes ++ flat_map byte_text bytes.now } }
-        ensures short { length self.new.bytes ≤ length self.old.bytes + 4 * length bytes.now }
+    pub fn push_printed(mut self, bytes: &[u8]) -> Line<'c>
+        requires { length self.bytes + 4 * length bytes.now ≤ 4096 }
+        ensures printed { result ≡ record self.entry { bytes = self.entry.bytes ++ flat_map byte_text bytes.now } }
+        ensures short { length result.bytes ≤ length self.entry.bytes + 4 * length bytes.now }
     {
-        self.len = print_all(&mut self.cells, self.len, bytes);
+        let at = self.len;
+        self.len = print_all(self.cells, at, bytes);
+        self
     }
 
     /// Makes room for the texts of an event.
     #[inline(always)]
-    pub fn make_room<O: Sink>(&mut self, out: &mut O)
-        ensures room { length self.new.bytes + SPARE ≤ 4096 }
-        ensures told { Tells (output (O.written out.old) (O.faults out.old)) self.old (output (O.written out.new) (O.faults out.new)) self.new [] }
+    pub fn make_room<O: Sink>(self, out: &mut O) -> Line<'c>
+        ensures room { length result.bytes + SPARE ≤ 4096 }
+        ensures told { Tells (output (O.written out.old) (O.faults out.old)) self.entry (output (O.written out.new) (O.faults out.new)) result [] }
     {
         if ROOM - self.len >= SPARE {
-            return;
+            return self;
         }
-        self.flush(out);
+        self.flush(out)
     }
 
     /// Appends bytes of any number.
     #[inline(always)]
-    pub fn put<O: Sink>(&mut self, piece: &[u8], out: &mut O)
-        ensures told { Tells (output (O.written out.old) (O.faults out.old)) self.old (output (O.written out.new) (O.faults out.new)) self.new piece.now }
+    pub fn put<O: Sink>(self, piece: &[u8], out: &mut O) -> Line<'c>
+        ensures told { Tells (output (O.written out.old) (O.faults out.old)) self.entry (output (O.written out.new) (O.faults out.new)) result piece.now }
     {
         if piece.len() <= ROOM - self.len {
-            self.push(piece);
+            self.push(piece)
         } else {
-            self.put_long(piece, out);
+            self.put_long(piece, out)
         }
     }
 
     #[inline(never)]
-    fn put_long<O: Sink>(&mut self, piece: &[u8], out: &mut O)
-        ensures told { Tells (output (O.written out.old) (O.faults out.old)) self.old (output (O.written out.new) (O.faults out.new)) self.new piece.now }
+    fn put_long<O: Sink>(self, piece: &[u8], out: &mut O) -> Line<'c>
+        ensures told { Tells (output (O.written out.old) (O.faults out.old)) self.entry (output (O.written out.new) (O.faults out.new)) result piece.now }
     {
-        self.flush(out);
+        let line = self.flush(out);
         if piece.len() <= ROOM {
-            self.push(piece);
+            line.push(piece)
         } else {
-            self.pass(piece, out);
+            line.pass(piece, out)
         }
     }
 
     /// Writes what waits.
     #[inline(never)]
-    pub fn flush<O: Sink>(&mut self, out: &mut O)
-        ensures empty { self.new.bytes ≡ [] }
-        ensures told { Tells (output (O.written out.old) (O.faults out.old)) self.old (output (O.written out.new) (O.faults out.new)) self.new [] }
+    pub fn flush<O: Sink>(self, out: &mut O) -> Line<'c>
+        ensures empty { result.bytes ≡ [] }
+        ensures told { Tells (output (O.written out.old) (O.faults out.old)) self.entry (output (O.written out.new) (O.faults out.new)) result [] }
     {
         if self.broken {
-            self.len = 0;
-            return;
+            return self.emptied(true);
         }
         match write_all(out, &self.cells[..self.len]) {
-            Wrote::All => self.len = 0,
-            Wrote::Failed => {
-                self.broken = true;
-                self.len = 0;
-            }
+            Wrote::All => self.emptied(false),
+            Wrote::Failed => self.emptied(true),
         }
     }
 
+    /// Nothing waits, and a write has failed or none has.
+    #[inline(always)]
+    fn emptied(mut self, broken: bool) -> Line<'c>
+        ensures { result ≡ record { bytes = []; broken = broken } }
+    {
+        self.len = 0;
+        self.broken = broken;
+        self
+    }
+
     /// Writes bytes before which none wait.
-    fn pass<O: Sink>(&mut self, piece: &[u8], out: &mut O)
-        requires { self.old.bytes ≡ [] }
-        ensures told { Tells (output (O.written out.old) (O.faults out.old)) self.old (output (O.written out.new) (O.faults out.new)) self.new piece.now }
+    fn pass<O: Sink>(self, piece: &[u8], out: &mut O) -> Line<'c>
+        requires { self.bytes ≡ [] }
+        ensures told { Tells (output (O.written out.old) (O.faults out.old)) self.entry (output (O.written out.new) (O.faults out.new)) result piece.now }
     {
         if self.broken {
-            return;
+            return self;
         }
         match write_all(out, piece) {
-            Wrote::All => {}
-            Wrote::Failed => self.broken = true,
+            Wrote::All => self,
+            Wrote::Failed => self.emptied(true),
         }
     }
 

@@ -5,7 +5,7 @@ ghost use Rattle.message_show.specs.Pieces.{Output, Told, output as output_of};
 ghost use Rattle.message_show.specs.Shown.{shown, IsService, IsShown, IsLeft, IsChecked, IsLine, IsWritten, HasLine};
 
 use crate::checking::{Checked, check, check_blind};
-use crate::line::Line;
+use crate::line::{Line, ROOM};
 use crate::nowhere::Nowhere;
 use crate::telling::tell;
 use binary_protocol::BinaryRead;
@@ -75,12 +75,14 @@ fn show_once<O: Sink>(
     ensures later { O.faults output.old ≤ O.faults output.new }
     ensures cause { result ≡ Shown.WriteFault → Rose (O.faults output.old) (O.faults output.new) }
 {
-    let mut line = Line::new();
+    let mut cells = [0; ROOM];
     let mut nowhere = Nowhere::new();
-    match tell_frame(schema, service, from, frame, room, &mut line, &mut nowhere) {
+    let line = Line::over(&mut cells);
+    let (line, found) = tell_frame(schema, service, from, frame, room, line, &mut nowhere);
+    match found {
         Checked::Message => {
             if line.is_whole() {
-                return end(&mut line, output);
+                return end(line, output);
             }
             show_long(schema, service, from, frame, room, output)
         }
@@ -131,18 +133,18 @@ fn show_long<O: Sink>(
     ensures later { O.faults output.old ≤ O.faults output.new }
     ensures cause { result ≡ Shown.WriteFault → Rose (O.faults output.old) (O.faults output.new) }
 {
-    let mut line = Line::new();
-    tell_frame(schema, service, from, frame, room, &mut line, output);
-    end(&mut line, output)
+    let mut cells = [0; ROOM];
+    let line = Line::over(&mut cells);
+    let (line, _) = tell_frame(schema, service, from, frame, room, line, output);
+    end(line, output)
 }
 
 /// Writes what waits of a line.
-fn end<O: Sink>(line: &mut Line, output: &mut O) -> Shown
-    ensures { (front : Output) (text : List ℕ) → Told front (output_of (O.written output.old) (O.faults output.old)) line.old text
+fn end<O: Sink>(line: Line<'_>, output: &mut O) -> Shown
+    ensures { (front : Output) (text : List ℕ) → Told front (output_of (O.written output.old) (O.faults output.old)) line.entry text
         → IsWritten result front (output_of (O.written output.new) (O.faults output.new)) text }
 {
-    line.flush(output);
-    if line.is_whole() {
+    if line.flush(output).is_whole() {
         Shown::Passed
     } else {
         Shown::WriteFault
@@ -172,22 +174,22 @@ fn check_frame(
 
 /// Tells the line of a frame, and says whether the frame is a message.
 #[tactic(auto, unfolding(crate::specs::Shown::shown))]
-fn tell_frame<O: Sink>(
+fn tell_frame<'c, O: Sink>(
     schema: &Schema,
     service: Option<ServiceId>,
     from: Proto,
     frame: &[u8],
     room: &mut [u8],
-    line: &mut Line,
+    line: Line<'c>,
     output: &mut O,
-) -> Checked
+) -> (Line<'c>, Checked)
     requires service { IsService schema.now service }
     requires room { length frame.now ≤ length room.old }
     requires size { length frame.now < 2 ^ 31 }
-    ensures found { IsChecked result (shown schema.now service from frame.now) }
+    ensures found { IsChecked result.1 (shown schema.now service from frame.now) }
     ensures told { (front : Output) (text : List ℕ) → IsLine (shown schema.now service from frame.now) text
-        → Told front (output_of (O.written output.old) (O.faults output.old)) line.old []
-        → Told front (output_of (O.written output.new) (O.faults output.new)) line.new text }
+        → Told front (output_of (O.written output.old) (O.faults output.old)) line.entry []
+        → Told front (output_of (O.written output.new) (O.faults output.new)) result.0 text }
 {
     match from {
         Proto::Binary => tell::<BinaryRead, O>(schema, service, frame, room, line, output),

@@ -26,80 +26,72 @@ use type_tables::{Schema, ServiceId, StructId};
 use type_walk::Walk;
 
 /// Tells the line of a frame, and says whether the frame is a message.
-pub fn tell<'f, R: WireRead<'f>, O: Sink>(
+pub fn tell<'c, 'f, R: WireRead<'f>, O: Sink>(
     schema: &Schema,
     service: Option<ServiceId>,
     frame: &'f [u8],
     room: &'f mut [u8],
-    line: &mut Line,
+    line: Line<'c>,
     out: &mut O,
-) -> Checked
+) -> (Line<'c>, Checked)
     requires service { IsService schema.now service }
     requires room { length frame.now ≤ length room.old }
     requires size { length frame.now < 2 ^ 31 }
-    ensures found { IsChecked result (shown_by (source_of R.begun R.reads_head R.reads R.reads_end R.value_place R.ahead) (start_of schema.now (ByName service)) frame.now) }
+    ensures found { IsChecked result.1 (shown_by (source_of R.begun R.reads_head R.reads R.reads_end R.value_place R.ahead) (start_of schema.now (ByName service)) frame.now) }
     ensures told { (from : Output) (text : List ℕ)
         → IsLine (shown_by (source_of R.begun R.reads_head R.reads R.reads_end R.value_place R.ahead) (start_of schema.now (ByName service)) frame.now) text
-        → Told from (output (O.written out.old) (O.faults out.old)) line.old [] → Told from (output (O.written out.new) (O.faults out.new)) line.new text }
+        → Told from (output (O.written out.old) (O.faults out.old)) line.entry [] → Told from (output (O.written out.new) (O.faults out.new)) result.0 text }
 {
     let mut reader = R::over(frame, room);
-    let body = match reader.head() {
+    let (line, body) = match reader.head() {
         Ok(head) => {
-            tell_head(&head, line, out);
-            body_struct(schema, service, &head)
+            let body = body_struct(schema, service, &head);
+            (tell_head(&head, line, out), body)
         }
-        Err(fault) => return Checked::Unread(fault),
+        Err(fault) => return (line, Checked::Unread(fault)),
     };
-    let found = tell_body(schema, body, &mut reader, line, out);
-    line.make_room(out);
-    line.push(b"\n");
-    found
+    let (line, found) = tell_body(schema, body, &mut reader, line, out);
+    (line.make_room(out).push(b"\n"), found)
 }
 
 /// Tells a header and the body's parenthesis.
-fn tell_head<O: Sink>(head: &Head<'_>, line: &mut Line, out: &mut O)
-    ensures { Tells (output (O.written out.old) (O.faults out.old)) line.old (output (O.written out.new) (O.faults out.new)) line.new (head_text (header_of head.now)) }
+fn tell_head<'c, O: Sink>(head: &Head<'_>, line: Line<'c>, out: &mut O) -> Line<'c>
+    ensures { Tells (output (O.written out.old) (O.faults out.old)) line.entry (output (O.written out.new) (O.faults out.new)) result (head_text (header_of head.now)) }
 {
-    line.make_room(out);
-    push_type(line, head.mtype);
-    tell_string(head.name, line, out);
-    line.make_room(out);
-    push_sequence(line, head.seq);
+    let line = tell_string(head.name, push_type(line.make_room(out), head.mtype), out);
+    push_sequence(line.make_room(out), head.seq)
 }
 
 #[tactic(auto, unfolding(crate::specs::Line::type_text))]
-fn push_type(line: &mut Line, mtype: MessageType)
-    requires { length line.old.bytes + 20 ≤ 4096 }
-    ensures { line.new ≡ record line.old { bytes = line.old.bytes ++ type_text mtype } }
+fn push_type<'c>(line: Line<'c>, mtype: MessageType) -> Line<'c>
+    requires { length line.bytes + 20 ≤ 4096 }
+    ensures { result ≡ record line.entry { bytes = line.entry.bytes ++ type_text mtype } }
 {
-    line.push(type_word(mtype));
-    line.push(b" ");
+    line.push(type_word(mtype)).push(b" ")
 }
 
 #[tactic(auto, unfolding(crate::specs::Line::sequence_text))]
-fn push_sequence(line: &mut Line, seq: i32)
-    requires { length line.old.bytes + 50 ≤ 4096 }
-    ensures { line.new ≡ record line.old { bytes = line.old.bytes ++ sequence_text seq } }
+fn push_sequence<'c>(line: Line<'c>, seq: i32) -> Line<'c>
+    requires { length line.bytes + 50 ≤ 4096 }
+    ensures { result ≡ record line.entry { bytes = line.entry.bytes ++ sequence_text seq } }
 {
-    line.push(b" ");
-    push_number(line, seq);
-    line.push(b" (");
+    push_number(line.push(b" "), seq).push(b" (")
 }
 
 /// Tells a body of this struct, if any.
-fn tell_body<'f, R: WireRead<'f>, O: Sink>(
+fn tell_body<'c, 'f, R: WireRead<'f>, O: Sink>(
     schema: &Schema,
     body: Option<StructId>,
     reader: &mut R,
-    line: &mut Line,
+    line: Line<'c>,
     out: &mut O,
-) -> Checked
+) -> (Line<'c>, Checked)
     requires known { IfSome body (λ s. s.0 < length schema.now.structs) }
     requires begins { R.nest reader.old ≡ Fields (pos 0) ∷ [] }
-    ensures found { (told : List ℕ) → IsChecked result (after_body (source_of R.begun R.reads_head R.reads R.reads_end R.value_place R.ahead) (body_from (source_of R.begun R.reads_head R.reads R.reads_end R.value_place R.ahead) reader.old (start schema.now body) told)) }
+    ensures found { (told : List ℕ) → IsChecked result.1 (after_body (source_of R.begun R.reads_head R.reads R.reads_end R.value_place R.ahead) (body_from (source_of R.begun R.reads_head R.reads R.reads_end R.value_place R.ahead) reader.old (start schema.now body) told)) }
     ensures told { (from : Output) (text : List ℕ) (end : Going R Position Place)
         → body_from (source_of R.begun R.reads_head R.reads R.reads_end R.value_place R.ahead) reader.old (start schema.now body) text ≡ Ok end
-        → Told from (output (O.written out.old) (O.faults out.old)) line.old text → Told from (output (O.written out.new) (O.faults out.new)) line.new end.bytes }
+        → Told from (output (O.written out.old) (O.faults out.old)) line.entry text → Told from (output (O.written out.new) (O.faults out.new)) result.0 end.bytes }
 {
     if body.is_none() {
         let mut walk = Nameless::start(schema);
@@ -110,19 +102,19 @@ fn tell_body<'f, R: WireRead<'f>, O: Sink>(
 
 /// The same where the body's struct is declared. A walk is large, so only this function has one.
 #[inline(never)]
-fn tell_declared<'f, R: WireRead<'f>, O: Sink>(
+fn tell_declared<'c, 'f, R: WireRead<'f>, O: Sink>(
     schema: &Schema,
     body: Option<StructId>,
     reader: &mut R,
-    line: &mut Line,
+    line: Line<'c>,
     out: &mut O,
-) -> Checked
+) -> (Line<'c>, Checked)
     requires known { IfSome body (λ s. s.0 < length schema.now.structs) }
     requires begins { R.nest reader.old ≡ Fields (pos 0) ∷ [] }
-    ensures found { (told : List ℕ) → IsChecked result (after_body (source_of R.begun R.reads_head R.reads R.reads_end R.value_place R.ahead) (body_from (source_of R.begun R.reads_head R.reads R.reads_end R.value_place R.ahead) reader.old (start schema.now body) told)) }
+    ensures found { (told : List ℕ) → IsChecked result.1 (after_body (source_of R.begun R.reads_head R.reads R.reads_end R.value_place R.ahead) (body_from (source_of R.begun R.reads_head R.reads R.reads_end R.value_place R.ahead) reader.old (start schema.now body) told)) }
     ensures told { (from : Output) (text : List ℕ) (end : Going R Position Place)
         → body_from (source_of R.begun R.reads_head R.reads R.reads_end R.value_place R.ahead) reader.old (start schema.now body) text ≡ Ok end
-        → Told from (output (O.written out.old) (O.faults out.old)) line.old text → Told from (output (O.written out.new) (O.faults out.new)) line.new end.bytes }
+        → Told from (output (O.written out.old) (O.faults out.old)) line.entry text → Told from (output (O.written out.new) (O.faults out.new)) result.0 end.bytes }
 {
     let mut walk = Walk::start(schema, body);
     tell_by(reader, &mut walk, line, out)
@@ -130,90 +122,93 @@ fn tell_declared<'f, R: WireRead<'f>, O: Sink>(
 
 /// Tells a body, event by event. It is compiled into its callers, whose walk then lies where they keep it.
 #[inline(always)]
-fn tell_by<'f, R: WireRead<'f>, K: Announcing, O: Sink>(
+fn tell_by<'c, 'f, R: WireRead<'f>, K: Announcing, O: Sink>(
     reader: &mut R,
     walk: &mut K,
-    line: &mut Line,
+    line: Line<'c>,
     out: &mut O,
-) -> Checked
+) -> (Line<'c>, Checked)
     requires begins { R.nest reader.old ≡ Fields (pos 0) ∷ [] }
     requires walks { length (K.at walk.old).levels ≡ 1 }
-    ensures found { (told : List ℕ) → IsChecked result (after_body (source_of R.begun R.reads_head R.reads R.reads_end R.value_place R.ahead) (body_from (source_of R.begun R.reads_head R.reads R.reads_end R.value_place R.ahead) reader.old (K.at walk.old) told)) }
+    ensures found { (told : List ℕ) → IsChecked result.1 (after_body (source_of R.begun R.reads_head R.reads R.reads_end R.value_place R.ahead) (body_from (source_of R.begun R.reads_head R.reads R.reads_end R.value_place R.ahead) reader.old (K.at walk.old) told)) }
     ensures told { (from : Output) (text : List ℕ) (end : Going R Position Place)
         → body_from (source_of R.begun R.reads_head R.reads R.reads_end R.value_place R.ahead) reader.old (K.at walk.old) text ≡ Ok end
-        → Told from (output (O.written out.old) (O.faults out.old)) line.old text → Told from (output (O.written out.new) (O.faults out.new)) line.new end.bytes }
+        → Told from (output (O.written out.old) (O.faults out.old)) line.entry text → Told from (output (O.written out.new) (O.faults out.new)) result.0 end.bytes }
 {
+    let mut line = line;
     let mut first = true;
     'turns: while let Some(level) = reader.level() {
-        match turn_in(reader, walk, level, &mut first, line, out) {
+        let (told, turned) = turn_in(reader, walk, level, &mut first, line, out);
+        line = told;
+        match turned {
             Ok(()) => {}
-            Err(fault) => return Checked::Refused(by_fields(&fault)),
+            Err(fault) => return (line, Checked::Refused(by_fields(&fault))),
         }
     }
     match reader.finish() {
-        Ok(()) => Checked::Message,
-        Err(fault) => Checked::Refused(fault),
+        Ok(()) => (line, Checked::Message),
+        Err(fault) => (line, Checked::Refused(fault)),
     }
 }
 
 /// Tells the next event. In a struct the level's form is settled before it is read, so that reading is compiled for it.
 #[inline(always)]
-fn turn_in<'f, R: WireRead<'f>, K: Announcing, O: Sink>(
+fn turn_in<'c, 'f, R: WireRead<'f>, K: Announcing, O: Sink>(
     reader: &mut R,
     walk: &mut K,
     level: Slot,
     first: &mut bool,
-    line: &mut Line,
+    line: Line<'c>,
     out: &mut O,
-) -> Result<(), Fault>
+) -> (Line<'c>, Result<(), Fault>)
     requires level { first_of (R.nest reader.old) ≡ Some level }
     requires even { length (K.at walk.old).levels ≡ R.depth reader.old }
     requires shallow { length (K.at walk.old).levels ≤ 256 }
-    ensures turned { Turned (source_of R.begun R.reads_head R.reads R.reads_end R.value_place R.ahead) R.nest result
+    ensures turned { Turned (source_of R.begun R.reads_head R.reads R.reads_end R.value_place R.ahead) R.nest result.1
         (standing reader.old (K.at walk.old) first.old) (standing reader.new (K.at walk.new) first.new)
-        (output (O.written out.old) (O.faults out.old)) line.old (output (O.written out.new) (O.faults out.new)) line.new }
-    ensures even { IfOk result (λ u. length (K.at walk.new).levels ≡ R.depth reader.new) }
-    ensures shallow { IfOk result (λ u. length (K.at walk.new).levels ≤ 256) }
-    ensures falls { IfOk result (λ u. R.ahead reader.new < R.ahead reader.old) }
+        (output (O.written out.old) (O.faults out.old)) line.entry (output (O.written out.new) (O.faults out.new)) result.0 }
+    ensures even { IfOk result.1 (λ u. length (K.at walk.new).levels ≡ R.depth reader.new) }
+    ensures shallow { IfOk result.1 (λ u. length (K.at walk.new).levels ≤ 256) }
+    ensures falls { IfOk result.1 (λ u. R.ahead reader.new < R.ahead reader.old) }
 {
-    let turned = match level {
+    let (line, turned) = match level {
         Slot::Fields(last) => turn(reader, walk, Slot::Fields(last), first, line, out),
         Slot::Value(kind, id) => turn(reader, walk, Slot::Value(kind, id), first, line, out),
         level => turn(reader, walk, level, first, line, out),
     };
     match turned {
-        Ok(()) => Ok(()),
-        Err(fault) => Err(by_fields(&fault)),
+        Ok(()) => (line, Ok(())),
+        Err(fault) => (line, Err(by_fields(&fault))),
     }
 }
 
 /// Reads an event in this level and tells it.
 #[inline(always)]
-fn turn<'f, R: WireRead<'f>, K: Announcing, O: Sink>(
+fn turn<'c, 'f, R: WireRead<'f>, K: Announcing, O: Sink>(
     reader: &mut R,
     walk: &mut K,
     level: Slot,
     first: &mut bool,
-    line: &mut Line,
+    line: Line<'c>,
     out: &mut O,
-) -> Result<(), Fault>
+) -> (Line<'c>, Result<(), Fault>)
     requires level { first_of (R.nest reader.old) ≡ Some level }
     requires even { length (K.at walk.old).levels ≡ R.depth reader.old }
     requires shallow { length (K.at walk.old).levels ≤ 256 }
-    ensures turned { Turned (source_of R.begun R.reads_head R.reads R.reads_end R.value_place R.ahead) R.nest result
+    ensures turned { Turned (source_of R.begun R.reads_head R.reads R.reads_end R.value_place R.ahead) R.nest result.1
         (standing reader.old (K.at walk.old) first.old) (standing reader.new (K.at walk.new) first.new)
-        (output (O.written out.old) (O.faults out.old)) line.old (output (O.written out.new) (O.faults out.new)) line.new }
-    ensures even { IfOk result (λ u. length (K.at walk.new).levels ≡ R.depth reader.new) }
-    ensures shallow { IfOk result (λ u. length (K.at walk.new).levels ≤ 256) }
-    ensures falls { IfOk result (λ u. R.ahead reader.new < R.ahead reader.old) }
+        (output (O.written out.old) (O.faults out.old)) line.entry (output (O.written out.new) (O.faults out.new)) result.0 }
+    ensures even { IfOk result.1 (λ u. length (K.at walk.new).levels ≡ R.depth reader.new) }
+    ensures shallow { IfOk result.1 (λ u. length (K.at walk.new).levels ≤ 256) }
+    ensures falls { IfOk result.1 (λ u. R.ahead reader.new < R.ahead reader.old) }
 {
     match reader.next_in(level, walk.hint()) {
         Ok(event) => {
-            tell_event(walk, level, *first, &event, line, out);
+            let line = tell_event(walk, level, *first, &event, line, out);
             *first = opens(&event);
-            Ok(())
+            (line, Ok(()))
         }
-        Err(fault) => Err(by_fields(&fault)),
+        Err(fault) => (line, Err(by_fields(&fault))),
     }
 }
 

@@ -53,21 +53,13 @@ pub fn bool_word(value: bool) -> &'static [u8]
 
 /// Appends a number in digits.
 #[inline(always)]
-pub fn push_number<I: Integer>(line: &mut Line, number: I)
-    requires { length line.old.bytes + 40 ≤ 4096 }
-    ensures text { line.new ≡ record line.old { bytes = line.old.bytes ++ I.text number } }
-    ensures short { length line.new.bytes ≤ length line.old.bytes + 40 }
+pub fn push_number<'c, I: Integer>(line: Line<'c>, number: I) -> Line<'c>
+    requires { length line.bytes + 40 ≤ 4096 }
+    ensures text { result ≡ record line.entry { bytes = line.entry.bytes ++ I.text number } }
+    ensures short { length result.bytes ≤ length line.entry.bytes + 40 }
 {
     let mut digits = Buffer::new();
-    line.push(digits.format(number).as_bytes());
-}
-
-/// Whether a byte is printed as it is.
-#[inline(always)]
-pub fn is_plain(byte: u8) -> bool
-    ensures { result ≡ is_plain byte }
-{
-    32 <= byte && byte <= 126 && byte != b'"' && byte != b'\\'
+    line.push(digits.format(number).as_bytes())
 }
 
 /// Two digits of a byte, A to F for 10 to 15.
@@ -108,52 +100,54 @@ fn lower_digit(n: u8) -> u8
 
 /// Appends a double.
 #[tactic(auto, unfolding(crate::specs::Texts::double_text))]
-pub fn push_double(line: &mut Line, bytes: &[u8; 8])
-    requires { length line.old.bytes + 18 ≤ 4096 }
-    ensures { line.new ≡ record line.old { bytes = line.old.bytes ++ double_text bytes.now } }
+pub fn push_double<'c>(line: Line<'c>, bytes: &[u8; 8]) -> Line<'c>
+    requires { length line.bytes + 18 ≤ 4096 }
+    ensures { result ≡ record line.entry { bytes = line.entry.bytes ++ double_text bytes.now } }
 {
-    line.push(b"0x");
-    push_upper(line, bytes);
+    push_upper(line.push(b"0x"), bytes)
 }
 
-fn push_upper(line: &mut Line, bytes: &[u8])
-    requires { length line.old.bytes + 2 * length bytes.now ≤ 4096 }
-    ensures { line.new ≡ record line.old { bytes = line.old.bytes ++ flat_map upper_byte bytes.now } }
+fn push_upper<'c>(line: Line<'c>, bytes: &[u8]) -> Line<'c>
+    requires { length line.bytes + 2 * length bytes.now ≤ 4096 }
+    ensures { result ≡ record line.entry { bytes = line.entry.bytes ++ flat_map upper_byte bytes.now } }
 {
+    let mut line = line;
     for byte in bytes {
-        line.push(&upper_byte(*byte));
+        line = line.push(&upper_byte(*byte));
     }
+    line
 }
 
 /// Appends a uuid.
 #[tactic(auto, unfolding(crate::specs::Texts::uuid_text))]
-pub fn push_uuid(line: &mut Line, bytes: [u8; 16])
-    requires { length line.old.bytes + 36 ≤ 4096 }
-    ensures { line.new ≡ record line.old { bytes = line.old.bytes ++ uuid_text bytes } }
+pub fn push_uuid<'c>(line: Line<'c>, bytes: [u8; 16]) -> Line<'c>
+    requires { length line.bytes + 36 ≤ 4096 }
+    ensures { result ≡ record line.entry { bytes = line.entry.bytes ++ uuid_text bytes } }
 {
-    push_dashed(line, &bytes[..4]);
-    push_dashed(line, &bytes[4..6]);
-    push_dashed(line, &bytes[6..8]);
-    push_dashed(line, &bytes[8..10]);
-    push_lower(line, &bytes[10..]);
+    let line = push_dashed(line, &bytes[..4]);
+    let line = push_dashed(line, &bytes[4..6]);
+    let line = push_dashed(line, &bytes[6..8]);
+    let line = push_dashed(line, &bytes[8..10]);
+    push_lower(line, &bytes[10..])
 }
 
 #[tactic(auto, unfolding(crate::specs::Texts::dashed))]
-fn push_dashed(line: &mut Line, bytes: &[u8])
-    requires { length line.old.bytes + 2 * length bytes.now + 1 ≤ 4096 }
-    ensures text { line.new ≡ record line.old { bytes = line.old.bytes ++ dashed bytes.now } }
-    ensures short { length line.new.bytes ≡ length line.old.bytes + 2 * length bytes.now + 1 }
+fn push_dashed<'c>(line: Line<'c>, bytes: &[u8]) -> Line<'c>
+    requires { length line.bytes + 2 * length bytes.now + 1 ≤ 4096 }
+    ensures text { result ≡ record line.entry { bytes = line.entry.bytes ++ dashed bytes.now } }
+    ensures short { length result.bytes ≡ length line.entry.bytes + 2 * length bytes.now + 1 }
 {
-    push_lower(line, bytes);
-    line.push(b"-");
+    push_lower(line, bytes).push(b"-")
 }
 
-fn push_lower(line: &mut Line, bytes: &[u8])
-    requires { length line.old.bytes + 2 * length bytes.now ≤ 4096 }
-    ensures text { line.new ≡ record line.old { bytes = line.old.bytes ++ flat_map lower_byte bytes.now } }
-    ensures short { length line.new.bytes ≡ length line.old.bytes + 2 * length bytes.now }
+fn push_lower<'c>(line: Line<'c>, bytes: &[u8]) -> Line<'c>
+    requires { length line.bytes + 2 * length bytes.now ≤ 4096 }
+    ensures text { result ≡ record line.entry { bytes = line.entry.bytes ++ flat_map lower_byte bytes.now } }
+    ensures short { length result.bytes ≡ length line.entry.bytes + 2 * length bytes.now }
 {
+    let mut line = line;
     for byte in bytes {
-        line.push(&lower_byte(*byte));
+        line = line.push(&lower_byte(*byte));
     }
+    line
 }

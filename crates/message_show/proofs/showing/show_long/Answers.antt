@@ -9,7 +9,7 @@ returns-clause-exact g c =
     let sink = g.O.Sink in
     let front = output (sink.written c.args.output.now) (sink.faults c.args.output.now) in
     let has = has_text_of (shown c.args.schema.now c.args.service c.args.from c.args.frame.now) c.requires.message in
-    let told = c.tell_frame.ensures.told front has.0 has.1 (rw c.new-line.ensures (told_none front)) in
+    let told = c.tell_frame-line.ensures.told front has.0 has.1 (rw c.over-line.ensures (told_none front)) in
     let ends = c.end.ensures front has.0 told in
     rw has.1 ends.0
 
@@ -18,7 +18,7 @@ returns-clause-later g c =
     let sink = g.O.Sink in
     let front = output (sink.written c.args.output.now) (sink.faults c.args.output.now) in
     let has = has_text_of (shown c.args.schema.now c.args.service c.args.from c.args.frame.now) c.requires.message in
-    let told = c.tell_frame.ensures.told front has.0 has.1 (rw c.new-line.ensures (told_none front)) in
+    let told = c.tell_frame-line.ensures.told front has.0 has.1 (rw c.over-line.ensures (told_none front)) in
     let ends = c.end.ensures front has.0 told in
     ends.1
 
@@ -27,6 +27,6 @@ returns-clause-cause g c =
     let sink = g.O.Sink in
     let front = output (sink.written c.args.output.now) (sink.faults c.args.output.now) in
     let has = has_text_of (shown c.args.schema.now c.args.service c.args.from c.args.frame.now) c.requires.message in
-    let told = c.tell_frame.ensures.told front has.0 has.1 (rw c.new-line.ensures (told_none front)) in
+    let told = c.tell_frame-line.ensures.told front has.0 has.1 (rw c.over-line.ensures (told_none front)) in
     let ends = c.end.ensures front has.0 told in
     ends.2

@@ -10,12 +10,12 @@ returns-then-is_whole-clause-exact g c =
     let sink = g.O.Sink in
     let front = output (sink.written c.args.output.now) (sink.faults c.args.output.now) in
     let showing = shown c.args.schema.now c.args.service c.args.from c.args.frame.now in
-    let has = has_text showing c.in-Message.ensures.found in
+    let has = has_text showing (rw c.in-Message.is at c.tell_frame-line.ensures.found) in
     let start = output (Some []) c.new-nowhere.result.faults in
-    let line = c.tell_frame.new.line in
+    let line = c.tell_frame-line.result.0 in
     let free = is_whole line.broken c.if-is_whole.ensures in
-    let told = c.tell_frame.ensures.told start has.0 has.1 (rw c.new-line.ensures (told_none start)) in
-    let ends = c.end.ensures front has.0 (unsent c.new-nowhere.result.faults c.tell_frame.new.output.faults line has.0 free told front) in
+    let told = c.tell_frame-line.ensures.told start has.0 has.1 (rw c.over-line.ensures (told_none start)) in
+    let ends = c.end.ensures front has.0 (unsent c.new-nowhere.result.faults c.tell_frame-line.new.output.faults line has.0 free told front) in
     rw has.1 ends.0
 
 pub returns-then-is_whole-clause-left : goal.returns-then-is_whole-clause-left
@@ -23,25 +23,25 @@ returns-then-is_whole-clause-left g c =
     let sink = g.O.Sink in
     let front = output (sink.written c.args.output.now) (sink.faults c.args.output.now) in
     let showing = shown c.args.schema.now c.args.service c.args.from c.args.frame.now in
-    let has = has_text showing c.in-Message.ensures.found in
+    let has = has_text showing (rw c.in-Message.is at c.tell_frame-line.ensures.found) in
     let start = output (Some []) c.new-nowhere.result.faults in
-    let line = c.tell_frame.new.line in
+    let line = c.tell_frame-line.result.0 in
     let free = is_whole line.broken c.if-is_whole.ensures in
-    let told = c.tell_frame.ensures.told start has.0 has.1 (rw c.new-line.ensures (told_none start)) in
-    let ends = c.end.ensures front has.0 (unsent c.new-nowhere.result.faults c.tell_frame.new.output.faults line has.0 free told front) in
-    left_written c.end.result front.written (sink.written c.end.new.output) showing (has_line showing c.in-Message.ensures.found) (rw has.1 ends.0) c.args.output.now c.end.new.output
+    let told = c.tell_frame-line.ensures.told start has.0 has.1 (rw c.over-line.ensures (told_none start)) in
+    let ends = c.end.ensures front has.0 (unsent c.new-nowhere.result.faults c.tell_frame-line.new.output.faults line has.0 free told front) in
+    left_written c.end.result front.written (sink.written c.end.new.output) showing (has_line showing (rw c.in-Message.is at c.tell_frame-line.ensures.found)) (rw has.1 ends.0) c.args.output.now c.end.new.output
 
 pub returns-then-is_whole-clause-later : goal.returns-then-is_whole-clause-later
 returns-then-is_whole-clause-later g c =
     let sink = g.O.Sink in
     let front = output (sink.written c.args.output.now) (sink.faults c.args.output.now) in
     let showing = shown c.args.schema.now c.args.service c.args.from c.args.frame.now in
-    let has = has_text showing c.in-Message.ensures.found in
+    let has = has_text showing (rw c.in-Message.is at c.tell_frame-line.ensures.found) in
     let start = output (Some []) c.new-nowhere.result.faults in
-    let line = c.tell_frame.new.line in
+    let line = c.tell_frame-line.result.0 in
     let free = is_whole line.broken c.if-is_whole.ensures in
-    let told = c.tell_frame.ensures.told start has.0 has.1 (rw c.new-line.ensures (told_none start)) in
-    let ends = c.end.ensures front has.0 (unsent c.new-nowhere.result.faults c.tell_frame.new.output.faults line has.0 free told front) in
+    let told = c.tell_frame-line.ensures.told start has.0 has.1 (rw c.over-line.ensures (told_none start)) in
+    let ends = c.end.ensures front has.0 (unsent c.new-nowhere.result.faults c.tell_frame-line.new.output.faults line has.0 free told front) in
     ends.1
 
 pub returns-then-is_whole-clause-cause : goal.returns-then-is_whole-clause-cause
@@ -49,10 +49,10 @@ returns-then-is_whole-clause-cause g c =
     let sink = g.O.Sink in
     let front = output (sink.written c.args.output.now) (sink.faults c.args.output.now) in
     let showing = shown c.args.schema.now c.args.service c.args.from c.args.frame.now in
-    let has = has_text showing c.in-Message.ensures.found in
+    let has = has_text showing (rw c.in-Message.is at c.tell_frame-line.ensures.found) in
     let start = output (Some []) c.new-nowhere.result.faults in
-    let line = c.tell_frame.new.line in
+    let line = c.tell_frame-line.result.0 in
     let free = is_whole line.broken c.if-is_whole.ensures in
-    let told = c.tell_frame.ensures.told start has.0 has.1 (rw c.new-line.ensures (told_none start)) in
-    let ends = c.end.ensures front has.0 (unsent c.new-nowhere.result.faults c.tell_frame.new.output.faults line has.0 free told front) in
+    let told = c.tell_frame-line.ensures.told start has.0 has.1 (rw c.over-line.ensures (told_none start)) in
+    let ends = c.end.ensures front has.0 (unsent c.new-nowhere.result.faults c.tell_frame-line.new.output.faults line has.0 free told front) in
     ends.2

@@ -42,7 +42,7 @@ returns-clause-found g c =
     let e = rw c.over-reader.ensures at (step_ok (g.R.ReadRules.reads_head c.over-reader.result) header new c.in-Ok.ensures.answer c.head.follows.holds-at-none) in
     let begins : start c.args.schema.now c.body_struct-body.result ≡ first header = ap (start c.args.schema.now) c.body_struct-body.ensures.value in
     rw (shown_ok source first c.args.frame.now header new e)
-    (subst (λ (p : Position). IsChecked c.tell_body-found.result (after_body source (body_from source new p (head_text header)))) begins (c.tell_body-found.ensures.found (head_text header)))
+    (subst (λ (p : Position). IsChecked c.tell_body-line.result.1 (after_body source (body_from source new p (head_text header)))) begins (c.tell_body-line.ensures.found (head_text header)))
 
 pub returns-clause-told : goal.returns-clause-told
 unfolding start_of
@@ -55,12 +55,12 @@ returns-clause-told g c from text is h =
     let begins : start c.args.schema.now c.body_struct-body.result ≡ first header = ap (start c.args.schema.now) c.body_struct-body.ensures.value in
     let sink = g.O.Sink in
     let now = output (sink.written c.make_room.new.out) (sink.faults c.make_room.new.out) in
-    let line = c.push.new.self in
+    let line = c.push.result in
     let told = line_told source first c.args.frame.now header new from now line e (rw is tt)
     (λ end whole.
-    let body = c.tell_body-found.ensures.told from (head_text header) end (subst (λ (p : Position). body_from source new p (head_text header) ≡ Ok end) (sym begins) whole) (c.tell_head.ensures from [] h) in
+    let body = c.tell_body-line.ensures.told from (head_text header) end (subst (λ (p : Position). body_from source new p (head_text header) ≡ Ok end) (sym begins) whole) (c.tell_head.ensures from [] h) in
     let roomy = c.make_room.ensures.told from end.bytes body in
-    let closed = tells_behind now c.make_room.new.self (10 ∷ []) from (end.bytes ++ []) roomy in
+    let closed = tells_behind now c.make_room.result (10 ∷ []) from (end.bytes ++ []) roomy in
     let pushed : Told from now line ((end.bytes ++ []) ++ (10 ∷ [])) = rw c.push.ensures closed in
     subst (Told from now line) (ended end.bytes) pushed) in
     subst (Told from now line) (line_of_text told.0 text (sym told.1 ∙ is)) told.2

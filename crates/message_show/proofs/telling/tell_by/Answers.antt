@@ -21,7 +21,7 @@ pub turns-preserved : goal.turns-preserved
 turns-preserved g c =
     let start = place (g.K.Walking.at c.args.walk.now) begun in
     let inv = c.turns.invariant in
-    let turned = c.in-Ok.ensures.turned in
+    let turned = rw c.in-Ok.is at c.turn_in-told.ensures.turned in
     record {
       found = λ text.
           let told = inv.found text in
@@ -29,22 +29,22 @@ turns-preserved g c =
       told = λ from text end whole h.
           let told = inv.told from text end whole h in
           (told.0 ++ turned.0, sym (turned.1 start told.0) ∙ told.1, turned.2 from told.0 told.2);
-      even = c.in-Ok.ensures.even;
-      shallow = c.in-Ok.ensures.shallow;
+      even = rw c.in-Ok.is at c.turn_in-told.ensures.even;
+      shallow = rw c.in-Ok.is at c.turn_in-told.ensures.shallow;
     }
 
 pub returns-in-Err-clause-found : goal.returns-in-Err-clause-found
 returns-in-Err-clause-found g c text =
     let start = place (g.K.Walking.at c.args.walk.now) begun in
     let told = c.turns.invariant.found text in
-    let ended = sym told.1 ∙ c.in-Err.ensures.turned start told.0 in
+    let ended = sym told.1 ∙ (rw c.in-Err.is at c.turn_in-told.ensures.turned) start told.0 in
     rw ended c.by_fields.ensures
 
 pub returns-in-Err-clause-told : goal.returns-in-Err-clause-told
 returns-in-Err-clause-told g c from text end whole h =
     let start = place (g.K.Walking.at c.args.walk.now) begun in
     let told = c.turns.invariant.told from text end whole h in
-    let fault = c.in-Err.ensures.turned start told.0 in
+    let fault = (rw c.in-Err.is at c.turn_in-told.ensures.turned) start told.0 in
     absurd (cc (told.1, fault))
 
 pub returns-in-Ok-finish-clause-found : goal.returns-in-Ok-finish-clause-found

@@ -25,8 +25,8 @@ returns-in-Ok-clause-turned g c =
     subst (λ (r : Step _ Item). IfOk r (λ x. rules.nest x.1 ≡ levels_after x.0 (rules.nest c.args.reader.now))) step (rules.follows c.args.reader.now (typed.hint at)) in
     let open_is : 0 < length at.levels = omega (arith, c.requires.even, rules.counts c.args.reader.now, is_open (rules.nest c.args.reader.now) c.args.level c.requires.level) in (
       item_text at.schema (known_of at.levels) levels item,
-      λ begun told. rw (nest, c.tell_event.ensures.depth, c.tell_event.ensures.after, c.opens.ensures) (whole_step source typed (line_target begun) rules.pays (going c.args.reader.now at (place at levels) (length at.levels) None told) item new open_is step),
-      c.tell_event.ensures.told (rules.nest c.args.reader.now) c.requires.level,
+      λ begun told. rw (nest, c.tell_event-line.ensures.depth, c.tell_event-line.ensures.after, c.opens.ensures) (whole_step source typed (line_target begun) rules.pays (going c.args.reader.now at (place at levels) (length at.levels) None told) item new open_is step),
+      c.tell_event-line.ensures.told (rules.nest c.args.reader.now) c.requires.level,
     )
 
 pub returns-in-Ok-clause-even : goal.returns-in-Ok-clause-even
@@ -38,7 +38,7 @@ returns-in-Ok-clause-even g c =
     let step = step_ok (rules.reads c.args.reader.now (typed.hint at)) item new (rw (← c.hint.ensures) c.in-Ok.ensures.answer) (rw (← c.hint.ensures) c.next_in.follows.holds-at-none) in
     let depth : rules.depth new ≡ depth_after item (rules.depth c.args.reader.now) =
     subst (λ (r : Step _ Item). IfOk r (λ x. rules.depth x.1 ≡ depth_after x.0 (rules.depth c.args.reader.now))) step (rules.nests c.args.reader.now (typed.hint at)) in
-    c.tell_event.ensures.depth ∙ ap (depth_after item) c.requires.even ∙ sym depth
+    c.tell_event-line.ensures.depth ∙ ap (depth_after item) c.requires.even ∙ sym depth
 
 pub returns-in-Err-clause-turned : goal.returns-in-Err-clause-turned
 returns-in-Err-clause-turned g c begun told =

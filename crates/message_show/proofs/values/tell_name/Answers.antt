@@ -12,10 +12,10 @@ returns-in-Some g c =
     let new = output (sink.written c.put.new.out) (sink.faults c.put.new.out) in
     let name = field_name (option_copied c.args.field) in
     let same = ap (λ xs. 58 ∷ xs) c.as_slice.ensures ∙ some_name name c.in-Some.field.now.name (rw c.in-Some.is refl) in
-    let colon = tells_more old old c.args.line.now c.args.line.now c.push_byte.new.self [] (58 ∷ []) (tells_none old c.args.line.now) c.push_byte.ensures in
+    let colon = tells_more old old c.args.line c.args.line c.push_byte.result [] (58 ∷ []) (tells_none old c.args.line) c.push_byte.ensures in
     record {
-      told = tells_same old new c.args.line.now c.put.new.self (58 ∷ c.as_slice.result.now) (name_text name) same
-          (tells_then old old new c.args.line.now c.push_byte.new.self c.put.new.self (58 ∷ []) c.as_slice.result.now colon c.put.ensures.told);
+      told = tells_same old new c.args.line c.put.result (58 ∷ c.as_slice.result.now) (name_text name) same
+          (tells_then old old new c.args.line c.push_byte.result c.put.result (58 ∷ []) c.as_slice.result.now colon c.put.ensures.told);
     }
 
 pub returns-in-None : goal.returns-in-None
@@ -23,4 +23,4 @@ returns-in-None g c =
     let sink = g.O.Sink in
     let old = output (sink.written c.args.out.now) (sink.faults c.args.out.now) in
     let name = field_name (option_copied c.args.field) in
-    record { told = tells_same old old c.args.line.now c.args.line.now [] (name_text name) (no_name name (rw c.in-None.is refl)) (tells_none old c.args.line.now) }
+    record { told = tells_same old old c.args.line c.args.line [] (name_text name) (no_name name (rw c.in-None.is refl)) (tells_none old c.args.line) }
