@@ -36,24 +36,3 @@ pub read_whole : {S : Type 0} (source : Source S) (ended : Ended S Position Plac
     → (g : Going S Position Place) × (ended ≡ Ok g) × (after_body source ended ≡ Line (g.bytes ++ line_end))
 read_whole source (Ok g) has = (g, refl, line_of g.bytes (source.reads_end g.reader) has)
 read_whole source (Err f) has = absurd has
-
--- no item changes what is declared
-pub same_schema : (p : Position) (item : Item) → (after p item).schema ≡ p.schema
-same_schema p (field id kind) = refl
-same_schema p stop = refl
-same_schema p (bool_value b) = refl
-same_schema p (i8_value n) = refl
-same_schema p (i16_value n) = refl
-same_schema p (i32_value n) = refl
-same_schema p (i64_value n) = refl
-same_schema p (double_value bytes) = refl
-same_schema p (text bytes) = refl
-same_schema p (number_text bytes) = refl
-same_schema p (unknown_text bytes) = refl
-same_schema p struct_begin = refl
-same_schema p empty_map = refl
-same_schema p (map_begin key value size) = refl
-same_schema p (set_begin kind size) = refl
-same_schema p (list_begin kind size) = refl
-same_schema p end = refl
-same_schema p (uuid_value bytes) = refl

@@ -4,3 +4,4 @@ pub mod Line
 pub mod Pieces
 pub mod Shown
 pub mod Turns
+pub mod Inside

@@ -27,6 +27,6 @@ module _ {S : Type 0} (source : Source S) (nest : S → List Slot) where
   Leads before after text = (begun : Place) (told : List ℕ) → rest_from begun before told ≡ rest_from begun after (told ++ text)
 
   -- items were read and told, or a fault stands in the next
-  abbrev pub Turned : Result (Unit {0}) Fault → Standing S → Standing S → Output → Waiting → Output → Waiting → Type 0
-  Turned (Ok u) before after old line new behind = (text : List ℕ) × Leads before after text × Tells old line new behind text
+  abbrev pub Turned : {X : Type 0} → Result X Fault → Standing S → (X → Standing S) → Output → Waiting → Output → Waiting → Type 0
+  Turned (Ok x) before after old line new behind = (text : List ℕ) × Leads before (after x) text × Tells old line new behind text
   Turned (Err f) before after old line new behind = (begun : Place) (told : List ℕ) → rest_from begun before told ≡ Err f

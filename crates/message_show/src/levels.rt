@@ -1,11 +1,9 @@
 //! What stands before an item in its level, and what closes the level.
 ghost use Rattle.std.specs.Prelude.{◌≡◌, ◌+◌, ◌≤◌, ◌++◌, ◌∷◌, [], Some, length};
-ghost use Rattle.thrift_value.specs.Items.{item_of};
-ghost use Rattle.message_show.specs.Line.{opens, comma, mark_before, closing};
+ghost use Rattle.message_show.specs.Line.{comma, mark_before, closing};
 
 use crate::line::Line;
 use protocol_traits::Slot;
-use thrift_value::Event;
 
 /// Appends what stands before a field, an element, a key or a value: the first of its level has no comma.
 #[inline(always)]
@@ -42,18 +40,4 @@ pub fn closing(level: Slot) -> u8
         Slot::Keys(_, _, _) => b'}',
         Slot::Fields(_) | Slot::Value(_, _) | Slot::Elements(_, _) | Slot::Values(_, _, _) => b']',
     }
-}
-
-/// Whether an event begins a level, in which the next item is the first.
-#[inline(always)]
-pub fn opens(event: &Event<'_>) -> bool
-    ensures { result ≡ opens (item_of event.now) }
-{
-    matches!(
-        *event,
-        Event::StructBegin
-            | Event::MapBegin(_, _, _)
-            | Event::SetBegin(_, _)
-            | Event::ListBegin(_, _)
-    )
 }

@@ -8,6 +8,8 @@
 
 mod bodies;
 mod checking;
+mod events;
+mod here;
 mod levels;
 mod line;
 mod nowhere;

@@ -13,14 +13,31 @@ pub const ROOM: usize = 4096;
 /// At least so many bytes of room are made for an event.
 pub const SPARE: usize = 128;
 
+/// The place where a line waits, and whether a write has failed.
+#[derive(Drop)]
+pub struct Cells {
+    bytes: [u8; ROOM],
+    broken: bool,
+}
+
+impl Cells {
+    /// A place for a line.
+    pub fn new() -> Cells {
+        Cells {
+            bytes: [0; ROOM],
+            broken: false,
+        }
+    }
+}
+
 /// What waits of a line, in a place that is lent to it. Once a write has failed nothing more is written.
 ///
-/// It goes from call to call by value, so that how much waits need not be looked up in memory for each piece.
+/// It goes from call to call by value and is as large as two registers hold, so that how much waits need not be looked up in memory
+/// for each piece.
 #[derive(Drop)]
 pub struct Line<'c> {
-    cells: &'c mut [u8; ROOM],
+    cells: &'c mut Cells,
     len: usize,
-    broken: bool,
 }
 
 /// Clauses see the bytes that wait and whether a write has failed.
@@ -30,21 +47,18 @@ impl<'c> Model for Line<'c> {
 
     ghost Value = { Waiting };
 
-    ghost view = { λ l. record { bytes = take l.len l.cells.now; broken = l.broken } };
+    ghost view = { λ l. record { bytes = take l.len l.cells.now.bytes; broken = l.cells.now.broken } };
 
     ghost invariant = { λ l. l.len ≤ 4096 };
 }
 
 impl<'c> Line<'c> {
     /// Nothing waits.
-    pub fn over(cells: &'c mut [u8; ROOM]) -> Line<'c>
+    pub fn over(cells: &'c mut Cells) -> Line<'c>
         ensures { result ≡ record { bytes = []; broken = false } }
     {
-        Line {
-            cells,
-            len: 0,
-            broken: false,
-        }
+        cells.broken = false;
+        Line { cells, len: 0 }
     }
 
     /// Appends bytes, for which there must be room.
@@ -54,7 +68,7 @@ impl<'c> Line<'c> {
         ensures { result ≡ record self.entry { bytes = self.entry.bytes ++ piece.now } }
     {
         let at = self.len;
-        append(self.cells, at, piece);
+        append(&mut self.cells.bytes, at, piece);
         self.len += piece.len();
         self
     }
@@ -66,7 +80,7 @@ impl<'c> Line<'c> {
         ensures { result ≡ record self.entry { bytes = self.entry.bytes ++ byte ∷ [] } }
     {
         let at = self.len;
-        append_byte(self.cells, at, byte);
+        append_byte(&mut self.cells.bytes, at, byte);
         self.len += 1;
         self
     }
@@ -78,8 +92,8 @@ impl<'c> Line<'c> {
         ensures { result ≡ record self.entry { bytes = self.entry.bytes ++ digit ∷ 58 ∷ name.now } }
     {
         let at = self.len;
-        append(self.cells, at, &[digit, b':']);
-        append(self.cells, at + 2, name);
+        append(&mut self.cells.bytes, at, &[digit, b':']);
+        append(&mut self.cells.bytes, at + 2, name);
         self.len = at + 2 + name.len();
         self
     }
@@ -100,7 +114,7 @@ impl<'c> Line<'c> {
         ensures short { length result.bytes ≤ length self.entry.bytes + 4 * length bytes.now }
     {
         let at = self.len;
-        self.len = print_all(self.cells, at, bytes);
+        self.len = print_all(&mut self.cells.bytes, at, bytes);
         self
     }
 
@@ -146,10 +160,10 @@ impl<'c> Line<'c> {
         ensures empty { result.bytes ≡ [] }
         ensures told { Tells (output (O.written out.old) (O.faults out.old)) self.entry (output (O.written out.new) (O.faults out.new)) result [] }
     {
-        if self.broken {
+        if self.cells.broken {
             return self.emptied(true);
         }
-        match write_all(out, &self.cells[..self.len]) {
+        match write_all(out, &self.cells.bytes[..self.len]) {
             Wrote::All => self.emptied(false),
             Wrote::Failed => self.emptied(true),
         }
@@ -161,7 +175,7 @@ impl<'c> Line<'c> {
         ensures { result ≡ record { bytes = []; broken = broken } }
     {
         self.len = 0;
-        self.broken = broken;
+        self.cells.broken = broken;
         self
     }
 
@@ -170,7 +184,7 @@ impl<'c> Line<'c> {
         requires { self.bytes ≡ [] }
         ensures told { Tells (output (O.written out.old) (O.faults out.old)) self.entry (output (O.written out.new) (O.faults out.new)) result piece.now }
     {
-        if self.broken {
+        if self.cells.broken {
             return self;
         }
         match write_all(out, piece) {
@@ -183,7 +197,7 @@ impl<'c> Line<'c> {
     pub fn is_whole(&self) -> bool
         ensures { result ≡ not self.now.broken }
     {
-        !self.broken
+        !self.cells.broken
     }
 }
 

@@ -5,7 +5,7 @@ ghost use Rattle.message_show.specs.Pieces.{Output, Told, output as output_of};
 ghost use Rattle.message_show.specs.Shown.{shown, IsService, IsShown, IsLeft, IsChecked, IsLine, IsWritten, HasLine};
 
 use crate::checking::{Checked, check, check_blind};
-use crate::line::{Line, ROOM};
+use crate::line::{Cells, Line};
 use crate::nowhere::Nowhere;
 use crate::telling::tell;
 use binary_protocol::BinaryRead;
@@ -75,7 +75,7 @@ fn show_once<O: Sink>(
     ensures later { O.faults output.old ≤ O.faults output.new }
     ensures cause { result ≡ Shown.WriteFault → Rose (O.faults output.old) (O.faults output.new) }
 {
-    let mut cells = [0; ROOM];
+    let mut cells = Cells::new();
     let mut nowhere = Nowhere::new();
     let line = Line::over(&mut cells);
     let (line, found) = tell_frame(schema, service, from, frame, room, line, &mut nowhere);
@@ -133,7 +133,7 @@ fn show_long<O: Sink>(
     ensures later { O.faults output.old ≤ O.faults output.new }
     ensures cause { result ≡ Shown.WriteFault → Rose (O.faults output.old) (O.faults output.new) }
 {
-    let mut cells = [0; ROOM];
+    let mut cells = Cells::new();
     let line = Line::over(&mut cells);
     let (line, _) = tell_frame(schema, service, from, frame, room, line, output);
     end(line, output)

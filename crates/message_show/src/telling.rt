@@ -1,32 +1,37 @@
 //! A pass through a frame: its line, or the fault that stands in it.
-ghost use Rattle.std.specs.Prelude.{◌≡◌, ◌≤◌, ◌<◌, ◌^◌, ◌+◌, ◌++◌, ◌∷◌, [], ℕ, pos, List, IfSome, Some, IfOk, Ok, length};
+ghost use Rattle.std.specs.Prelude.{◌≡◌, ◌≤◌, ◌<◌, ◌^◌, ◌+◌, ◌++◌, ◌∷◌, [], ℕ, suc, pos, true, false, List, IfSome, Some, IfOk, Ok, length};
 ghost use Rattle.gate_io.specs.Causes.{Rose};
 ghost use Rattle.protocol_traits.specs.declared.nest.Slot.TheVariants.{Fields};
 ghost use Rattle.protocol_traits.specs.Heads.{header_of};
-ghost use Rattle.type_walk.specs.Positions.{Position, start};
+ghost use Rattle.type_tables.specs.Declarations.{Declarations};
+ghost use Rattle.type_walk.specs.declared.levels.Level.{Level};
+ghost use Rattle.type_walk.specs.Known.{IsKnownLevel};
+ghost use Rattle.type_walk.specs.Positions.{Position, start, struct_level, standing as open_at};
 ghost use Rattle.translate_core.specs.Body.{Going, source_of};
 ghost use Rattle.translate_core.specs.Routes.{start_of};
 ghost use Rattle.translate_core.specs.declared.route.Route.TheVariants.{ByName};
+ghost use Rattle.message_show.specs.Inside.{IsSound, IsSpent, at, behind, begins, depth_behind};
 ghost use Rattle.message_show.specs.Line.{type_text, sequence_text, head_text, line_end};
 ghost use Rattle.message_show.specs.Pieces.{Output, Told, Tells, output};
-ghost use Rattle.protocol_traits.specs.Stack.{first_of};
 ghost use Rattle.message_show.specs.Turns.{Turned, standing};
 ghost use Rattle.message_show.specs.Shown.{Place, shown_by, body_from, after_body, IsService, IsChecked, IsLine};
 
-use crate::bodies::{Announcing, Nameless, body_struct};
+use crate::bodies::body_struct;
 use crate::checking::Checked;
-use crate::levels::opens;
+use crate::events::Events;
+use crate::here::{Here, Turn};
+use crate::levels::{closing, push_lead};
 use crate::line::Line;
 use crate::texts::{push_number, type_word};
-use crate::values::{tell_event, tell_string};
+use crate::values::{push_list, push_map, tell_field, tell_string, tell_value};
 use gate_io::Sink;
 use protocol_traits::{Fault, Head, Slot, WireRead};
-use thrift_value::MessageType;
+use thrift_value::{Event, MessageType};
 use type_tables::{Schema, ServiceId, StructId};
-use type_walk::Walk;
+use type_walk::{Level, hint_at, in_list, in_map, in_set, in_struct};
 
 /// Tells the line of a frame, and says whether the frame is a message.
-pub fn tell<'c, 'f, R: WireRead<'f>, O: Sink>(
+pub fn tell<'c, 'f, R: WireRead<'f> + Events, O: Sink>(
     schema: &Schema,
     service: Option<ServiceId>,
     frame: &'f [u8],
@@ -78,8 +83,8 @@ fn push_sequence<'c>(line: Line<'c>, seq: i32) -> Line<'c>
     push_number(line.push(b" "), seq).push(b" (")
 }
 
-/// Tells a body of this struct, if any.
-fn tell_body<'c, 'f, R: WireRead<'f>, O: Sink>(
+/// Tells a body of this struct, if any, and says how the message ends.
+fn tell_body<'c, 'f, R: WireRead<'f> + Events, O: Sink>(
     schema: &Schema,
     body: Option<StructId>,
     reader: &mut R,
@@ -93,57 +98,10 @@ fn tell_body<'c, 'f, R: WireRead<'f>, O: Sink>(
         → body_from (source_of R.begun R.reads_head R.reads R.reads_end R.value_place R.ahead) reader.old (start schema.now body) text ≡ Ok end
         → Told from (output (O.written out.old) (O.faults out.old)) line.entry text → Told from (output (O.written out.new) (O.faults out.new)) result.0 end.bytes }
 {
-    if body.is_none() {
-        let mut walk = Nameless::start(schema);
-        return tell_by(reader, &mut walk, line, out);
-    }
-    tell_declared(schema, body, reader, line, out)
-}
-
-/// The same where the body's struct is declared. A walk is large, so only this function has one.
-#[inline(never)]
-fn tell_declared<'c, 'f, R: WireRead<'f>, O: Sink>(
-    schema: &Schema,
-    body: Option<StructId>,
-    reader: &mut R,
-    line: Line<'c>,
-    out: &mut O,
-) -> (Line<'c>, Checked)
-    requires known { IfSome body (λ s. s.0 < length schema.now.structs) }
-    requires begins { R.nest reader.old ≡ Fields (pos 0) ∷ [] }
-    ensures found { (told : List ℕ) → IsChecked result.1 (after_body (source_of R.begun R.reads_head R.reads R.reads_end R.value_place R.ahead) (body_from (source_of R.begun R.reads_head R.reads R.reads_end R.value_place R.ahead) reader.old (start schema.now body) told)) }
-    ensures told { (from : Output) (text : List ℕ) (end : Going R Position Place)
-        → body_from (source_of R.begun R.reads_head R.reads R.reads_end R.value_place R.ahead) reader.old (start schema.now body) text ≡ Ok end
-        → Told from (output (O.written out.old) (O.faults out.old)) line.entry text → Told from (output (O.written out.new) (O.faults out.new)) result.0 end.bytes }
-{
-    let mut walk = Walk::start(schema, body);
-    tell_by(reader, &mut walk, line, out)
-}
-
-/// Tells a body, event by event. It is compiled into its callers, whose walk then lies where they keep it.
-#[inline(always)]
-fn tell_by<'c, 'f, R: WireRead<'f>, K: Announcing, O: Sink>(
-    reader: &mut R,
-    walk: &mut K,
-    line: Line<'c>,
-    out: &mut O,
-) -> (Line<'c>, Checked)
-    requires begins { R.nest reader.old ≡ Fields (pos 0) ∷ [] }
-    requires walks { length (K.at walk.old).levels ≡ 1 }
-    ensures found { (told : List ℕ) → IsChecked result.1 (after_body (source_of R.begun R.reads_head R.reads R.reads_end R.value_place R.ahead) (body_from (source_of R.begun R.reads_head R.reads R.reads_end R.value_place R.ahead) reader.old (K.at walk.old) told)) }
-    ensures told { (from : Output) (text : List ℕ) (end : Going R Position Place)
-        → body_from (source_of R.begun R.reads_head R.reads R.reads_end R.value_place R.ahead) reader.old (K.at walk.old) text ≡ Ok end
-        → Told from (output (O.written out.old) (O.faults out.old)) line.entry text → Told from (output (O.written out.new) (O.faults out.new)) result.0 end.bytes }
-{
-    let mut line = line;
-    let mut first = true;
-    'turns: while let Some(level) = reader.level() {
-        let (told, turned) = turn_in(reader, walk, level, &mut first, line, out);
-        line = told;
-        match turned {
-            Ok(()) => {}
-            Err(fault) => return (line, Checked::Refused(by_fields(&fault))),
-        }
+    let (line, told) = tell_level(reader, schema, body_level(body), line, out);
+    match told {
+        Ok(()) => {}
+        Err(fault) => return (line, Checked::Refused(by_fields(&fault))),
     }
     match reader.finish() {
         Ok(()) => (line, Checked::Message),
@@ -151,63 +109,122 @@ fn tell_by<'c, 'f, R: WireRead<'f>, K: Announcing, O: Sink>(
     }
 }
 
-/// Tells the next event. In a struct the level's form is settled before it is read, so that reading is compiled for it.
-#[inline(always)]
-fn turn_in<'c, 'f, R: WireRead<'f>, K: Announcing, O: Sink>(
-    reader: &mut R,
-    walk: &mut K,
-    level: Slot,
-    first: &mut bool,
-    line: Line<'c>,
-    out: &mut O,
-) -> (Line<'c>, Result<(), Fault>)
-    requires level { first_of (R.nest reader.old) ≡ Some level }
-    requires even { length (K.at walk.old).levels ≡ R.depth reader.old }
-    requires shallow { length (K.at walk.old).levels ≤ 256 }
-    ensures turned { Turned (source_of R.begun R.reads_head R.reads R.reads_end R.value_place R.ahead) R.nest result.1
-        (standing reader.old (K.at walk.old) first.old) (standing reader.new (K.at walk.new) first.new)
-        (output (O.written out.old) (O.faults out.old)) line.entry (output (O.written out.new) (O.faults out.new)) result.0 }
-    ensures even { IfOk result.1 (λ u. length (K.at walk.new).levels ≡ R.depth reader.new) }
-    ensures shallow { IfOk result.1 (λ u. length (K.at walk.new).levels ≤ 256) }
-    ensures falls { IfOk result.1 (λ u. R.ahead reader.new < R.ahead reader.old) }
+/// What is declared inside a body of this struct, if any.
+fn body_level(body: Option<StructId>) -> Level
+    ensures value { result ≡ struct_level body }
+    ensures known { (d : Declarations) → IfSome body (λ s. s.0 < length d.structs) → IsKnownLevel d result }
 {
-    let (line, turned) = match level {
-        Slot::Fields(last) => turn(reader, walk, Slot::Fields(last), first, line, out),
-        Slot::Value(kind, id) => turn(reader, walk, Slot::Value(kind, id), first, line, out),
-        level => turn(reader, walk, level, first, line, out),
-    };
-    match turned {
-        Ok(()) => (line, Ok(())),
-        Err(fault) => (line, Err(by_fields(&fault))),
+    match body {
+        Some(declared) => Level::Fields(declared),
+        None => Level::Unknown,
     }
 }
 
-/// Reads an event in this level and tells it.
-#[inline(always)]
-fn turn<'c, 'f, R: WireRead<'f>, K: Announcing, O: Sink>(
+/// Tells what stands in an open struct or container, of which this is declared, to its end. It calls itself for each struct and
+/// container that stands in this one, at most `DEPTH` deep, since a reader opens no more.
+fn tell_level<'c, R: Events, O: Sink>(
     reader: &mut R,
-    walk: &mut K,
-    level: Slot,
-    first: &mut bool,
+    schema: &Schema,
+    known: Level,
     line: Line<'c>,
     out: &mut O,
 ) -> (Line<'c>, Result<(), Fault>)
-    requires level { first_of (R.nest reader.old) ≡ Some level }
-    requires even { length (K.at walk.old).levels ≡ R.depth reader.old }
-    requires shallow { length (K.at walk.old).levels ≤ 256 }
-    ensures turned { Turned (source_of R.begun R.reads_head R.reads R.reads_end R.value_place R.ahead) R.nest result.1
-        (standing reader.old (K.at walk.old) first.old) (standing reader.new (K.at walk.new) first.new)
+    requires open { 0 < R.depth reader.old }
+    requires known { IsKnownLevel schema.now known }
+    ensures turned { (up : List Level) → R.depth reader.old ≡ suc (length up) → Turned (source_of R.begun R.reads_head R.reads R.reads_end R.value_place R.ahead) R.nest result.1
+        (standing reader.old (open_at schema.now (known ∷ up)) true) (λ u. standing reader.new (open_at schema.now up) false)
         (output (O.written out.old) (O.faults out.old)) line.entry (output (O.written out.new) (O.faults out.new)) result.0 }
-    ensures even { IfOk result.1 (λ u. length (K.at walk.new).levels ≡ R.depth reader.new) }
-    ensures shallow { IfOk result.1 (λ u. length (K.at walk.new).levels ≤ 256) }
+    ensures depth { IfOk result.1 (λ u. R.depth reader.old ≡ suc (R.depth reader.new)) }
     ensures falls { IfOk result.1 (λ u. R.ahead reader.new < R.ahead reader.old) }
 {
-    match reader.next_in(level, walk.hint()) {
-        Ok(event) => {
-            let line = tell_event(walk, level, *first, &event, line, out);
-            *first = opens(&event);
-            (line, Ok(()))
+    let mut here = Here::inside(known);
+    let mut line = line;
+    'turns: loop {
+        let (told, turned) = event(reader, schema, &mut here, line, out);
+        line = told;
+        match turned {
+            Ok(turn) => match turn {
+                Turn::Open => {}
+                Turn::Opened(inner) => {
+                    let (told, ended) = tell_level(reader, schema, inner, line, out);
+                    line = told;
+                    match ended {
+                        Ok(()) => {}
+                        Err(fault) => return (line, Err(by_fields(&fault))),
+                    }
+                }
+                Turn::Closed => return (line, Ok(())),
+            },
+            Err(fault) => return (line, Err(by_fields(&fault))),
         }
+    }
+}
+
+/// Reads the next event and tells it. It has one caller, into which it is compiled.
+#[inline(always)]
+fn event<'c, R: Events, O: Sink>(
+    reader: &mut R,
+    schema: &Schema,
+    here: &mut Here,
+    line: Line<'c>,
+    out: &mut O,
+) -> (Line<'c>, Result<Turn, Fault>)
+    requires open { 0 < R.depth reader.old }
+    requires sound { IsSound schema.now here.old }
+    ensures turned { (up : List Level) → R.depth reader.old ≡ suc (length up) → Turned (source_of R.begun R.reads_head R.reads R.reads_end R.value_place R.ahead) R.nest result.1
+        (standing reader.old (at schema.now here.old up) here.old.first) (λ turn. standing reader.new (behind schema.now turn here.new up) (begins turn here.new))
+        (output (O.written out.old) (O.faults out.old)) line.entry (output (O.written out.new) (O.faults out.new)) result.0 }
+    ensures depth { IfOk result.1 (λ turn. R.depth reader.new ≡ depth_behind turn (R.depth reader.old)) }
+    ensures sound { IfOk result.1 (λ turn. IsSound schema.now here.new) }
+    ensures spent { IfOk result.1 (λ turn. IsSpent schema.now turn here.new) }
+    ensures falls { IfOk result.1 (λ turn. R.ahead reader.new < R.ahead reader.old) }
+{
+    let Some(level) = reader.innermost() else {
+        unreachable!()
+    };
+    let line = line.make_room(out);
+    let first = here.first;
+    match reader.event_in(level, hint_at(here.next)) {
+        Ok(event) => match event {
+            Event::Field(id, kind) => {
+                let found = here.announce(schema, id, kind);
+                (
+                    tell_field(level, first, id, found, kind, line, out),
+                    Ok(Turn::Open),
+                )
+            }
+            Event::Stop => (line.push_byte(b')'), Ok(Turn::Closed)),
+            Event::End => (line.push_byte(closing(level)), Ok(Turn::Closed)),
+            Event::StructBegin => {
+                let inner = in_struct(here.next);
+                let line = push_lead(line, level, first).push_byte(b'(');
+                here.spend();
+                (line, Ok(Turn::Opened(inner)))
+            }
+            Event::MapBegin(key, value, _) => {
+                let inner = in_map(schema, here.next, key, value);
+                let line = push_map(push_lead(line, level, first), key, value);
+                here.spend();
+                (line, Ok(Turn::Opened(inner)))
+            }
+            Event::SetBegin(kind, _) => {
+                let inner = in_set(schema, here.next, kind);
+                let line = push_list(push_lead(line, level, first), kind);
+                here.spend();
+                (line, Ok(Turn::Opened(inner)))
+            }
+            Event::ListBegin(kind, _) => {
+                let inner = in_list(schema, here.next, kind);
+                let line = push_list(push_lead(line, level, first), kind);
+                here.spend();
+                (line, Ok(Turn::Opened(inner)))
+            }
+            _ => {
+                let line = tell_value(&event, push_lead(line, level, first), out);
+                here.spend();
+                (line, Ok(Turn::Open))
+            }
+        },
         Err(fault) => (line, Err(by_fields(&fault))),
     }
 }

@@ -4,69 +4,27 @@ ghost use Rattle.std.specs.Fmt.{signed_decimal};
 ghost use Rattle.thrift_value.specs.Items.{item_of};
 ghost use Rattle.protocol_traits.specs.declared.nest.Slot.{Slot};
 ghost use Rattle.protocol_traits.specs.Stack.{first_of};
-ghost use Rattle.protocol_traits.specs.Follow.{depth_after};
-ghost use Rattle.type_walk.specs.Stack.{first_of as known_of};
-ghost use Rattle.type_walk.specs.Positions.{after};
+ghost use Rattle.message_show.specs.Inside.{IsSound, Passes};
 ghost use Rattle.message_show.specs.Texts.{is_plain, upper_byte, byte_text, quoted};
 ghost use Rattle.message_show.specs.Line.{value_text, mark_before, closing, item_text, field_name, field_text, name_text, kind_text, map_text, list_text};
 ghost use Rattle.message_show.specs.Pieces.{Tells, output};
 
-use crate::bodies::Announcing;
+use crate::here::{Here, Turn};
 use crate::levels::{closing, push_lead};
 use crate::line::{Line, SPARE};
 use crate::texts::{bool_word, kind_word, push_double, push_number, push_uuid};
 use gate_io::Sink;
 use protocol_traits::Slot;
 use thrift_value::{Event, Kind};
-use type_tables::FieldInfo;
+use type_tables::{FieldInfo, Schema};
 
 /// So many bytes of a long string are told at once.
 const PIECE: usize = 512;
 
-/// Tells an event that stands in this level, and goes past it.
-#[inline(always)]
-#[tactic(auto, unfolding(crate::specs::Line::stop_text))]
-pub fn tell_event<'c, K: Announcing, O: Sink>(
-    walk: &mut K,
-    level: Slot,
-    first: bool,
-    event: &Event<'_>,
-    line: Line<'c>,
-    out: &mut O,
-) -> Line<'c>
-    requires open { 0 < length (K.at walk.old).levels }
-    requires shallow { length (K.at walk.old).levels ≤ 256 }
-    requires deep { depth_after (item_of event.now) (length (K.at walk.old).levels) ≤ 256 }
-    ensures told { (nest : List Slot) → first_of nest ≡ Some level → Tells (output (O.written out.old) (O.faults out.old)) line.entry (output (O.written out.new) (O.faults out.new)) result
-        (item_text (K.at walk.old).schema (known_of (K.at walk.old).levels) (record { nest = nest; first = first }) (item_of event.now)) }
-    ensures after { K.at walk.new ≡ after (K.at walk.old) (item_of event.now) }
-    ensures depth { length (K.at walk.new).levels ≡ depth_after (item_of event.now) (length (K.at walk.old).levels) }
-{
-    let line = line.make_room(out);
-    match *event {
-        Event::Field(id, kind) => {
-            let field = walk.announce(id, kind);
-            tell_field(level, first, id, field, kind, line, out)
-        }
-        Event::Stop => {
-            walk.step(event);
-            line.push_byte(b')')
-        }
-        Event::End => {
-            walk.step(event);
-            line.push_byte(closing(level))
-        }
-        _ => {
-            walk.step(event);
-            tell_value(event, push_lead(line, level, first), out)
-        }
-    }
-}
-
 /// Tells a value, or the beginning of one.
 #[inline(always)]
 #[tactic(auto, unfolding(crate::specs::Line::struct_text, crate::specs::Line::empty_map_text), using(crate::proofs::Told::tells_behind))]
-fn tell_value<'c, O: Sink>(event: &Event<'_>, line: Line<'c>, out: &mut O) -> Line<'c>
+pub fn tell_value<'c, O: Sink>(event: &Event<'_>, line: Line<'c>, out: &mut O) -> Line<'c>
     requires { length line.bytes + 120 ≤ 4096 }
     ensures told { Tells (output (O.written out.old) (O.faults out.old)) line.entry (output (O.written out.new) (O.faults out.new)) result (value_text (item_of event.now)) }
 {
@@ -93,7 +51,7 @@ fn tell_value<'c, O: Sink>(event: &Event<'_>, line: Line<'c>, out: &mut O) -> Li
 }
 
 #[tactic(auto, unfolding(crate::specs::Line::map_text))]
-fn push_map<'c>(line: Line<'c>, key: Kind, value: Kind) -> Line<'c>
+pub fn push_map<'c>(line: Line<'c>, key: Kind, value: Kind) -> Line<'c>
     requires { length line.bytes + 120 ≤ 4096 }
     ensures { result ≡ record line.entry { bytes = line.entry.bytes ++ map_text key value } }
 {
@@ -105,7 +63,7 @@ fn push_map<'c>(line: Line<'c>, key: Kind, value: Kind) -> Line<'c>
 }
 
 #[tactic(auto, unfolding(crate::specs::Line::list_text))]
-fn push_list<'c>(line: Line<'c>, kind: Kind) -> Line<'c>
+pub fn push_list<'c>(line: Line<'c>, kind: Kind) -> Line<'c>
     requires { length line.bytes + 120 ≤ 4096 }
     ensures { result ≡ record line.entry { bytes = line.entry.bytes ++ list_text kind } }
 {
@@ -114,7 +72,7 @@ fn push_list<'c>(line: Line<'c>, kind: Kind) -> Line<'c>
 
 /// Tells a field: its id, its name where it is declared, and its kind.
 #[inline(always)]
-fn tell_field<'c, O: Sink>(
+pub fn tell_field<'c, O: Sink>(
     level: Slot,
     first: bool,
     id: i16,

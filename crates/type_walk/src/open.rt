@@ -1,16 +1,16 @@
 //! What is open in a body, of which something is declared or not.
-ghost use Rattle.std.specs.Prelude.{◌≡◌, ◌<◌, ◌≤◌, ◌∷◌, Some, length, option_copied};
+ghost use Rattle.std.specs.Prelude.{◌≡◌, ◌<◌, ◌≤◌, ◌∷◌, Some, length};
 ghost use Rattle.thrift_value.specs.Items.{item_of, field};
 ghost use Rattle.protocol_traits.specs.Follow.{depth_after};
 ghost use Rattle.type_tables.specs.Declarations.{Declarations};
-ghost use Rattle.type_walk.specs.Positions.{after, called_for, declared_in, entered, in_list, in_map, in_set, in_struct, passed, standing};
+ghost use Rattle.type_walk.specs.Positions.{after, called_for, entered, in_list, in_map, in_set, in_struct, passed, standing};
 ghost use Rattle.type_walk.specs.Stack.{first_of, rest_of};
 ghost use Rattle.type_walk.specs.Known.{IsKnownLevel, IsSound, shaded, position_of};
 
 use crate::levels::{Level, Levels};
 use crate::types::{called_for, declared_in, declared_type, in_list, in_map, in_set, in_struct};
 use thrift_value::{Event, Kind};
-use type_tables::{FieldInfo, Schema, Ty};
+use type_tables::{Schema, Ty};
 
 /// The open structs and containers, and the declared type of the value that stands next.
 #[derive(Drop)]
@@ -38,38 +38,16 @@ impl Open {
         }
     }
 
-    /// Goes past a field, and tells its declaration where one stands for its id and kind.
+    /// Goes past a field.
     #[inline(always)]
-    pub fn announce<'s>(&mut self, schema: &'s Schema, id: i16, kind: Kind) -> Option<&'s FieldInfo>
-        requires sound { IsSound schema.now self.old }
-        requires open { 0 < length (shaded self.old.unknown self.old.known) }
-        ensures value { option_copied result ≡ declared_in schema.now (first_of (shaded self.old.unknown self.old.known)) id kind }
-        ensures after { position_of schema.now self.new ≡ after (position_of schema.now self.old) (field id kind) }
-        ensures sound { IsSound schema.now self.new }
-    {
-        if self.unknown > 0 {
-            return None;
-        }
-        self.announce_known(schema, id, kind)
-    }
-
-    #[inline(always)]
-    fn announce_known<'s>(
-        &mut self,
-        schema: &'s Schema,
-        id: i16,
-        kind: Kind,
-    ) -> Option<&'s FieldInfo>
+    fn announce(&mut self, schema: &Schema, id: i16, kind: Kind)
         requires sound { IsSound schema.now self.old }
         requires all { self.old.unknown ≡ 0 }
         requires open { 0 < length self.old.known }
-        ensures value { option_copied result ≡ declared_in schema.now (first_of self.old.known) id kind }
         ensures after { position_of schema.now self.new ≡ after (position_of schema.now self.old) (field id kind) }
         ensures sound { IsSound schema.now self.new }
     {
-        let found = declared_in(schema, self.known.innermost(), id, kind);
-        self.next = declared_type(found);
-        found
+        self.next = declared_type(declared_in(schema, self.known.innermost(), id, kind));
     }
 
     #[inline(always)]
@@ -113,9 +91,7 @@ impl Open {
         ensures sound { IsSound schema.now self.new }
     {
         match *event {
-            Event::Field(id, kind) => {
-                self.announce_known(schema, id, kind);
-            }
+            Event::Field(id, kind) => self.announce(schema, id, kind),
             Event::Stop | Event::End => self.leave(schema),
             Event::StructBegin => self.enter_struct(schema),
             Event::MapBegin(key, value, _) => self.enter_map(schema, key, value),

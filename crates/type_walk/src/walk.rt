@@ -1,17 +1,16 @@
 //! The walk through a body.
-ghost use Rattle.std.specs.Prelude.{◌≡◌, ◌<◌, ◌≤◌, ◌↔◌, IsTrue, IfSome, length, option_copied};
-ghost use Rattle.thrift_value.specs.Items.{item_of, field};
+ghost use Rattle.std.specs.Prelude.{◌≡◌, ◌<◌, ◌≤◌, ◌↔◌, IsTrue, IfSome, length};
+ghost use Rattle.thrift_value.specs.Items.{item_of};
 ghost use Rattle.protocol_traits.specs.Follow.{depth_after};
-ghost use Rattle.type_walk.specs.Stack.{first_of};
-ghost use Rattle.type_walk.specs.Positions.{start, hint_of, mark_of, after, inside_of, declared_in};
+ghost use Rattle.type_walk.specs.Positions.{start, hint_of, mark_of, after, inside_of};
 
 use crate::levels::{Level, Levels};
 use crate::open::Open;
 use crate::types::{hint_at, mark_at};
 use protocol_traits::{Hint, Mark};
 use std::marker::Model;
-use thrift_value::{Event, Kind};
-use type_tables::{FieldInfo, Schema, StructId, Ty};
+use thrift_value::Event;
+use type_tables::{Schema, StructId, Ty};
 
 /// A walk through a body: what is declared of the value that stands next.
 ///
@@ -84,16 +83,6 @@ impl<'s> Walk<'s> {
             Some(Level::Fields(s)) => Some(*s),
             _ => None,
         }
-    }
-
-    /// Goes past a field, and tells its declaration where the struct that it stands in declares its id with its kind.
-    #[inline(always)]
-    pub fn announce(&mut self, id: i16, kind: Kind) -> Option<&'s FieldInfo>
-        requires open { 0 < length self.old.levels }
-        ensures value { option_copied result ≡ declared_in self.old.schema (first_of self.old.levels) id kind }
-        ensures after { self.new ≡ after self.old (field id kind) }
-    {
-        self.here.announce(self.schema, id, kind)
     }
 
     /// Goes past an event, and says what is known where it stands. At most `DEPTH` levels are open.
