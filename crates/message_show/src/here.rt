@@ -58,6 +58,19 @@ impl Here {
         found
     }
 
+    /// A struct or container has begun where a value was called for, and this is declared in it.
+    #[inline(always)]
+    pub fn open(&mut self, inner: Level) -> Turn
+        ensures opened { result ≡ Turn.Opened inner }
+        ensures levels { (up : List Level) → self.new.known ∷ up ≡ passed (self.old.known ∷ up) }
+        ensures next { self.new.next ≡ called_for (Some self.new.known) }
+        ensures first { self.new.first ≡ false }
+        ensures sound { (d : Declarations) → IsSound d self.old → IsSound d self.new }
+    {
+        self.spend();
+        Turn::Opened(inner)
+    }
+
     /// A value has come: after a key comes its value, after that the next key.
     #[inline(always)]
     pub fn spend(&mut self)

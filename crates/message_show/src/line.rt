@@ -22,7 +22,9 @@ pub struct Cells {
 
 impl Cells {
     /// A place for a line.
-    pub fn new() -> Cells {
+    pub fn new() -> Cells
+        ensures { result.broken ≡ false }
+    {
         Cells {
             bytes: [0; ROOM],
             broken: false,

@@ -188,36 +188,30 @@ fn event<'c, R: Events, O: Sink>(
         Ok(event) => match event {
             Event::Field(id, kind) => {
                 let found = here.announce(schema, id, kind);
-                (
-                    tell_field(level, first, id, found, kind, line, out),
-                    Ok(Turn::Open),
-                )
+                let line = tell_field(level, first, id, found, kind, line, out);
+                (line, Ok(Turn::Open))
             }
             Event::Stop => (line.push_byte(b')'), Ok(Turn::Closed)),
             Event::End => (line.push_byte(closing(level)), Ok(Turn::Closed)),
             Event::StructBegin => {
                 let inner = in_struct(here.next);
                 let line = push_lead(line, level, first).push_byte(b'(');
-                here.spend();
-                (line, Ok(Turn::Opened(inner)))
+                (line, Ok(here.open(inner)))
             }
             Event::MapBegin(key, value, _) => {
                 let inner = in_map(schema, here.next, key, value);
                 let line = push_map(push_lead(line, level, first), key, value);
-                here.spend();
-                (line, Ok(Turn::Opened(inner)))
+                (line, Ok(here.open(inner)))
             }
             Event::SetBegin(kind, _) => {
                 let inner = in_set(schema, here.next, kind);
                 let line = push_list(push_lead(line, level, first), kind);
-                here.spend();
-                (line, Ok(Turn::Opened(inner)))
+                (line, Ok(here.open(inner)))
             }
             Event::ListBegin(kind, _) => {
                 let inner = in_list(schema, here.next, kind);
                 let line = push_list(push_lead(line, level, first), kind);
-                here.spend();
-                (line, Ok(Turn::Opened(inner)))
+                (line, Ok(here.open(inner)))
             }
             _ => {
                 let line = tell_value(&event, push_lead(line, level, first), out);

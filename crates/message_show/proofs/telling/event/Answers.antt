@@ -39,13 +39,13 @@ returns-in-Field-clause-turned g c up deep =
     let read = step_ok (reading.reads c.args.reader.now (hint_of (at d here up))) (item_of c.in-Ok.event) new (rw (← c.hint_at.ensures) c.in-Ok.ensures.answer) (rw (← c.hint_at.ensures) c.event_in.follows.holds-at-none) in
     let old = output (sink.written c.args.out.now) (sink.faults c.args.out.now) in
     let mid = output (sink.written c.make_room-line.new.out) (sink.faults c.make_room-line.new.out) in
-    let end = output (sink.written c.tell_field.new.out) (sink.faults c.tell_field.new.out) in
+    let end = output (sink.written c.tell_field-line.new.out) (sink.faults c.tell_field-line.new.out) in
     let fits : SFits w16 c.in-Field.id = search rules in
     let found = field_name (declared_in d (Some here.known) c.in-Field.id c.in-Field.kind) in
-    let told = tells_then old mid end c.args.line c.make_room-line.result c.tell_field.result [] _ c.make_room-line.ensures.told
-    (tells_same mid end c.make_room-line.result c.tell_field.result _ _ (ap (λ (top : Option Slot). mark_before here.first top ++ field_text c.in-Field.id found c.in-Field.kind) (sym is_level))
-    (rw (to_z-of_z w16 c.in-Field.id fits, rw (to_z-of_z w16 c.in-Field.id fits) at c.announce-found.ensures.value) at c.tell_field.ensures.told)) in
-    told_item source reading.nest reading.pays reading.follows c.args.reader.now new d here c.announce-found.new.self turns.Open (field c.in-Field.id c.in-Field.kind) up old end c.args.line c.tell_field.result
+    let told = tells_then old mid end c.args.line c.make_room-line.result c.tell_field-line.result [] _ c.make_room-line.ensures.told
+    (tells_same mid end c.make_room-line.result c.tell_field-line.result _ _ (ap (λ (top : Option Slot). mark_before here.first top ++ field_text c.in-Field.id found c.in-Field.kind) (sym is_level))
+    (rw (to_z-of_z w16 c.in-Field.id fits, rw (to_z-of_z w16 c.in-Field.id fits) at c.announce-found.ensures.value) at c.tell_field-line.ensures.told)) in
+    told_item source reading.nest reading.pays reading.follows c.args.reader.now new d here c.announce-found.new.self turns.Open (field c.in-Field.id c.in-Field.kind) up old end c.args.line c.tell_field-line.result
     (rw (to_z-of_z w16 c.in-Field.id fits) at c.announce-found.ensures.passed) (rw c.in-Field.is at read) told
 
 pub returns-in-Stop-clause-turned : goal.returns-in-Stop-clause-turned
@@ -98,8 +98,9 @@ returns-in-StructBegin-clause-turned g c up deep =
     let led = tells_more old mid c.args.line c.make_room-line.result c.push_lead.result [] (mark_before here.first (Some c.in-Some.level)) c.make_room-line.ensures.told c.push_lead.ensures.text in
     let told = tells_same old mid c.args.line c.push_byte-line.result _ _ (ap (λ (top : Option Slot). mark_before here.first top ++ struct_text) (sym is_level))
     (tells_more old mid c.args.line c.push_lead.result c.push_byte-line.result (mark_before here.first (Some c.in-Some.level)) (struct_text) led c.push_byte-line.ensures) in
-    told_item source reading.nest reading.pays reading.follows c.args.reader.now new d here c.spend.new.self (turns.Opened c.in_struct-inner.result) item up old mid c.args.line c.push_byte-line.result
-    (opens_passes d here c.spend.new.self item c.in_struct-inner.result (λ up. ap (entered (at d here up)) (sym c.in_struct-inner.ensures.value)) refl (λ n. refl) c.spend.ensures.levels (c.spend.ensures.sound d c.requires.sound)) e told
+    rw c.open.ensures.opened (
+    told_item source reading.nest reading.pays reading.follows c.args.reader.now new d here c.open.new.self (turns.Opened c.in_struct-inner.result) item up old mid c.args.line c.push_byte-line.result
+    (opens_passes d here c.open.new.self item c.in_struct-inner.result (λ up. ap (entered (at d here up)) (sym c.in_struct-inner.ensures.value)) refl (λ n. refl) c.open.ensures.levels (c.open.ensures.sound d c.requires.sound)) e told)
 
 pub returns-in-MapBegin-clause-turned : goal.returns-in-MapBegin-clause-turned
 returns-in-MapBegin-clause-turned g c up deep =
@@ -118,8 +119,9 @@ returns-in-MapBegin-clause-turned g c up deep =
     let led = tells_more old mid c.args.line c.make_room-line.result c.push_lead-in-MapBegin.result [] (mark_before here.first (Some c.in-Some.level)) c.make_room-line.ensures.told c.push_lead-in-MapBegin.ensures.text in
     let told = tells_same old mid c.args.line c.push_map-line.result _ _ (ap (λ (top : Option Slot). mark_before here.first top ++ map_text c.in-MapBegin.key c.in-MapBegin.value) (sym is_level))
     (tells_more old mid c.args.line c.push_lead-in-MapBegin.result c.push_map-line.result (mark_before here.first (Some c.in-Some.level)) (map_text c.in-MapBegin.key c.in-MapBegin.value) led c.push_map-line.ensures) in
-    told_item source reading.nest reading.pays reading.follows c.args.reader.now new d here c.spend-in-MapBegin.new.self (turns.Opened c.in_map-inner.result) item up old mid c.args.line c.push_map-line.result
-    (opens_passes d here c.spend-in-MapBegin.new.self item c.in_map-inner.result (λ up. ap (entered (at d here up)) (sym c.in_map-inner.ensures.value)) refl (λ n. refl) c.spend-in-MapBegin.ensures.levels (c.spend-in-MapBegin.ensures.sound d c.requires.sound)) e told
+    rw c.open-in-MapBegin.ensures.opened (
+    told_item source reading.nest reading.pays reading.follows c.args.reader.now new d here c.open-in-MapBegin.new.self (turns.Opened c.in_map-inner.result) item up old mid c.args.line c.push_map-line.result
+    (opens_passes d here c.open-in-MapBegin.new.self item c.in_map-inner.result (λ up. ap (entered (at d here up)) (sym c.in_map-inner.ensures.value)) refl (λ n. refl) c.open-in-MapBegin.ensures.levels (c.open-in-MapBegin.ensures.sound d c.requires.sound)) e told)
 
 pub returns-in-SetBegin-clause-turned : goal.returns-in-SetBegin-clause-turned
 returns-in-SetBegin-clause-turned g c up deep =
@@ -138,8 +140,9 @@ returns-in-SetBegin-clause-turned g c up deep =
     let led = tells_more old mid c.args.line c.make_room-line.result c.push_lead-in-SetBegin.result [] (mark_before here.first (Some c.in-Some.level)) c.make_room-line.ensures.told c.push_lead-in-SetBegin.ensures.text in
     let told = tells_same old mid c.args.line c.push_list-line.result _ _ (ap (λ (top : Option Slot). mark_before here.first top ++ list_text c.in-SetBegin.kind) (sym is_level))
     (tells_more old mid c.args.line c.push_lead-in-SetBegin.result c.push_list-line.result (mark_before here.first (Some c.in-Some.level)) (list_text c.in-SetBegin.kind) led c.push_list-line.ensures) in
-    told_item source reading.nest reading.pays reading.follows c.args.reader.now new d here c.spend-in-SetBegin.new.self (turns.Opened c.in_set-inner.result) item up old mid c.args.line c.push_list-line.result
-    (opens_passes d here c.spend-in-SetBegin.new.self item c.in_set-inner.result (λ up. ap (entered (at d here up)) (sym c.in_set-inner.ensures.value)) refl (λ n. refl) c.spend-in-SetBegin.ensures.levels (c.spend-in-SetBegin.ensures.sound d c.requires.sound)) e told
+    rw c.open-in-SetBegin.ensures.opened (
+    told_item source reading.nest reading.pays reading.follows c.args.reader.now new d here c.open-in-SetBegin.new.self (turns.Opened c.in_set-inner.result) item up old mid c.args.line c.push_list-line.result
+    (opens_passes d here c.open-in-SetBegin.new.self item c.in_set-inner.result (λ up. ap (entered (at d here up)) (sym c.in_set-inner.ensures.value)) refl (λ n. refl) c.open-in-SetBegin.ensures.levels (c.open-in-SetBegin.ensures.sound d c.requires.sound)) e told)
 
 pub returns-in-ListBegin-clause-turned : goal.returns-in-ListBegin-clause-turned
 returns-in-ListBegin-clause-turned g c up deep =
@@ -158,8 +161,9 @@ returns-in-ListBegin-clause-turned g c up deep =
     let led = tells_more old mid c.args.line c.make_room-line.result c.push_lead-in-ListBegin.result [] (mark_before here.first (Some c.in-Some.level)) c.make_room-line.ensures.told c.push_lead-in-ListBegin.ensures.text in
     let told = tells_same old mid c.args.line c.push_list-line-in-ListBegin.result _ _ (ap (λ (top : Option Slot). mark_before here.first top ++ list_text c.in-ListBegin.kind) (sym is_level))
     (tells_more old mid c.args.line c.push_lead-in-ListBegin.result c.push_list-line-in-ListBegin.result (mark_before here.first (Some c.in-Some.level)) (list_text c.in-ListBegin.kind) led c.push_list-line-in-ListBegin.ensures) in
-    told_item source reading.nest reading.pays reading.follows c.args.reader.now new d here c.spend-in-ListBegin.new.self (turns.Opened c.in_list-inner.result) item up old mid c.args.line c.push_list-line-in-ListBegin.result
-    (opens_passes d here c.spend-in-ListBegin.new.self item c.in_list-inner.result (λ up. ap (entered (at d here up)) (sym c.in_list-inner.ensures.value)) refl (λ n. refl) c.spend-in-ListBegin.ensures.levels (c.spend-in-ListBegin.ensures.sound d c.requires.sound)) e told
+    rw c.open-in-ListBegin.ensures.opened (
+    told_item source reading.nest reading.pays reading.follows c.args.reader.now new d here c.open-in-ListBegin.new.self (turns.Opened c.in_list-inner.result) item up old mid c.args.line c.push_list-line-in-ListBegin.result
+    (opens_passes d here c.open-in-ListBegin.new.self item c.in_list-inner.result (λ up. ap (entered (at d here up)) (sym c.in_list-inner.ensures.value)) refl (λ n. refl) c.open-in-ListBegin.ensures.levels (c.open-in-ListBegin.ensures.sound d c.requires.sound)) e told)
 
 pub returns-in_default-event : goal.returns-in_default-event
 returns-in_default-event g c =
@@ -175,7 +179,7 @@ returns-in_default-event g c =
     let hint = hint_of (at d here []) in
     let e = step_ok (reading.reads c.args.reader.now hint) item new (rw (← c.hint_at.ensures) c.in-Ok.ensures.answer) (rw (← c.hint_at.ensures) c.event_in.follows.holds-at-none) in
     let whole = is_whole_value event c.in_default-event.not-Field c.in_default-event.not-Stop c.in_default-event.not-End c.in_default-event.not-StructBegin c.in_default-event.not-MapBegin c.in_default-event.not-SetBegin c.in_default-event.not-ListBegin in
-    let sound = c.spend-in_default-event.ensures.sound d c.requires.sound in
+    let sound = c.spend.ensures.sound d c.requires.sound in
     let old = output (sink.written c.args.out.now) (sink.faults c.args.out.now) in
     let mid = output (sink.written c.make_room-line.new.out) (sink.faults c.make_room-line.new.out) in
     let end = output (sink.written c.tell_value-line.new.out) (sink.faults c.tell_value-line.new.out) in
@@ -189,8 +193,8 @@ returns-in_default-event g c =
     let paid = subst (λ (r : Step _ Item). IfOk r (λ x. weight x.0 + reading.ahead x.1 ≤ reading.ahead c.args.reader.now)) e (reading.pays c.args.reader.now hint) in
     record {
       turned = λ up deep.
-          told_item source reading.nest reading.pays reading.follows c.args.reader.now new d here c.spend-in_default-event.new.self turns.Open item up old end line c.tell_value-line.result
-          (value_passes d here c.spend-in_default-event.new.self item whole c.spend-in_default-event.ensures.levels c.spend-in_default-event.ensures.next c.spend-in_default-event.ensures.first sound) e
+          told_item source reading.nest reading.pays reading.follows c.args.reader.now new d here c.spend.new.self turns.Open item up old end line c.tell_value-line.result
+          (value_passes d here c.spend.new.self item whole c.spend.ensures.levels c.spend.ensures.next c.spend.ensures.first sound) e
           (tells_same old end line c.tell_value-line.result _ _ same told);
       depth = nests ∙ whole.depth (reading.depth c.args.reader.now);
       sound = sound;
@@ -199,13 +203,13 @@ returns-in_default-event g c =
     }
 
 pub returns-in-StructBegin-clause-sound : goal.returns-in-StructBegin-clause-sound
-returns-in-StructBegin-clause-sound g c = c.spend.ensures.sound c.args.schema.now c.requires.sound
+returns-in-StructBegin-clause-sound g c = c.open.ensures.sound c.args.schema.now c.requires.sound
 
 pub returns-in-MapBegin-clause-sound : goal.returns-in-MapBegin-clause-sound
-returns-in-MapBegin-clause-sound g c = c.spend-in-MapBegin.ensures.sound c.args.schema.now c.requires.sound
+returns-in-MapBegin-clause-sound g c = c.open-in-MapBegin.ensures.sound c.args.schema.now c.requires.sound
 
 pub returns-in-SetBegin-clause-sound : goal.returns-in-SetBegin-clause-sound
-returns-in-SetBegin-clause-sound g c = c.spend-in-SetBegin.ensures.sound c.args.schema.now c.requires.sound
+returns-in-SetBegin-clause-sound g c = c.open-in-SetBegin.ensures.sound c.args.schema.now c.requires.sound
 
 pub returns-in-ListBegin-clause-sound : goal.returns-in-ListBegin-clause-sound
-returns-in-ListBegin-clause-sound g c = c.spend-in-ListBegin.ensures.sound c.args.schema.now c.requires.sound
+returns-in-ListBegin-clause-sound g c = c.open-in-ListBegin.ensures.sound c.args.schema.now c.requires.sound
