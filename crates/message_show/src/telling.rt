@@ -184,7 +184,8 @@ fn event<'c, R: Events, O: Sink>(
     };
     let line = line.make_room(out);
     let first = here.first;
-    match reader.event_in(level, hint_at(here.next)) {
+    let next = here.next;
+    match reader.event_in(level, hint_at(next)) {
         Ok(event) => match event {
             Event::Field(id, kind) => {
                 let found = here.announce(schema, id, kind);
@@ -194,24 +195,20 @@ fn event<'c, R: Events, O: Sink>(
             Event::Stop => (line.push_byte(b')'), Ok(Turn::Closed)),
             Event::End => (line.push_byte(closing(level)), Ok(Turn::Closed)),
             Event::StructBegin => {
-                let inner = in_struct(here.next);
                 let line = push_lead(line, level, first).push_byte(b'(');
-                (line, Ok(here.open(inner)))
+                (line, Ok(here.open(in_struct(next))))
             }
             Event::MapBegin(key, value, _) => {
-                let inner = in_map(schema, here.next, key, value);
                 let line = push_map(push_lead(line, level, first), key, value);
-                (line, Ok(here.open(inner)))
+                (line, Ok(here.open(in_map(schema, next, key, value))))
             }
             Event::SetBegin(kind, _) => {
-                let inner = in_set(schema, here.next, kind);
                 let line = push_list(push_lead(line, level, first), kind);
-                (line, Ok(here.open(inner)))
+                (line, Ok(here.open(in_set(schema, next, kind))))
             }
             Event::ListBegin(kind, _) => {
-                let inner = in_list(schema, here.next, kind);
                 let line = push_list(push_lead(line, level, first), kind);
-                (line, Ok(here.open(inner)))
+                (line, Ok(here.open(in_list(schema, next, kind))))
             }
             _ => {
                 let line = tell_value(&event, push_lead(line, level, first), out);

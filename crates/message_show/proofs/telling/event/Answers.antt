@@ -99,8 +99,8 @@ returns-in-StructBegin-clause-turned g c up deep =
     let told = tells_same old mid c.args.line c.push_byte-line.result _ _ (ap (λ (top : Option Slot). mark_before here.first top ++ struct_text) (sym is_level))
     (tells_more old mid c.args.line c.push_lead.result c.push_byte-line.result (mark_before here.first (Some c.in-Some.level)) (struct_text) led c.push_byte-line.ensures) in
     rw c.open.ensures.opened (
-    told_item source reading.nest reading.pays reading.follows c.args.reader.now new d here c.open.new.self (turns.Opened c.in_struct-inner.result) item up old mid c.args.line c.push_byte-line.result
-    (opens_passes d here c.open.new.self item c.in_struct-inner.result (λ up. ap (entered (at d here up)) (sym c.in_struct-inner.ensures.value)) refl (λ n. refl) c.open.ensures.levels (c.open.ensures.sound d c.requires.sound)) e told)
+    told_item source reading.nest reading.pays reading.follows c.args.reader.now new d here c.open.new.self (turns.Opened c.in_struct.result) item up old mid c.args.line c.push_byte-line.result
+    (opens_passes d here c.open.new.self item c.in_struct.result (λ up. ap (entered (at d here up)) (sym c.in_struct.ensures.value)) refl (λ n. refl) c.open.ensures.levels (c.open.ensures.sound d c.requires.sound)) e told)
 
 pub returns-in-MapBegin-clause-turned : goal.returns-in-MapBegin-clause-turned
 returns-in-MapBegin-clause-turned g c up deep =
@@ -120,8 +120,8 @@ returns-in-MapBegin-clause-turned g c up deep =
     let told = tells_same old mid c.args.line c.push_map-line.result _ _ (ap (λ (top : Option Slot). mark_before here.first top ++ map_text c.in-MapBegin.key c.in-MapBegin.value) (sym is_level))
     (tells_more old mid c.args.line c.push_lead-in-MapBegin.result c.push_map-line.result (mark_before here.first (Some c.in-Some.level)) (map_text c.in-MapBegin.key c.in-MapBegin.value) led c.push_map-line.ensures) in
     rw c.open-in-MapBegin.ensures.opened (
-    told_item source reading.nest reading.pays reading.follows c.args.reader.now new d here c.open-in-MapBegin.new.self (turns.Opened c.in_map-inner.result) item up old mid c.args.line c.push_map-line.result
-    (opens_passes d here c.open-in-MapBegin.new.self item c.in_map-inner.result (λ up. ap (entered (at d here up)) (sym c.in_map-inner.ensures.value)) refl (λ n. refl) c.open-in-MapBegin.ensures.levels (c.open-in-MapBegin.ensures.sound d c.requires.sound)) e told)
+    told_item source reading.nest reading.pays reading.follows c.args.reader.now new d here c.open-in-MapBegin.new.self (turns.Opened c.in_map.result) item up old mid c.args.line c.push_map-line.result
+    (opens_passes d here c.open-in-MapBegin.new.self item c.in_map.result (λ up. ap (entered (at d here up)) (sym c.in_map.ensures.value)) refl (λ n. refl) c.open-in-MapBegin.ensures.levels (c.open-in-MapBegin.ensures.sound d c.requires.sound)) e told)
 
 pub returns-in-SetBegin-clause-turned : goal.returns-in-SetBegin-clause-turned
 returns-in-SetBegin-clause-turned g c up deep =
@@ -141,8 +141,8 @@ returns-in-SetBegin-clause-turned g c up deep =
     let told = tells_same old mid c.args.line c.push_list-line.result _ _ (ap (λ (top : Option Slot). mark_before here.first top ++ list_text c.in-SetBegin.kind) (sym is_level))
     (tells_more old mid c.args.line c.push_lead-in-SetBegin.result c.push_list-line.result (mark_before here.first (Some c.in-Some.level)) (list_text c.in-SetBegin.kind) led c.push_list-line.ensures) in
     rw c.open-in-SetBegin.ensures.opened (
-    told_item source reading.nest reading.pays reading.follows c.args.reader.now new d here c.open-in-SetBegin.new.self (turns.Opened c.in_set-inner.result) item up old mid c.args.line c.push_list-line.result
-    (opens_passes d here c.open-in-SetBegin.new.self item c.in_set-inner.result (λ up. ap (entered (at d here up)) (sym c.in_set-inner.ensures.value)) refl (λ n. refl) c.open-in-SetBegin.ensures.levels (c.open-in-SetBegin.ensures.sound d c.requires.sound)) e told)
+    told_item source reading.nest reading.pays reading.follows c.args.reader.now new d here c.open-in-SetBegin.new.self (turns.Opened c.in_set.result) item up old mid c.args.line c.push_list-line.result
+    (opens_passes d here c.open-in-SetBegin.new.self item c.in_set.result (λ up. ap (entered (at d here up)) (sym c.in_set.ensures.value)) refl (λ n. refl) c.open-in-SetBegin.ensures.levels (c.open-in-SetBegin.ensures.sound d c.requires.sound)) e told)
 
 pub returns-in-ListBegin-clause-turned : goal.returns-in-ListBegin-clause-turned
 returns-in-ListBegin-clause-turned g c up deep =
@@ -162,8 +162,8 @@ returns-in-ListBegin-clause-turned g c up deep =
     let told = tells_same old mid c.args.line c.push_list-line-in-ListBegin.result _ _ (ap (λ (top : Option Slot). mark_before here.first top ++ list_text c.in-ListBegin.kind) (sym is_level))
     (tells_more old mid c.args.line c.push_lead-in-ListBegin.result c.push_list-line-in-ListBegin.result (mark_before here.first (Some c.in-Some.level)) (list_text c.in-ListBegin.kind) led c.push_list-line-in-ListBegin.ensures) in
     rw c.open-in-ListBegin.ensures.opened (
-    told_item source reading.nest reading.pays reading.follows c.args.reader.now new d here c.open-in-ListBegin.new.self (turns.Opened c.in_list-inner.result) item up old mid c.args.line c.push_list-line-in-ListBegin.result
-    (opens_passes d here c.open-in-ListBegin.new.self item c.in_list-inner.result (λ up. ap (entered (at d here up)) (sym c.in_list-inner.ensures.value)) refl (λ n. refl) c.open-in-ListBegin.ensures.levels (c.open-in-ListBegin.ensures.sound d c.requires.sound)) e told)
+    told_item source reading.nest reading.pays reading.follows c.args.reader.now new d here c.open-in-ListBegin.new.self (turns.Opened c.in_list.result) item up old mid c.args.line c.push_list-line-in-ListBegin.result
+    (opens_passes d here c.open-in-ListBegin.new.self item c.in_list.result (λ up. ap (entered (at d here up)) (sym c.in_list.ensures.value)) refl (λ n. refl) c.open-in-ListBegin.ensures.levels (c.open-in-ListBegin.ensures.sound d c.requires.sound)) e told)
 
 pub returns-in_default-event : goal.returns-in_default-event
 returns-in_default-event g c =
