@@ -7,8 +7,8 @@ Without names all trials are run, in some three minutes; SECONDS, 60 by default,
 
     crates/thrift_gate/out/thrift_gate serve binary binary LISTEN TARGET --accept C --sessions N --limit 1024
 
-and an upstream that answers each call by its own bytes. COMMAND runs another program, with {listen},
-{target}, {accept} and {sessions} in it. After each trial the greatest resident memory of the gateway has to lie within
+and an upstream that answers each call by its own bytes. THRIFT_GATE names another build of it, COMMAND another
+program, with {listen}, {target}, {accept} and {sessions} in it. After each trial the greatest resident memory of the gateway has to lie within
 what docs/SERVE.md states for its sessions and sockets, and 16 MB. The status is 0 where every trial went well.
 `system_calls` is skipped where there is no strace.
 """
@@ -29,7 +29,7 @@ import time
 from typing import Callable, Dict, Iterator, List, Optional
 
 HERE = os.path.dirname(os.path.abspath(__file__))
-PROGRAM = os.path.join(HERE, "..", "crates", "thrift_gate", "out", "thrift_gate")
+PROGRAM = os.environ.get("THRIFT_GATE", os.path.join(HERE, "../crates/thrift_gate/out/thrift_gate"))
 COMMAND = PROGRAM + " serve binary binary {listen} {target} --accept {accept} --sessions {sessions} --limit 1024"
 HOST = "127.0.0.1"
 MOST_FILES = 8192

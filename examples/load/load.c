@@ -1,11 +1,11 @@
 /* Calls over framed connections, as fast as they are answered.
  *
- *     load PROTOCOL PORT CONNECTIONS OPEN CALLS [IDLE]
+ *     load PROTOCOL PORT[,PORT..] CONNECTIONS OPEN CALLS [IDLE]
  *
  * PROTOCOL is `binary` or `compact`. Each of the CONNECTIONS keeps OPEN calls of about 60 bytes open until CALLS were answered
- * in all; IDLE more connections are opened before and send nothing. The clock starts once each of the CONNECTIONS had one
- * answer, so that opening them isn't measured. Prints the calls a second, the bytes of answers a
- * second, and the median, the 99th percentile and the greatest time from a call to its answer in microseconds. */
+ * in all; IDLE more connections are opened before and send nothing. Of several ports each gets a connection in turn. The clock
+ * starts once each of the CONNECTIONS had one answer, so that opening them isn't measured. Prints the calls a second, the bytes
+ * of answers a second, and the median, the 99th percentile and the greatest time from a call to its answer in microseconds. */
 #include <arpa/inet.h>
 #include <errno.h>
 #include <netinet/tcp.h>
@@ -20,6 +20,7 @@
 
 #define ROOM (1 << 20)
 #define MOST_OPEN 4096
+#define MOST_PORTS 16
 
 struct connection {
     int fd;
@@ -29,7 +30,7 @@ struct connection {
     size_t first, open;
 };
 
-static int compact;
+static int compact, ports[MOST_PORTS], port_count;
 static long left_to_begin, answered, total;
 static uint64_t answer_bytes;
 static uint32_t *times;
@@ -132,8 +133,17 @@ static void take_answers(struct connection *c)
     c->held -= at;
 }
 
-static int connect_to(int port)
+static void read_ports(char *words)
 {
+    for (char *word = strtok(words, ","); word && port_count < MOST_PORTS; word = strtok(NULL, ","))
+        ports[port_count++] = atoi(word);
+}
+
+/* The next connection, to the next port in turn. */
+static int open_connection(void)
+{
+    static int opened;
+    int port = ports[opened++ % port_count];
     int fd = socket(AF_INET, SOCK_STREAM, 0), on = 1;
     struct sockaddr_in at = {.sin_family = AF_INET, .sin_port = htons((uint16_t)port), .sin_addr.s_addr = htonl(INADDR_LOOPBACK)};
     if (connect(fd, (struct sockaddr *)&at, sizeof at)) {
@@ -172,19 +182,20 @@ int main(int count, char **words)
     if (count < 6)
         return 2;
     compact = !strcmp(words[1], "compact");
-    int port = atoi(words[2]), connections = atoi(words[3]);
+    read_ports(words[2]);
+    int connections = atoi(words[3]);
     size_t open = (size_t)atol(words[4]);
     total = left_to_begin = atol(words[5]);
-    if (open > MOST_OPEN || connections > 4096 || total < 1)
+    if (port_count == 0 || open > MOST_OPEN || connections > 4096 || total < 1)
         return 2;
     times = malloc((size_t)total * sizeof *times);
     for (int i = 0; i < (count > 6 ? atoi(words[6]) : 0); i++)
-        connect_to(port);
+        open_connection();
     int poll = epoll_create1(0);
     struct connection **all = calloc((size_t)connections, sizeof *all);
     for (int i = 0; i < connections; i++) {
         struct connection *c = calloc(1, sizeof *c);
-        c->fd = connect_to(port);
+        c->fd = open_connection();
         struct epoll_event event = {.events = EPOLLIN, .data.ptr = c};
         epoll_ctl(poll, EPOLL_CTL_ADD, c->fd, &event);
         all[i] = c;
