@@ -8,8 +8,8 @@ Without names all trials are run, in some three minutes; SECONDS, 60 by default,
     crates/thrift_gate/out/thrift_gate serve binary binary LISTEN TARGET --accept C --sessions N --limit 1024
 
 and an upstream that answers each call by its own bytes. THRIFT_GATE names another build of it, COMMAND another
-program, with {listen}, {target}, {accept} and {sessions} in it. After each trial the greatest resident memory of the gateway has to lie within
-what docs/SERVE.md states for its sessions and sockets, and 16 MB. The status is 0 where every trial went well.
+program, with {listen}, {target}, {accept} and {sessions} in it. After each trial the greatest resident memory of the
+gateway has to lie within what docs/SERVE.md states for its sessions and sockets, and 16 MB. The status is 0 where every trial went well.
 `system_calls` is skipped where there is no strace.
 """
 import argparse
