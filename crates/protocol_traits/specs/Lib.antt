@@ -5,3 +5,4 @@ pub mod Follow
 pub mod Heads
 pub mod Steps
 pub mod Room
+pub mod Forms

@@ -7,12 +7,16 @@
 
 mod fault;
 mod following;
+mod form_traits;
+mod forms;
 mod nest;
 mod proto;
 mod traits;
 
 pub use fault::{Bar, Fault, Reason};
 pub use following::{follow, follow_in};
+pub use form_traits::{FormRead, FormWrite, UUID, WIDE};
+pub use forms::{Container, Lead, Opening, Pairs, Span, Stand};
 pub use nest::{DEPTH, Nest, Slot};
 pub use proto::{Head, Hint, Mark, Proto};
 pub use traits::{ReadRules, WireRead, WireWrite};
