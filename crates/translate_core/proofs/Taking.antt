@@ -24,7 +24,7 @@ use Rattle.translate_core.specs.Body.{Source, Target, going, moved, whole}
 use Rattle.translate_core.specs.Quick.{Spot, spot, Takes, rest_from}
 use Rattle.translate_core.proofs.Whole.{whole_step}
 
-spent_length : (nest : List Slot) → length (spent nest) ≡ length nest
+pub spent_length : (nest : List Slot) → length (spent nest) ≡ length nest
 spent_length [] = refl
 spent_length (slots.Fields last ∷ up) = refl
 spent_length (slots.Value kind id ∷ up) = refl

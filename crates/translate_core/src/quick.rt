@@ -66,6 +66,9 @@ pub fn take_fields<R: FormRead, W: FormWrite, K: Known>(
                 written,
             });
         }
+        if let Lead::Bad = lead {
+            return None;
+        }
         let reach = take_field::<R, W, K>(
             known, schema, frame, at, cells, to, opening, last, lead, id, behind, depth,
         )?;
@@ -96,7 +99,7 @@ fn take_field<R: FormRead, W: FormWrite, K: Known>(
     requires known { K.sound known schema.now }
     requires informed { Informs K.tells R.hinted W.hinted W.marked }
     requires size { length frame.now < 2 ^ 31 }
-    requires place { (lead ≡ Lead.Bad → ⊥) → IsPast at frame.now behind }
+    requires place { IsPast at frame.now behind }
     requires room { HasRoom BEFORE_FIELD frame.now at cells.old to }
     requires shallow { depth ≤ 256 }
     ensures kept { length cells.new ≡ length cells.old }
