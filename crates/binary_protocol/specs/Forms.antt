@@ -97,10 +97,11 @@ pub read_there : (frame : List ℕ) (at taken : ℕ) (opening : Opening) (nest :
     → first_of nest ≡ Some slot → item_in (length nest) slot (drop at frame) ≡ Ok (item, taken) → Steps next_read stands_at frame at opening nest hint item (at + taken)
 read_there frame at taken opening nest hint slot item first found s there =
     let now : rest s ≡ drop at frame = ap (λ (n : ℕ). drop n s.frame) there.1 ∙ ap (drop at) there.0 in
-    let deep : item_in (length s.nest) slot (rest s) ≡ Ok (item, taken) = ap (λ (n : List Slot). item_in (length n) slot (rest s)) there.2 ∙ ap (item_in (length nest) slot) now ∙ found in
-    (record { frame = s.frame; place = s.place + taken; value = s.place; nest = after item s.nest },
-    reads_ok s slot (length s.nest) item taken (ap first_of there.2 ∙ first) refl (sym deep),
-    (there.0, ap (λ n. n + taken) there.1, ap (after item) there.2))
+    let deep : item_in (length s.nest) slot (rest s) ≡ Ok (item, taken) = ap (λ (n : List Slot). item_in (length n) slot (rest s)) there.2 ∙ ap (item_in (length nest) slot) now ∙ found in (
+      record { frame = s.frame; place = s.place + taken; value = s.place; nest = after item s.nest },
+      reads_ok s slot (length s.nest) item taken (ap first_of there.2 ∙ first) refl (sym deep),
+      (there.0, ap (λ n. n + taken) there.1, ap (after item) there.2),
+    )
 
 in_level : (depth : ℕ) (slot : Slot) (kind : Kind) (bytes : List ℕ) → called_for slot ≡ calls.Value kind → item_in depth slot bytes ≡ value_in depth kind bytes
 in_level depth slot kind bytes calls_for = rw calls_for refl
@@ -347,6 +348,7 @@ blank_found bytes key value long first second found =
   where
     none_at : zero_at (drop 2 bytes) ≡ Ok (0, 4)
     none_at = zero_there (drop 2 bytes) found
+
     split : (first second : Option Kind) → Finds bytes (shifted 2 (map_of first second (drop 2 bytes))) empty_map 6
     split None second = rw none_at (refl, long)
     split (Some key) None = rw none_at (refl, long)
