@@ -6,3 +6,5 @@ pub mod Heads
 pub mod Reading
 pub mod Plain
 pub mod Laws
+pub mod Forms
+pub mod WriteForms

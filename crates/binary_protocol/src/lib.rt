@@ -3,12 +3,15 @@
 #![tactic(auto)]
 
 mod codes;
+mod forms;
 mod head;
 mod protocol;
+mod read_forms;
 mod reader;
 mod scan;
 #[cfg(test)]
 mod tests;
+mod write_forms;
 mod writer;
 
 pub use reader::BinaryRead;

@@ -1,5 +1,8 @@
 -- Lemmas.
 pub mod Carrying
+pub mod Fronts
 pub mod Groups
+pub mod Laid
 pub mod Meaning
 pub mod Shortest
+pub mod Words

@@ -1,4 +1,5 @@
 -- Numbers as bytes, and signed numbers as unsigned ones.
 pub mod Bounds
+pub mod Places
 pub mod Varint
 pub mod Zigzag

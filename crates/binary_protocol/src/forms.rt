@@ -1,0 +1,209 @@
+//! One item at the front of some bytes, by value. None says nothing of the bytes.
+ghost use Rattle.std.specs.Prelude.{◌≡◌, ◌≤◌, ◌+◌, ◌^◌, ◌<◌, drop, take, length, IfSome};
+ghost use Rattle.std.specs.Int.{w64, to_be_bytes};
+ghost use Rattle.thrift_value.specs.declared.kind.Kind.{Kind};
+ghost use Rattle.thrift_value.specs.Items.{bool_value, i8_value, i16_value, i32_value, i64_value, double_value};
+ghost use Rattle.protocol_traits.specs.Forms.{lead_item, pairs_item};
+ghost use Rattle.binary_protocol.specs.Scan.{field_at, bool_at, i8_at, i16_at, i32_at, i64_at, double_at, size_at, string_at, elements_at, map_at, is_bad_kind};
+ghost use Rattle.binary_protocol.specs.Forms.{Finds, IsGood, lead_of};
+
+use crate::codes::kind_of_code;
+use protocol_traits::Lead;
+use thrift_value::Kind;
+
+/// A field's kind and id or the end of the struct, and the number of bytes.
+#[inline(always)]
+pub fn lead_front(bytes: &[u8]) -> Option<(Lead, i16, usize)>
+    ensures within { IfSome result (λ x. x.2 ≤ length bytes.now) }
+    ensures found { IfSome result (λ x. IsGood x.0 → Finds bytes.now (field_at bytes.now) (lead_item x.0 x.1) x.2) }
+{
+    if bytes.len() >= 3 {
+        let id = i16::from_be_bytes([bytes[1], bytes[2]]);
+        let (lead, taken) = lead_of(bytes[0]);
+        return Some((lead, id, taken));
+    }
+    if !bytes.is_empty() && bytes[0] == 0 {
+        return Some((Lead::Stop, 0, 1));
+    }
+    None
+}
+
+/// What a field's first byte stands for, and how many bytes it begins.
+#[inline(always)]
+fn lead_of(code: u8) -> (Lead, usize)
+    ensures told { result ≡ lead_of code }
+    ensures few { result.1 ≤ 3 }
+{
+    match code {
+        0 => (Lead::Stop, 1),
+        2 => (Lead::Bool, 3),
+        3 => (Lead::I8, 3),
+        4 => (Lead::Double, 3),
+        6 => (Lead::I16, 3),
+        8 => (Lead::I32, 3),
+        10 => (Lead::I64, 3),
+        11 => (Lead::Str, 3),
+        12 => (Lead::Struct, 3),
+        13 => (Lead::Map, 3),
+        14 => (Lead::Set, 3),
+        15 => (Lead::List, 3),
+        16 => (Lead::Uuid, 3),
+        _ => (Lead::Bad, 3),
+    }
+}
+
+/// A bool, in one byte.
+#[inline(always)]
+#[tactic(auto, unfolding(crate::specs::Scan::bool_at))]
+pub fn bool_front(bytes: &[u8]) -> Option<bool>
+    ensures { IfSome result (λ b. Finds bytes.now (bool_at bytes.now) (bool_value b) 1) }
+{
+    if bytes.is_empty() {
+        return None;
+    }
+    match bytes[0] {
+        0 => Some(false),
+        1 => Some(true),
+        _ => None,
+    }
+}
+
+/// An i8, in one byte.
+#[inline(always)]
+#[tactic(auto, unfolding(crate::specs::Scan::i8_at))]
+pub fn i8_front(bytes: &[u8]) -> Option<i8>
+    ensures { IfSome result (λ n. Finds bytes.now (i8_at bytes.now) (i8_value n) 1) }
+{
+    if bytes.is_empty() {
+        return None;
+    }
+    Some(i8::from_be_bytes([bytes[0]]))
+}
+
+/// An i16, in two bytes.
+#[inline(always)]
+#[tactic(auto, unfolding(crate::specs::Scan::i16_at))]
+pub fn i16_front(bytes: &[u8]) -> Option<i16>
+    ensures { IfSome result (λ n. Finds bytes.now (i16_at bytes.now) (i16_value n) 2) }
+{
+    if bytes.len() < 2 {
+        return None;
+    }
+    Some(i16::from_be_bytes([bytes[0], bytes[1]]))
+}
+
+/// An i32, in four bytes.
+#[inline(always)]
+#[tactic(auto, unfolding(crate::specs::Scan::i32_at))]
+pub fn i32_front(bytes: &[u8]) -> Option<i32>
+    ensures { IfSome result (λ n. Finds bytes.now (i32_at bytes.now) (i32_value n) 4) }
+{
+    if bytes.len() < 4 {
+        return None;
+    }
+    Some(i32::from_be_bytes([bytes[0], bytes[1], bytes[2], bytes[3]]))
+}
+
+/// An i64, in eight bytes.
+#[inline(always)]
+#[tactic(auto, unfolding(crate::specs::Scan::i64_at))]
+pub fn i64_front(bytes: &[u8]) -> Option<i64>
+    ensures { IfSome result (λ n. Finds bytes.now (i64_at bytes.now) (i64_value n) 8) }
+{
+    if bytes.len() < 8 {
+        return None;
+    }
+    Some(i64::from_be_bytes([
+        bytes[0], bytes[1], bytes[2], bytes[3], bytes[4], bytes[5], bytes[6], bytes[7],
+    ]))
+}
+
+/// A double's eight bytes, as the number that they make big endian.
+#[inline(always)]
+#[tactic(auto, unfolding(crate::specs::Scan::double_at))]
+pub fn double_front(bytes: &[u8]) -> Option<u64>
+    ensures { IfSome result (λ n. Finds bytes.now (double_at bytes.now) (double_value (to_be_bytes w64 n)) 8) }
+{
+    if bytes.len() < 8 {
+        return None;
+    }
+    Some(u64::from_be_bytes([
+        bytes[0], bytes[1], bytes[2], bytes[3], bytes[4], bytes[5], bytes[6], bytes[7],
+    ]))
+}
+
+/// A size or length, in four bytes.
+#[inline(always)]
+#[tactic(auto, unfolding(crate::specs::Scan::size_at))]
+pub fn size_front(bytes: &[u8]) -> Option<u32>
+    ensures { IfSome result (λ n. Finds bytes.now (size_at bytes.now) n 4) }
+{
+    if bytes.len() < 4 {
+        return None;
+    }
+    let size = u32::from_be_bytes([bytes[0], bytes[1], bytes[2], bytes[3]]);
+    if size < 0x8000_0000 { Some(size) } else { None }
+}
+
+/// The length of a text whose bytes stand behind it.
+#[inline(always)]
+#[tactic(auto, unfolding(crate::specs::Scan::string_at))]
+pub fn length_front(bytes: &[u8]) -> Option<usize>
+    ensures { IfSome result (λ n. Finds bytes.now (string_at bytes.now) (take n (drop 4 bytes.now)) (n + 4)) }
+{
+    let size = size_front(bytes)? as usize;
+    if bytes.len() - 4 < size {
+        return None;
+    }
+    Some(size)
+}
+
+/// What stands before the elements of a list or set, in five bytes.
+#[inline(always)]
+#[tactic(auto, unfolding(crate::specs::Scan::elements_at))]
+pub fn elements_front(bytes: &[u8]) -> Option<(Kind, u32)>
+    ensures { IfSome result (λ x. Finds bytes.now (elements_at bytes.now) x 5) }
+{
+    if bytes.is_empty() {
+        return None;
+    }
+    let size = size_front(&bytes[1..])?;
+    let kind = kind_of_code(bytes[0])?;
+    Some((kind, size))
+}
+
+/// The kinds and the number of a map's pairs, in six bytes. An empty map may have the byte 0 in the place of a kind.
+#[inline(always)]
+pub fn pairs_front(bytes: &[u8]) -> Option<(Kind, Kind, u32)>
+    ensures { IfSome result (λ x. Finds bytes.now (map_at bytes.now) (pairs_item x.0 x.1 x.2) 6) }
+{
+    if bytes.len() < 6 {
+        return None;
+    }
+    let size = size_front(&bytes[2..])?;
+    match (kind_of_code(bytes[0]), kind_of_code(bytes[1])) {
+        (Some(key), Some(value)) => Some((key, value, size)),
+        _ => blank_front(bytes, size),
+    }
+}
+
+/// An empty map where a kind is 0.
+#[inline(always)]
+fn blank_front(bytes: &[u8], size: u32) -> Option<(Kind, Kind, u32)>
+    requires long { 6 ≤ length bytes.now }
+    requires size { Finds (drop 2 bytes.now) (size_at (drop 2 bytes.now)) size 4 }
+    ensures { IfSome result (λ x. Finds bytes.now (map_at bytes.now) (pairs_item x.0 x.1 x.2) 6) }
+{
+    if size > 0 || is_bad_kind(bytes[0]) || is_bad_kind(bytes[1]) {
+        return None;
+    }
+    Some((Kind::Bool, Kind::Bool, 0))
+}
+
+/// A map's kind byte that is neither 0 nor a kind's.
+#[inline(always)]
+fn is_bad_kind(code: u8) -> bool
+    ensures { result ≡ is_bad_kind code }
+{
+    code != 0 && kind_of_code(code).is_none()
+}

@@ -1,0 +1,41 @@
+-- Numbers at a place, and the groups of seven bits that they are made of.
+use Rattle.std.specs.Prelude.{◌≡◌, ℕ, zero, suc, ◌+◌, ◌*◌, ◌%◌, ◌<◌, ◌≤◌, Bool, nat_lt, List, [], ◌∷◌, length, Option, Some, None, Result, Ok, Err}
+use Rattle.varint_zigzag.specs.declared.fault.VarFault.{VarFault}
+
+-- the number that was found at a place, and the place behind it
+abbrev pub found_at : ℕ → Result (ℕ × ℕ) VarFault → Option (ℕ × ℕ)
+found_at at (Ok x) = Some (x.0, at + x.1)
+found_at at (Err fault) = None
+
+-- a byte below 128 is a number's last
+abbrev pub is_last : ℕ → Bool
+is_last b = nat_lt b 128
+
+-- so many bytes end a number: each but the last has its high bit set
+abbrev pub IsEnded : ℕ → List ℕ → Type 0
+IsEnded zero bytes = ⊥
+IsEnded (suc zero) [] = ⊥
+IsEnded (suc zero) (b ∷ bytes) = b < 128
+IsEnded (suc (suc n)) [] = ⊥
+IsEnded (suc (suc n)) (b ∷ bytes) = (128 ≤ b) × IsEnded (suc n) bytes
+
+-- the number that the seven low bits of so many bytes make, the lowest first
+abbrev pub groups_of : ℕ → List ℕ → ℕ
+groups_of zero bytes = 0
+groups_of (suc n) [] = 0
+groups_of (suc n) (b ∷ bytes) = b % 128 + 128 * groups_of n bytes
+
+-- the bytes begin with this number, in so many of them, at most eight
+pub record IsFront (bytes : List ℕ) (number count : ℕ) : Type 0 where
+  pub ended : IsEnded count bytes
+  pub number_is : number ≡ groups_of count bytes
+  pub few : count ≤ 8
+
+abbrev pub AllBelow : ℕ → List ℕ → Type 0
+AllBelow bound [] = Unit {0}
+AllBelow bound (x ∷ xs) = (x < bound) × AllBelow bound xs
+
+-- eight groups of seven bits
+pub record AreGroups (groups : List ℕ) : Type 0 where
+  pub eight : length groups ≡ 8
+  pub small : AllBelow 128 groups

@@ -1,0 +1,98 @@
+//! The shortest bytes of a number, laid into cells eight at a time, so that how many they are costs no jump.
+ghost use Rattle.std.specs.Prelude.{◌≡◌, ℕ, List, ◌≤◌, ◌<◌, ◌+◌, ◌^◌, ◌++◌, length, take, drop};
+ghost use Rattle.std.specs.Int.{to_le_bytes, w64};
+ghost use Rattle.std.specs.Simd.Lanes.{number_l};
+ghost use Rattle.varint_zigzag.specs.Varint.{shortest};
+ghost use Rattle.varint_zigzag.specs.Places.{AreGroups};
+
+/// So many bytes are laid at once.
+const WORD: usize = 8;
+
+/// The high bit of each byte of a word.
+const HIGH_BITS: u64 = 0x8080_8080_8080_8080;
+
+/// The numbers below it have at most eight bytes.
+const SHORT: u64 = 1 << 56;
+
+/// Lays the shortest bytes of a number, one to ten, into the cells from a place on, and gives the place behind them.
+/// The cells behind that, up to ten from the first, may be written over (the varints of the Compact protocol
+/// specification).
+#[inline(always)]
+pub fn put_u64(cells: &mut [u8], to: usize, v: u64) -> usize
+    requires { to + 10 ≤ length cells.old }
+    ensures laid { take result cells.new ≡ take to cells.old ++ shortest v }
+    ensures place { result ≡ to + length (shortest v) }
+{
+    if v < SHORT {
+        put_short(cells, to, v)
+    } else {
+        put_long(cells, to, v)
+    }
+}
+
+/// `put_u64` of a number below 2^32, which has at most five bytes.
+#[inline(always)]
+pub fn put_u32(cells: &mut [u8], to: usize, v: u32) -> usize
+    requires { to + 8 ≤ length cells.old }
+    ensures laid { take result cells.new ≡ take to cells.old ++ shortest v }
+    ensures place { result ≡ to + length (shortest v) }
+{
+    put_short(cells, to, u64::from(v))
+}
+
+// Lays at most eight bytes.
+#[inline(always)]
+fn put_short(cells: &mut [u8], to: usize, v: u64) -> usize
+    requires small { v < 2 ^ 56 }
+    requires room { to + 8 ≤ length cells.old }
+    ensures laid { take result cells.new ≡ take to cells.old ++ shortest v }
+    ensures place { result ≡ to + length (shortest v) }
+{
+    let bits = 64 - (v | 1).leading_zeros();
+    let count = (9 * bits + 64) / 64;
+    let last = 0x80 << (8 * count - 8);
+    put_word(cells, to, spread(v) + (HIGH_BITS - last));
+    to + count as usize
+}
+
+// Lays nine or ten bytes.
+#[inline(always)]
+fn put_long(cells: &mut [u8], to: usize, v: u64) -> usize
+    requires large { 2 ^ 56 ≤ v }
+    requires room { to + 10 ≤ length cells.old }
+    ensures laid { take result cells.new ≡ take to cells.old ++ shortest v }
+    ensures place { result ≡ to + length (shortest v) }
+{
+    let ninth = (v >> 56) as u8;
+    put_word(cells, to, spread(v % SHORT) + HIGH_BITS);
+    put_two(cells, to + WORD, [ninth, 1]);
+    to + 9 + (ninth / 128) as usize
+}
+
+// Lays eight bytes, the lowest first.
+#[inline(always)]
+fn put_word(cells: &mut [u8], to: usize, word: u64)
+    requires { to + 8 ≤ length cells.old }
+    ensures { cells.new ≡ take to cells.old ++ to_le_bytes w64 word ++ drop (to + 8) cells.old }
+{
+    cells[to..to + WORD].copy_from_slice(&word.to_le_bytes());
+}
+
+// Lays two bytes.
+#[inline(always)]
+fn put_two(cells: &mut [u8], to: usize, two: [u8; 2])
+    requires { to + 2 ≤ length cells.old }
+    ensures { cells.new ≡ take to cells.old ++ two ++ drop (to + 2) cells.old }
+{
+    cells[to..to + 2].copy_from_slice(&two);
+}
+
+// Eight groups of seven bits, each in a byte of its own.
+#[inline(always)]
+fn spread(number: u64) -> u64
+    ensures { (groups : List ℕ) → AreGroups groups → number ≡ number_l 128 groups → result ≡ number_l 256 groups }
+{
+    let fours = (number & 0x0000_0000_0fff_ffff) + ((number & 0x00ff_ffff_f000_0000) << 4);
+    let pairs = (fours & 0x0000_3fff_0000_3fff) + ((fours & 0x0fff_c000_0fff_c000) << 2);
+    (pairs & 0x007f_007f_007f_007f) + ((pairs & 0x3f80_3f80_3f80_3f80) << 1)
+}

@@ -1,0 +1,188 @@
+//! The number at a place of some bytes. Its bytes are looked at eight at a time, so that how long it is costs no jump.
+ghost use Rattle.std.specs.Prelude.{◌≡◌, ℕ, List, ◌≤◌, ◌+◌, length, take, drop, IfSome, map, nat_lt};
+ghost use Rattle.std.specs.Simd.Lanes.{mask_l, number_l};
+ghost use Rattle.varint_zigzag.specs.Varint.{varint_at};
+ghost use Rattle.varint_zigzag.specs.Places.{found_at, is_last, IsFront, AreGroups};
+
+use crate::reading::{read_u16, read_u32, read_u64};
+use std::simd::prelude::*;
+
+/// So many bytes are looked at together.
+const WORD: usize = 8;
+
+/// The most bytes of a number of 64 bits.
+const LONG: usize = 10;
+
+/// The most bytes of a number of 16 or 32 bits.
+const MOST: usize = 5;
+
+/// The seven low bits of each byte of a word.
+const LOW_BITS: u64 = 0x7f7f_7f7f_7f7f_7f7f;
+
+/// The number below 2^16 that stands at a place, of at most five bytes, and the place behind it. It may be padded.
+///
+/// None where no such number stands there (the varints of the Compact protocol specification).
+#[inline(always)]
+pub fn read_u16_at(bytes: &[u8], at: usize) -> Option<(u16, usize)>
+    requires { at ≤ length bytes.now }
+    ensures within { IfSome result (λ found. found.1 ≤ length bytes.now) }
+    ensures exact { result ≡ found_at at (varint_at 5 16 (drop at bytes.now)) }
+{
+    if let Some((number, count)) = front_of(bytes, at) {
+        if count <= MOST && number < 1 << 16 {
+            return Some((number as u16, at + count));
+        }
+    }
+    rest_u16(bytes, at)
+}
+
+/// The number below 2^32 that stands at a place, of at most five bytes, and the place behind it. It may be padded.
+///
+/// None where no such number stands there (the varints of the Compact protocol specification).
+#[inline(always)]
+pub fn read_u32_at(bytes: &[u8], at: usize) -> Option<(u32, usize)>
+    requires { at ≤ length bytes.now }
+    ensures within { IfSome result (λ found. found.1 ≤ length bytes.now) }
+    ensures exact { result ≡ found_at at (varint_at 5 32 (drop at bytes.now)) }
+{
+    if let Some((number, count)) = front_of(bytes, at) {
+        if count <= MOST && number < 1 << 32 {
+            return Some((number as u32, at + count));
+        }
+    }
+    rest_u32(bytes, at)
+}
+
+/// The number below 2^64 that stands at a place, of at most ten bytes, and the place behind it. It may be padded.
+///
+/// None where no such number stands there (the varints of the Compact protocol specification).
+#[inline(always)]
+pub fn read_u64_at(bytes: &[u8], at: usize) -> Option<(u64, usize)>
+    requires { at ≤ length bytes.now }
+    ensures within { IfSome result (λ found. found.1 ≤ length bytes.now) }
+    ensures exact { result ≡ found_at at (varint_at 10 64 (drop at bytes.now)) }
+{
+    if let Some((number, count)) = front_of(bytes, at) {
+        return Some((number, at + count));
+    }
+    if let Some((number, count)) = long_front_of(bytes, at) {
+        return Some((number, at + count));
+    }
+    rest_u64(bytes, at)
+}
+
+// The same group by group: near the end of the bytes, and where a number is long.
+#[inline(never)]
+fn rest_u16(bytes: &[u8], at: usize) -> Option<(u16, usize)>
+    requires { at ≤ length bytes.now }
+    ensures within { IfSome result (λ found. found.1 ≤ length bytes.now) }
+    ensures exact { result ≡ found_at at (varint_at 5 16 (drop at bytes.now)) }
+{
+    match read_u16(&bytes[at..]) {
+        Ok((number, used)) => Some((number, at + used)),
+        Err(_) => None,
+    }
+}
+
+#[inline(never)]
+fn rest_u32(bytes: &[u8], at: usize) -> Option<(u32, usize)>
+    requires { at ≤ length bytes.now }
+    ensures within { IfSome result (λ found. found.1 ≤ length bytes.now) }
+    ensures exact { result ≡ found_at at (varint_at 5 32 (drop at bytes.now)) }
+{
+    match read_u32(&bytes[at..]) {
+        Ok((number, used)) => Some((number, at + used)),
+        Err(_) => None,
+    }
+}
+
+#[inline(never)]
+fn rest_u64(bytes: &[u8], at: usize) -> Option<(u64, usize)>
+    requires { at ≤ length bytes.now }
+    ensures within { IfSome result (λ found. found.1 ≤ length bytes.now) }
+    ensures exact { result ≡ found_at at (varint_at 10 64 (drop at bytes.now)) }
+{
+    match read_u64(&bytes[at..]) {
+        Ok((number, used)) => Some((number, at + used)),
+        Err(_) => None,
+    }
+}
+
+// The number whose last byte is one of the eight at a place, and how many bytes it has.
+#[inline(always)]
+fn front_of(bytes: &[u8], at: usize) -> Option<(u64, usize)>
+    requires { at ≤ length bytes.now }
+    ensures { IfSome result (λ found. IsFront (drop at bytes.now) found.0 found.1) }
+{
+    if bytes.len() - at < WORD {
+        return None;
+    }
+    let ends = ends_at(bytes, at);
+    if ends == 0 {
+        return None;
+    }
+    let before = ends.trailing_zeros();
+    let own = word_at(bytes, at) & (u64::MAX >> (56 - 8 * before));
+    Some((gathered(own & LOW_BITS), before as usize + 1))
+}
+
+// Eight bytes as a number, the lowest first.
+#[inline(always)]
+fn word_at(bytes: &[u8], at: usize) -> u64
+    requires { at + 8 ≤ length bytes.now }
+    ensures { result ≡ number_l 256 (take 8 (drop at bytes.now)) }
+{
+    u64::from_le_bytes([
+        bytes[at],
+        bytes[at + 1],
+        bytes[at + 2],
+        bytes[at + 3],
+        bytes[at + 4],
+        bytes[at + 5],
+        bytes[at + 6],
+        bytes[at + 7],
+    ])
+}
+
+// A bit for each of the eight bytes at a place, set where the byte ends a number.
+#[inline(always)]
+fn ends_at(bytes: &[u8], at: usize) -> u64
+    requires { at + 8 ≤ length bytes.now }
+    ensures { result ≡ mask_l (map is_last (take 8 (drop at bytes.now))) }
+{
+    u8x8::from_slice(&bytes[at..])
+        .simd_lt(u8x8::splat(128))
+        .to_bitmask()
+}
+
+// A number of nine or ten bytes.
+#[inline(always)]
+fn long_front_of(bytes: &[u8], at: usize) -> Option<(u64, usize)>
+    requires { at ≤ length bytes.now }
+    ensures within { IfSome result (λ found. at + found.1 ≤ length bytes.now) }
+    ensures found { IfSome result (λ found. varint_at 10 64 (drop at bytes.now) ≡ Ok (found.0, found.1)) }
+{
+    if bytes.len() - at < LONG || ends_at(bytes, at) != 0 {
+        return None;
+    }
+    let ninth = bytes[at + 8];
+    let tenth = bytes[at + 9];
+    let low = gathered(word_at(bytes, at) & LOW_BITS) + (u64::from(ninth % 128) << 56);
+    if ninth < 128 {
+        return Some((low, 9));
+    }
+    if tenth < 2 {
+        return Some((low + (u64::from(tenth) << 63), LONG));
+    }
+    None
+}
+
+// Eight groups of seven bits, one a byte, without the bits between them.
+#[inline(always)]
+fn gathered(word: u64) -> u64
+    ensures { (groups : List ℕ) → AreGroups groups → word ≡ number_l 256 groups → result ≡ number_l 128 groups }
+{
+    let pairs = (word & 0x007f_007f_007f_007f) + ((word & 0x7f00_7f00_7f00_7f00) >> 1);
+    let fours = (pairs & 0x0000_3fff_0000_3fff) + ((pairs & 0x3fff_0000_3fff_0000) >> 2);
+    (fours & 0x0000_0000_0fff_ffff) + ((fours & 0x0fff_ffff_0000_0000) >> 4)
+}
