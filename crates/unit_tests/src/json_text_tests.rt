@@ -1,6 +1,6 @@
 //! Vectors of RFC 4648, section 10, and numbers and strings of RFC 8259.
-use crate::{Scan, read_blob, read_int, read_number, read_text, write_blob, write_text};
 use gate_io::Out;
+use json_text::{Scan, read_blob, read_int, read_number, read_text, write_blob, write_text};
 use std::test::Fail;
 
 #[test]

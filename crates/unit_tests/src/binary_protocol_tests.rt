@@ -1,7 +1,7 @@
 //! Frames with their events, faults and plain spellings, written out by hand from the protocol's specification.
 ghost use Rattle.std.specs.Prelude.{◌<◌, ◌^◌, length};
 
-use crate::{BinaryRead, BinaryWrite};
+use binary_protocol::{BinaryRead, BinaryWrite};
 use gate_io::Out;
 use protocol_traits::{Fault, Head, Hint, Mark, Reason, WireWrite};
 use std::test::Fail;

@@ -1,19 +1,9 @@
-//! The standard streams over a slice and a vector, a file of the disk, and a hub in memory.
-use super::*;
+//! A hub in memory that does its steps.
+use gate_io::{
+    Began, Hub, HubNext, HubStep, HubSteps, LinkGot, LinkPut, MemHub, OutOfMemory, Side, Text,
+};
 use std::alloc::Global;
 use std::test::*;
-
-#[test]
-fn reads_and_writes(rt: HostRuntime) -> Result<(), Fail> {
-    let mut input = StdSource::new(b"ab".as_slice());
-    let mut into = [0; 4];
-    assert_eq!(rt; input.read(&mut into), Got::Bytes(2));
-    assert_eq!(rt; into, [b'a', b'b', 0, 0]);
-    assert_eq!(rt; input.read(&mut into), Got::End);
-    let mut output = StdSink::new(Vec::new(rt.alloc()));
-    assert_eq!(rt; output.write(b"ab"), Put::Took(2));
-    Ok(())
-}
 
 /// What the outside does: bytes and an end, more behind the end, room for one byte, a session that
 /// is not there, a fault.
@@ -72,24 +62,5 @@ fn a_hub_does_its_steps(rt: HostRuntime) -> Result<(), Fail> {
         assert_eq!(rt; hub.write(0, Side::Upstream, b"xy"), put);
     }
     assert_eq!(rt; hub.sent_to(0, Side::Upstream), b"x".as_slice());
-    Ok(())
-}
-
-/// A file that the system itself keeps, so that nothing has to be written first.
-#[test]
-fn reads_a_file(rt: HostRuntime) -> Result<(), Fail> {
-    let alloc = rt.alloc();
-    let mut files = DiskFiles::new(&rt);
-    match files.fetch(alloc, b"/proc/self/status") {
-        Fetched::Found(text) => assert!(rt; text.as_slice().starts_with(b"Name:")),
-        _ => assert!(rt; false),
-    }
-    assert!(rt;
-        matches!(
-            files.fetch(alloc, b"/proc/thrift_gate\xff"),
-            Fetched::Absent
-        )
-    );
-    assert!(rt; matches!(files.fetch(alloc, b"/proc"), Fetched::Failed));
     Ok(())
 }

@@ -1,7 +1,7 @@
 //! No message, and two seeds whose message is short: an empty list, and one item.
 ghost use Rattle.std.specs.Prelude.{◌≤◌};
 
-use super::*;
+use drill_messages::{Drilled, Totals, drill};
 use gate_io::{Fails, MemSink, OutOfMemory};
 use std::alloc::Global;
 use std::test::*;

@@ -1,7 +1,7 @@
 use Rattle.std.proofs.Common.{arith, ap, length, ◌∷◌, [], length-append}
 use Rattle.json_text.specs.Plain.{text_spelling}
 use Rattle.json_text.specs.Lengths.{text_long, blob_long}
-use Rattle.json_text.proofs.tests.words_are_written.Goals as goal
+use Rattle.unit_tests.proofs.json_text_tests.words_are_written.Goals as goal
 
 pub write_text-requires : goal.write_text-requires
 write_text-requires g c = let long = text_long (97 ∷ 34 ∷ 1 ∷ []) in omega (arith, ap (λ o. length o.bytes) c.in-Ok.ensures, ap (λ o. o.room) c.in-Ok.ensures)

@@ -1,6 +1,6 @@
 //! Lines of a few messages.
-use crate::{Shown, show};
 use gate_io::{Fails, MemSink, OutOfMemory};
+use message_show::{Shown, show};
 use protocol_traits::{Fault, Proto, Reason};
 use std::alloc::Global;
 use std::test::*;

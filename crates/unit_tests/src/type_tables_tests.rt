@@ -1,8 +1,8 @@
 //! A struct whose fields are declared in no order of ids.
-use super::*;
 use gate_io::Text;
 use std::alloc::Global;
 use std::test::*;
+use type_tables::{FieldInfo, FieldList, Form, Need, Schema, SchemaBuilder, StructId, Ty};
 
 /// A schema whose last struct has fields with the ids 5, 1 and -1, in this order.
 fn schema(alloc: Global) -> Option<(Schema, StructId)> {

@@ -1,5 +1,5 @@
 //! Messages that are read, and the places of faults.
-use crate::JsonRead;
+use json_protocol::JsonRead;
 use protocol_traits::{Fault, Hint, Reason, WireRead};
 use std::test::Fail;
 

@@ -1,6 +1,6 @@
 //! Small IDLs and their refusals, and one of two files.
-use super::*;
 use gate_io::{Fails, MemFiles};
+use idl_resolve::{IdlRow, LoadError, Loaded, load};
 use std::alloc::Global;
 use std::test::*;
 

@@ -1,7 +1,9 @@
 //! Numbers as the Compact protocol writes them: padded, widest, cut off, too wide.
-use super::*;
 use gate_io::Out;
 use std::test::*;
+use varint_zigzag::{
+    VarFault, read_u16, read_u32, read_u64, unzigzag32, unzigzag64, write_u32, zigzag32, zigzag64,
+};
 
 #[test]
 fn reads_padded_and_short(rt: HostRuntime) {
@@ -17,7 +19,7 @@ fn reads_padded_and_short(rt: HostRuntime) {
 }
 
 #[test]
-#[tactic(auto, unfolding(crate::specs::Varint::shortest))]
+#[tactic(auto, unfolding(varint_zigzag::specs::Varint::shortest))]
 fn writes_and_folds(rt: HostRuntime) -> Result<(), Fail> {
     let mut out = Out::open(rt.alloc(), 20).ok().ok_or("there is memory")?;
     write_u32(300, &mut out);

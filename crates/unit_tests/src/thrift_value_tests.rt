@@ -1,6 +1,6 @@
 //! A body gathered from its events, and events that end early.
-use super::*;
 use std::test::*;
+use thrift_value::{Event, GatherFault, Kind, gather};
 
 #[test]
 fn gathers(rt: HostRuntime) -> Result<(), Fail> {

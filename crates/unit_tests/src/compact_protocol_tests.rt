@@ -1,7 +1,7 @@
 //! Frames with their events, faults and plain spellings, written out by hand from the protocol's specification.
 ghost use Rattle.std.specs.Prelude.{◌<◌, ◌^◌, length};
 
-use crate::CompactRead;
+use compact_protocol::CompactRead;
 use protocol_traits::{Fault, Reason};
 use std::test::Fail;
 use thrift_value::{Event, Kind, MessageType};

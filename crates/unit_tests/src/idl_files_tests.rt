@@ -1,6 +1,6 @@
 //! Small walks: names that meet, and refusals of the walk.
-use super::*;
 use gate_io::{Fails, MemFiles};
+use idl_files::{LoadError, read_files};
 use idl_names::Documents;
 use idl_rules::IdlRow;
 use std::alloc::Global;

@@ -1,5 +1,5 @@
 //! A frame that is written, read and let go.
-use super::*;
+use framed_transport::{FrameBuf, Next, begin, close};
 use gate_io::Out;
 use std::test::*;
 
