@@ -1,7 +1,9 @@
 //! The sessions of a server: events, reads and writes of their two sides, and the counts of what went wrong.
 ghost use Rattle.std.specs.Prelude.{◌≡◌, ◌<◌, ◌≤◌, ℕ, length};
+ghost use Rattle.gate_base.specs.Bytes.{AreBytes};
 ghost use Rattle.gate_base.specs.Causes.{Rose};
-ghost use Rattle.gate_hub.specs.Meaning.{Meaning, IsOpen};
+ghost use Rattle.gate_hub.specs.Meaning.{Meaning, Read, Wrote, Closed, IsOpen, link_of};
+ghost use Rattle.gate_hub.specs.declared.hub.Side.{Side};
 ghost use Rattle.gate_hub.specs.Hubs.{Counts, Leads, Later, Changes, AtSide, LinkReads, LinkWrites, Closes, NextLeads, NotStarted, HasStarted, StartLeads, GotWithin, TookWithin};
 
 use std::alloc::Global;
@@ -103,7 +105,7 @@ pub trait Hub {
     fn read(&mut self, k: u64, side: Side, into: &mut [u8]) -> LinkGot
         requires { 0 < length into.old }
         ensures within { GotWithin into.new result }
-        ensures leads { Leads (tells self.old) (tells self.new) (IsOpen k) (Changes k (AtSide side (LinkReads into.new result))) }
+        ensures leads { Leads (tells self.old) (tells self.new) (IsOpen k) (Changes k (Read k side (length into.old) result) (AtSide side (LinkReads into.new result))) }
         ensures later { Later (counts self.old) (counts self.new) }
         ensures cause { result ≡ LinkGot.Failed → Rose ((counts self.old).link_faults k side) ((counts self.new).link_faults k side) }
         ensures wait { result ≡ LinkGot.NotReady → Rose ((counts self.old).waits k side) ((counts self.new).waits k side) };
@@ -114,13 +116,16 @@ pub trait Hub {
     fn write(&mut self, k: u64, side: Side, from: &[u8]) -> LinkPut
         requires { 0 < length from.now }
         ensures within { TookWithin from.now result }
-        ensures leads { Leads (tells self.old) (tells self.new) (IsOpen k) (Changes k (AtSide side (LinkWrites from.now result))) }
+        ensures leads { Leads (tells self.old) (tells self.new) (IsOpen k) (Changes k (Wrote k side (length from.now) result) (AtSide side (LinkWrites from.now result))) }
         ensures later { Later (counts self.old) (counts self.new) }
         ensures cause { result ≡ LinkPut.Failed → Rose ((counts self.old).link_faults k side) ((counts self.new).link_faults k side) }
         ensures wait { result ≡ LinkPut.NotReady → Rose ((counts self.old).waits k side) ((counts self.new).waits k side) };
 
     /// Marks session k as closed.
     fn close(&mut self, k: u64)
-        ensures leads { Leads (tells self.old) (tells self.new) (IsOpen k) (Changes k Closes) }
+        ensures leads { Leads (tells self.old) (tells self.new) (IsOpen k) (Changes k (Closed k) Closes) }
         ensures later { Later (counts self.old) (counts self.new) };
+
+    /// What it tells that was received consists of bytes.
+    ghost bytes: { (hub : Self) (m : Meaning) → tells hub m → (k : ℕ) (side : Side) → AreBytes (link_of (m.session k) side).received };
 }

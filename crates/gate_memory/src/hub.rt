@@ -1,9 +1,10 @@
 //! A hub in memory, which does what a list of steps says.
 ghost use Rattle.std.specs.Prelude.{◌≡◌, ◌≢◌, ◌<◌, ◌≤◌, ◌++◌, ◌∷◌, [], ℕ, length, true, false, Some, None, Ok, IfOk, OnOk, OnErr};
 ghost use Rattle.gate_base.specs.Causes.{Rose, one_more};
-ghost use Rattle.gate_hub.specs.Meaning.{IsOpen, link_of, reopened};
+ghost use Rattle.gate_hub.specs.Meaning.{IsOpen, Read, Wrote, Closed, link_of, reopened};
 ghost use Rattle.gate_hub.specs.Hubs.{Leads, Later, Changes, AtSide, LinkReads, LinkWrites, Closes, NextLeads, NotStarted, HasStarted, StartLeads, GotWithin, TookWithin};
 ghost use Rattle.gate_memory.specs.Hub.{TellsHub, hub_counts, session_at, is_open_at, told_of, mem_link_of, NoCountFell, PerformsStep, Brings, Steps, StepsBy, step_of, ready, NeedsMemory, changed_session, MakesSession, AtMemSide, StartDoes, NextDoes, ReadDoes, WriteDoes, CloseDoes};
+ghost use Rattle.gate_memory.specs.Laws.{hub_bytes};
 ghost use Rattle.gate_memory.specs.Link.{ReadsLink, WritesLink, changed_by, Grows};
 
 use crate::link::{Change, MemLink, Passed};
@@ -341,7 +342,7 @@ impl Hub for MemHub {
     fn read(&mut self, k: u64, side: Side, into: &mut [u8]) -> LinkGot
         requires { 0 < length into.old }
         ensures within { GotWithin into.new result }
-        ensures leads { Leads (TellsHub self.old) (TellsHub self.new) (IsOpen k) (Changes k (AtSide side (LinkReads into.new result))) }
+        ensures leads { Leads (TellsHub self.old) (TellsHub self.new) (IsOpen k) (Changes k (Read k side (length into.old) result) (AtSide side (LinkReads into.new result))) }
         ensures later { Later (hub_counts self.old) (hub_counts self.new) }
         ensures cause { result ≡ LinkGot.Failed → Rose ((hub_counts self.old).link_faults k side) ((hub_counts self.new).link_faults k side) }
         ensures wait { result ≡ LinkGot.NotReady → Rose ((hub_counts self.old).waits k side) ((hub_counts self.new).waits k side) }
@@ -356,7 +357,7 @@ impl Hub for MemHub {
     fn write(&mut self, k: u64, side: Side, from: &[u8]) -> LinkPut
         requires { 0 < length from.now }
         ensures within { TookWithin from.now result }
-        ensures leads { Leads (TellsHub self.old) (TellsHub self.new) (IsOpen k) (Changes k (AtSide side (LinkWrites from.now result))) }
+        ensures leads { Leads (TellsHub self.old) (TellsHub self.new) (IsOpen k) (Changes k (Wrote k side (length from.now) result) (AtSide side (LinkWrites from.now result))) }
         ensures later { Later (hub_counts self.old) (hub_counts self.new) }
         ensures cause { result ≡ LinkPut.Failed → Rose ((hub_counts self.old).link_faults k side) ((hub_counts self.new).link_faults k side) }
         ensures wait { result ≡ LinkPut.NotReady → Rose ((hub_counts self.old).waits k side) ((hub_counts self.new).waits k side) }
@@ -370,7 +371,7 @@ impl Hub for MemHub {
     }
 
     fn close(&mut self, k: u64)
-        ensures leads { Leads (TellsHub self.old) (TellsHub self.new) (IsOpen k) (Changes k Closes) }
+        ensures leads { Leads (TellsHub self.old) (TellsHub self.new) (IsOpen k) (Changes k (Closed k) Closes) }
         ensures later { Later (hub_counts self.old) (hub_counts self.new) }
         ensures exact { CloseDoes (is_open_at self.old.sessions k) k self.old self.new }
     {
@@ -378,4 +379,6 @@ impl Hub for MemHub {
             self.sessions[k as usize].closed = true;
         }
     }
+
+    ghost bytes = { hub_bytes };
 }

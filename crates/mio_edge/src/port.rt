@@ -60,7 +60,7 @@ impl Port {
             stream: None,
             receiving: Receiving::Idle,
             sending: Sending::Blocked,
-            incoming: Out::open(alloc, room)?,
+            incoming: Out::open_whole(alloc, room)?,
             outgoing: Out::open(alloc, room)?,
         })
     }
