@@ -40,6 +40,11 @@ pub record HubState : Type 0 where
   pub strays : ℕ
   pub refused : ℕ
 
+-- a hub to which nothing happened so far
+abbrev pub new_hub : List HubStep → ℕ → HubState
+new_hub steps chunk =
+    record { steps = steps; chunk = chunk; sessions = []; started = None; last_event = None; events = 0; faults = 0; strays = 0; refused = 0 }
+
 abbrev pub started_of : StartedWith → Started
 started_of with = record { listen = with.listen; upstream = with.upstream; accept = with.accept; sessions = with.sessions }
 
