@@ -1,19 +1,18 @@
 -- The quick forms of the Compact protocol's reader: where it stands, and what one form says of it.
-use Rattle.std.proofs.Common.{◌≡◌, ℕ, ℤ, pos, zero, suc, ◌+◌, ◌-◌, ◌*◌, ◌/◌, ◌%◌, ◌<◌, ◌≤◌, ◌^◌, Bool, true, false, List, [], ◌∷◌, length, take, drop, reverse, get_or, Option, Some, None, Ok, Err, Fits, refl, sym, ap, subst, ◌∙◌, arith, length-drop, length-take}
+use Rattle.std.proofs.Common.{◌≡◌, ℕ, ℤ, pos, zero, suc, ◌+◌, ◌-◌, ◌/◌, ◌%◌, ◌<◌, ◌≤◌, ◌^◌, Bool, true, false, List, [], ◌∷◌, length, take, drop, reverse, get_or, Option, Some, None, Ok, Err, Fits, refl, sym, ap, subst, ◌∙◌, arith, length-drop}
 use Rattle.std.specs.Prelude.{IfOk, IfSome, Result, nat_lt, nat_le, ◌==◌, ◌&&◌, if◌then◌else◌, slice_index}
-use Rattle.std.specs.Int.{w8, w64, from_be_bytes, from_le_bytes, to_be_bytes}
+use Rattle.std.specs.Int.{w8, w64, from_le_bytes, to_be_bytes}
 use Rattle.std.proofs.lemmas.Bool.Decides.{nat_tests}
 use Rattle.std.proofs.lemmas.List.{drop-drop, get_or-drop}
 use Rattle.std.proofs.lemmas.Nat.{be_bytes_8}
 use Rattle.varint_zigzag.specs.declared.fault.VarFault.{VarFault}
-use Rattle.varint_zigzag.specs.declared.fault.VarFault.TheVariants.{Short, Bad}
 use Rattle.varint_zigzag.specs.Bounds.{Found, varint_found}
 use Rattle.varint_zigzag.specs.Places.{found_at}
 use Rattle.varint_zigzag.specs.Varint.{varint_at}
 use Rattle.varint_zigzag.specs.Zigzag.{unfolded}
 use Rattle.thrift_value.specs.declared.kind.Kind.{Kind}
 use Rattle.thrift_value.specs.declared.kind.Kind.TheVariants as kinds
-use Rattle.thrift_value.specs.Items.{Item, field, stop, bool_value, i8_value, i16_value, i32_value, i64_value, double_value, text, struct_begin, empty_map, map_begin, end, uuid_value}
+use Rattle.thrift_value.specs.Items.{Item, field, stop, bool_value, i16_value, i32_value, i64_value, double_value, text, struct_begin, end, uuid_value}
 use Rattle.protocol_traits.specs.declared.forms.Container.{Container}
 use Rattle.protocol_traits.specs.declared.forms.Container.TheVariants as containers
 use Rattle.protocol_traits.specs.declared.forms.Lead.{Lead}
@@ -28,13 +27,13 @@ use Rattle.protocol_traits.specs.declared.nest.Slot.{Slot}
 use Rattle.protocol_traits.specs.declared.nest.Slot.TheVariants as slots
 use Rattle.protocol_traits.specs.declared.proto.Hint.{Hint}
 use Rattle.protocol_traits.specs.Follow.{after}
-use Rattle.protocol_traits.specs.Forms.{lead_item, elements_item, container_kind, pairs_item, part, opening_after, Calls, IsDone, IsPast, Steps, StepsTwice, StepsValue, StepsInto}
+use Rattle.protocol_traits.specs.Forms.{lead_item, elements_item, container_kind, pairs_item, part, Calls, IsDone, Steps, StepsTwice, StepsValue, StepsInto}
 use Rattle.protocol_traits.specs.Heads.{Header}
 use Rattle.protocol_traits.specs.Stack.{first_of}
 use Rattle.protocol_traits.specs.Steps.{Step, told}
 use Rattle.compact_protocol.specs.Codes.{kind_of}
-use Rattle.compact_protocol.specs.Scan.{Scan, ◌>>=◌, fault, shifted, varint_of, varint16_at, varint32_at, varint64_at, id_at, size_at, string_at, next_id, short_field, long_field, field_of, field_at, flag_of, bool_at, i16_at, i32_at, i64_at, double_at, text_at, uuid_at, elements_of, elements_at, set_at, list_at, both_kinds, kinds_at, map_at, value_at, value_in, opens, is_bool, field_value, next_of, item_in, front_at}
-use Rattle.compact_protocol.specs.Reading.{State, rest, begun, moved, reads, named, headed, reads_head, reads_end, scan_at}
+use Rattle.compact_protocol.specs.Scan.{Scan, fault, varint16_at, varint32_at, varint64_at, id_at, size_at, string_at, next_id, long_field, field_of, field_at, flag_of, i16_at, i32_at, i64_at, double_at, text_at, uuid_at, elements_at, set_at, list_at, kinds_at, map_at, value_at, value_in, opens, is_bool, field_value, next_of, item_in}
+use Rattle.compact_protocol.specs.Reading.{State, rest, begun, moved, reads, reads_head, reads_end, scan_at}
 use Rattle.compact_protocol.specs.Laws.{reads_ok, head_fits}
 
 -- no hint tells this reader anything

@@ -1,5 +1,5 @@
 -- The quick forms of the Compact protocol's writer.
-use Rattle.std.proofs.Common.{◌≡◌, ℕ, pos, ◌<◌, List, [], ◌∷◌, length, refl, ap}
+use Rattle.std.proofs.Common.{◌≡◌, pos, ◌<◌, List, [], ◌∷◌, length, refl, ap}
 use Rattle.thrift_value.specs.Items.{Item}
 use Rattle.protocol_traits.specs.declared.forms.Opening.{Opening}
 use Rattle.protocol_traits.specs.declared.forms.Opening.TheVariants as openings

@@ -1,4 +1,4 @@
-use Rattle.std.proofs.Common.{◌+◌, ◌^◌, ◌<◌, arith}
+use Rattle.std.proofs.Common.{◌^◌, ◌<◌, arith}
 use Rattle.varint_zigzag.specs.Bounds.{shortest_most}
 use Rattle.varint_zigzag.proofs.cells.put_u32.Goals as goal
 
