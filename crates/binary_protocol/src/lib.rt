@@ -9,8 +9,6 @@ mod protocol;
 mod read_forms;
 mod reader;
 mod scan;
-#[cfg(test)]
-mod tests;
 mod write_forms;
 mod writer;
 

@@ -10,8 +10,6 @@ mod protocol;
 mod read_forms;
 mod reader;
 mod scan;
-#[cfg(test)]
-mod tests;
 mod values;
 mod write_forms;
 mod writer;

@@ -5,3 +5,4 @@ pub mod Body
 pub mod Judged
 pub mod Texts
 pub mod Answers
+pub mod Quick

@@ -7,8 +7,11 @@
 
 mod answering;
 mod body;
+mod known;
 mod laws;
+mod leaves;
 mod message;
+mod quick;
 mod route;
 mod texts;
 mod verdict;

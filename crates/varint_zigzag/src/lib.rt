@@ -7,8 +7,6 @@ mod fault;
 mod laws;
 mod places;
 mod reading;
-#[cfg(test)]
-mod tests;
 mod writing;
 mod zigzag;
 

@@ -1,0 +1,109 @@
+-- The quick way through a body: what is taken from one place of a frame to another, and how the cells grow by it.
+use Rattle.std.specs.Prelude.{◌≡◌, ℕ, ℤ, ◌+◌, ◌*◌, ◌≤◌, List, Bool, true, ◌∷◌, ◌++◌, length, pos, Some, None}
+use Rattle.thrift_value.specs.declared.kind.Kind.{Kind}
+use Rattle.protocol_traits.specs.declared.forms.Container.{Container}
+use Rattle.protocol_traits.specs.declared.forms.Container.TheVariants as containers
+use Rattle.protocol_traits.specs.declared.forms.Opening.{Opening}
+use Rattle.protocol_traits.specs.declared.forms.Opening.TheVariants as openings
+use Rattle.protocol_traits.specs.declared.forms.Stand.{Stand}
+use Rattle.protocol_traits.specs.declared.nest.Slot.{Slot}
+use Rattle.protocol_traits.specs.declared.nest.Slot.TheVariants as slots
+use Rattle.protocol_traits.specs.Follow.{spent}
+use Rattle.protocol_traits.specs.declared.proto.Hint.{Hint}
+use Rattle.protocol_traits.specs.Forms.{Appends, Calls, Steps}
+use Rattle.thrift_value.specs.Items.{Item}
+use Rattle.type_tables.specs.declared.declared.Ty.{Ty}
+use Rattle.type_tables.specs.Declarations.{Declarations}
+use Rattle.type_walk.specs.declared.levels.Level.{Level}
+use Rattle.type_walk.specs.declared.levels.Level.TheVariants as levels
+use Rattle.type_walk.specs.Positions.{Position, in_list, in_set, in_struct, passed, standing}
+use Rattle.translate_core.specs.Positions.{typed}
+use Rattle.translate_core.specs.Body.{Source, Target, Ended, going, whole}
+
+-- where a body stands: the place in the frame, what was read of the innermost level, the open levels, and the position
+pub record Spot : Type 0 where
+  pub at : ℕ
+  pub opening : Opening
+  pub nest : List Slot
+  pub position : Position
+
+abbrev pub spot : ℕ → Opening → List Slot → Position → Spot
+spot at opening nest position = record { at = at; opening = opening; nest = nest; position = position }
+
+-- the position of a value of this type in these levels
+abbrev pub called : Declarations → List Level → Ty → Position
+called d outer ty = record { schema = d; levels = outer; next = ty }
+
+-- what a list or set of a declared type is inside
+abbrev pub in_elements : Declarations → Container → Ty → Kind → Level
+in_elements d containers.Set ty kind = in_set d ty kind
+in_elements d container ty kind = in_list d ty kind
+
+-- what the level of a map is between a key and its value
+abbrev pub turned : Level → Level
+turned (levels.Keys key value) = levels.Values key value
+turned level = level
+
+-- a value within leaves the level as it was
+abbrev pub IsFlat : Level → Type 0
+IsFlat level = (outer : List Level) → passed (level ∷ outer) ≡ level ∷ outer
+
+-- a key turns the level, and its value turns it back
+abbrev pub Turns : Level → Type 0
+Turns level = (outer : List Level) → (passed (level ∷ outer) ≡ turned level ∷ outer) × (passed (turned level ∷ outer) ≡ level ∷ outer)
+
+-- what is known says what reading and writing depend on
+abbrev pub Informs : Bool → Bool → Bool → Bool → Type 0
+Informs tells reads_hinted writes_hinted marked = (reads_hinted ≡ true → tells ≡ true) × (writes_hinted ≡ true → tells ≡ true) × (marked ≡ true → tells ≡ true)
+
+-- there are 24 cells for each byte that is left of the frame, and so many more
+abbrev pub HasRoom : ℕ → List ℕ → ℕ → List ℕ → ℕ → Type 0
+HasRoom more frame at cells to = to + (24 * length frame + more) ≤ length cells + 24 * at
+
+-- each byte that was read gave at most so many
+abbrev pub Grows : ℕ → ℕ → ℕ → ℕ → Type 0
+Grows from into read written = written + 24 * from ≤ into + 24 * read
+
+module _ {S T : Type 0} (source : Source S) (target : Target T) (reader_at : S → List ℕ → ℕ → Opening → List Slot → Type 0) (writer_at : T → Opening → List Slot → Type 0) where
+  -- what becomes of the rest of a body from here on, behind what was written
+  abbrev pub rest_from : Spot → S → T → List ℕ → Ended S Position T
+  rest_from here s t written = whole source typed target (going s here.position t (length here.nest) None written)
+
+  -- From each reader and writer that stand at the first spot the body leads to the second, and what it wrote on the way
+  -- stands in the cells.
+  abbrev pub Takes : List ℕ → Spot → Spot → List ℕ → ℕ → List ℕ → ℕ → Type 0
+  Takes frame a b old to new behind =
+      (s : S) (t : T) → reader_at s frame a.at a.opening a.nest → writer_at t a.opening a.nest
+      → (read : S) × (wrote : T) × (text : List ℕ) × reader_at read frame b.at b.opening b.nest × writer_at wrote b.opening b.nest
+      × Appends old to new behind text × ((written : List ℕ) → rest_from a s t written ≡ rest_from b read wrote (written ++ text))
+
+  -- a value of this type is taken whole, where it is called for inside so many levels
+  abbrev pub TakesValue : Declarations → Ty → ℕ → List ℕ → ℕ → Stand → Kind → List ℕ → ℕ → List ℕ → ℕ → ℕ → Type 0
+  TakesValue d ty depth frame at stand kind old to new read written =
+      (opening : Opening) (nest : List Slot) (outer : List Level) → Calls stand kind opening nest → length nest ≡ depth
+      → Takes frame (spot at opening nest (called d outer ty)) (spot read openings.Old (spent nest) (standing d (passed outer))) old to new written
+
+  -- behind this item, which a field's lead tells, the field is taken whole, where its struct is the innermost of so many levels
+  abbrev pub TakesField : Declarations → Ty → ℕ → List ℕ → ℕ → Opening → ℤ → Item → ℤ → ℕ → List ℕ → ℕ → List ℕ → ℕ → ℕ → Type 0
+  TakesField d ty depth frame at opening last lead id behind old to new read written =
+      (up : List Slot) (outer : List Level) → length up + 1 ≡ depth
+      → ((hint : Hint) → Steps source.reads reader_at frame at opening (slots.Fields last ∷ up) hint lead behind)
+      → Takes frame (spot at opening (slots.Fields last ∷ up) (standing d (in_struct ty ∷ outer))) (spot read openings.Old (slots.Fields id ∷ up) (standing d (in_struct ty ∷ outer))) old to new written
+
+  -- the elements of a list or set are taken to its end, where it is the innermost of so many levels
+  abbrev pub TakesElements : Declarations → Level → ℕ → List ℕ → ℕ → Kind → ℕ → List ℕ → ℕ → List ℕ → ℕ → ℕ → Type 0
+  TakesElements d level depth frame at kind size old to new read written =
+      (opening : Opening) (up : List Slot) (outer : List Level) → length up + 1 ≡ depth
+      → Takes frame (spot at opening (slots.Elements kind size ∷ up) (standing d (level ∷ outer))) (spot read openings.Old up (standing d outer)) old to new written
+
+  -- the pairs of a map are taken to its end
+  abbrev pub TakesPairs : Declarations → Level → ℕ → List ℕ → ℕ → Kind → Kind → ℕ → List ℕ → ℕ → List ℕ → ℕ → ℕ → Type 0
+  TakesPairs d level depth frame at key value size old to new read written =
+      (up : List Slot) (outer : List Level) → length up + 1 ≡ depth
+      → Takes frame (spot at openings.New (slots.Keys key value size ∷ up) (standing d (level ∷ outer))) (spot read openings.Old up (standing d outer)) old to new written
+
+  -- the fields of a struct of this type are taken to its end, where it is the innermost of so many levels
+  abbrev pub TakesFields : Declarations → Ty → ℕ → List ℕ → ℕ → Opening → List ℕ → ℕ → List ℕ → ℕ → ℕ → Type 0
+  TakesFields d ty depth frame at opening old to new read written =
+      (up : List Slot) (outer : List Level) → length up + 1 ≡ depth
+      → Takes frame (spot at opening (slots.Fields (pos 0) ∷ up) (standing d (in_struct ty ∷ outer))) (spot read openings.Old up (standing d outer)) old to new written

@@ -1,0 +1,102 @@
+//! What the quick way knows of the type of a value.
+ghost use Rattle.std.specs.Prelude.{◌≡◌, ⊤, Bool, true, false, Some, refl};
+ghost use Rattle.type_tables.specs.declared.declared.Ty.{Ty};
+ghost use Rattle.type_tables.specs.Declarations.{Declarations};
+ghost use Rattle.type_tables.specs.Known.{IsKnown};
+ghost use Rattle.type_walk.specs.Positions.{field_type, hint_at, in_map, in_struct, called_for, mark_at};
+ghost use Rattle.translate_core.specs.Quick.{in_elements, turned};
+
+use protocol_traits::{Container, Hint, Mark};
+use thrift_value::Kind;
+use type_tables::Schema;
+
+/// What is known of the declared type of a value, or of the struct whose fields stand next.
+pub trait Known: Copy {
+    /// This may be known of a value of this type.
+    ghost means: { Self → Ty → Type 0 };
+
+    /// The numbers in it are this schema's.
+    ghost sound: { Self → Declarations → Type 0 };
+
+    /// Whether it says how a string is read and how an empty map is written.
+    ghost tells: { Bool };
+
+    /// Of the field with this id, where a value of this kind is announced.
+    fn field(self, schema: &Schema, id: i16, kind: Kind) -> Self
+        requires { sound self schema.now }
+        ensures means { (ty : Ty) → means self ty → means result (field_type schema.now (Some (in_struct ty)) id kind) }
+        ensures sound { sound result schema.now };
+
+    /// Of the elements of a list or set, where this kind is announced.
+    fn element(self, schema: &Schema, container: Container, kind: Kind) -> Self
+        requires { sound self schema.now }
+        ensures means { (ty : Ty) → means self ty → means result (called_for (Some (in_elements schema.now container ty kind))) }
+        ensures sound { sound result schema.now };
+
+    /// Of the keys of a map, where these kinds are announced.
+    fn key(self, schema: &Schema, key: Kind, value: Kind) -> Self
+        requires { sound self schema.now }
+        ensures means { (ty : Ty) → means self ty → means result (called_for (Some (in_map schema.now ty key value))) }
+        ensures sound { sound result schema.now };
+
+    /// Of the values of a map, where these kinds are announced.
+    fn value(self, schema: &Schema, key: Kind, value: Kind) -> Self
+        requires { sound self schema.now }
+        ensures means { (ty : Ty) → means self ty → means result (called_for (Some (turned (in_map schema.now ty key value)))) }
+        ensures sound { sound result schema.now };
+
+    /// How a string is read.
+    fn hint(self) -> Hint
+        ensures { (ty : Ty) → means self ty → tells ≡ true → hint_at ty ≡ result };
+
+    /// What is known of an empty map.
+    fn mark(self, schema: &Schema) -> Mark
+        requires { sound self schema.now }
+        ensures { (ty : Ty) → means self ty → tells ≡ true → mark_at schema.now ty ≡ result };
+}
+
+/// Nothing. It is enough where neither reading nor writing depends on the position.
+#[derive(Clone, Copy)]
+pub struct Nothing;
+
+impl Known for Nothing {
+    ghost means = { λ known ty. ⊤ };
+
+    ghost sound = { λ known d. ⊤ };
+
+    ghost tells = { false };
+
+    #[inline(always)]
+    fn field(self, _schema: &Schema, _id: i16, _kind: Kind) -> Self {
+        self
+    }
+
+    #[inline(always)]
+    fn element(self, _schema: &Schema, _container: Container, _kind: Kind) -> Self {
+        self
+    }
+
+    #[inline(always)]
+    fn key(self, _schema: &Schema, _key: Kind, _value: Kind) -> Self {
+        self
+    }
+
+    #[inline(always)]
+    fn value(self, _schema: &Schema, _key: Kind, _value: Kind) -> Self {
+        self
+    }
+
+    #[inline(always)]
+    fn hint(self) -> Hint {
+        Hint::Unknown
+    }
+
+    #[inline(always)]
+    fn mark(self, _schema: &Schema) -> Mark {
+        Mark {
+            hint: Hint::Unknown,
+            key: Kind::I8,
+            value: Kind::I8,
+        }
+    }
+}

@@ -1,0 +1,669 @@
+//! The quick way through a body: its fields, elements and pairs from the frame into cells, by a call for each struct and
+//! container.
+ghost use Rattle.std.specs.Prelude.{◌≡◌, ℕ, ◌+◌, ◌≤◌, ◌<◌, ◌^◌, length, true, Some, IfSome};
+ghost use Rattle.thrift_value.specs.declared.kind.Kind.{Kind};
+ghost use Rattle.thrift_value.specs.Items.{field};
+ghost use Rattle.protocol_traits.specs.declared.forms.Container.{Container};
+ghost use Rattle.protocol_traits.specs.declared.forms.Lead.{Lead};
+ghost use Rattle.protocol_traits.specs.declared.forms.Stand.{Stand};
+ghost use Rattle.protocol_traits.specs.Forms.{IsPast, container_kind, lead_item};
+ghost use Rattle.type_tables.specs.declared.declared.Ty.{Ty};
+ghost use Rattle.type_tables.specs.Declarations.{Declarations};
+ghost use Rattle.type_walk.specs.declared.levels.Level.{Level};
+ghost use Rattle.type_walk.specs.Positions.{called_for, field_type, hint_at, in_struct};
+ghost use Rattle.translate_core.specs.Body.{source_of, target_of};
+ghost use Rattle.translate_core.specs.Quick.{Grows, HasRoom, Informs, IsFlat, TakesElements, TakesField, TakesFields, TakesPairs, TakesValue, Turns, turned};
+
+use crate::known::Known;
+use crate::leaves::{AROUND, Reach, take_leaf, take_text};
+use protocol_traits::{Container, DEPTH, FormRead, FormWrite, Hint, Lead, Opening, Pairs, Stand};
+use thrift_value::Kind;
+use type_tables::Schema;
+
+/// The same before a field. The beginning of a struct has taken some.
+const BEFORE_FIELD: usize = 122;
+
+/// The most cells that the end of a container takes.
+const END: usize = 2;
+
+/// What the end of a struct leaves of the cells for its last byte.
+const BEHIND_STOP: usize = 8;
+
+/// Takes the fields of an open struct of which this is known, to its end.
+#[cycle(body)]
+pub fn take_fields<R: FormRead, W: FormWrite, K: Known>(
+    known: K,
+    schema: &Schema,
+    frame: &[u8],
+    from: usize,
+    cells: &mut [u8],
+    into: usize,
+    opening: Opening,
+    depth: usize,
+) -> Option<Reach>
+    requires known { K.sound known schema.now }
+    requires informed { Informs K.tells R.hinted W.hinted W.marked }
+    requires size { length frame.now < 2 ^ 31 }
+    requires place { from ≤ length frame.now }
+    requires room { HasRoom BEFORE_FIELD frame.now from cells.old into }
+    requires shallow { depth ≤ 256 }
+    ensures kept { length cells.new ≡ length cells.old }
+    ensures past { IfSome result (λ x. IsPast from frame.now x.read) }
+    ensures grows { IfSome result (λ x. Grows from into x.read (x.written + BEHIND_STOP)) }
+    ensures takes { IfSome result (λ x. (ty : Ty) → K.means known ty → TakesFields (source_of R.begun R.reads_head R.reads R.reads_end R.value_place R.ahead) (target_of W.begun W.name_bar W.plain_head W.bar W.plain W.after) R.stands_at W.stands_at
+        schema.now ty depth frame.now from opening cells.old into cells.new x.read x.written) }
+{
+    let mut last = 0;
+    let mut opening = opening;
+    let mut at = from;
+    let mut to = into;
+    'fields: loop {
+        let (lead, id, behind) = R::next_field(frame, at, opening, last)?;
+        if let Lead::Stop = lead {
+            let written = W::stop(cells, to, opening, depth);
+            return Some(Reach {
+                read: behind,
+                written,
+            });
+        }
+        if let Lead::Bad = lead {
+            return None;
+        }
+        let reach = take_field::<R, W, K>(
+            known, schema, frame, at, cells, to, opening, last, lead, id, behind, depth,
+        )?;
+        at = reach.read;
+        to = reach.written;
+        last = id;
+        opening = Opening::Old;
+    }
+}
+
+/// Takes a field whose lead was read. The end of the struct is none.
+#[cycle(body)]
+#[inline(always)]
+fn take_field<R: FormRead, W: FormWrite, K: Known>(
+    known: K,
+    schema: &Schema,
+    frame: &[u8],
+    at: usize,
+    cells: &mut [u8],
+    to: usize,
+    opening: Opening,
+    last: i16,
+    lead: Lead,
+    id: i16,
+    behind: usize,
+    depth: usize,
+) -> Option<Reach>
+    requires known { K.sound known schema.now }
+    requires informed { Informs K.tells R.hinted W.hinted W.marked }
+    requires size { length frame.now < 2 ^ 31 }
+    requires place { IsPast at frame.now behind }
+    requires room { HasRoom BEFORE_FIELD frame.now at cells.old to }
+    requires shallow { depth ≤ 256 }
+    ensures kept { length cells.new ≡ length cells.old }
+    ensures past { IfSome result (λ x. IsPast at frame.now x.read) }
+    ensures grows { IfSome result (λ x. Grows at to x.read x.written) }
+    ensures takes { IfSome result (λ x. (ty : Ty) → K.means known ty → TakesField (source_of R.begun R.reads_head R.reads R.reads_end R.value_place R.ahead) (target_of W.begun W.name_bar W.plain_head W.bar W.plain W.after) R.stands_at W.stands_at
+        schema.now ty depth frame.now at opening last (lead_item lead id) id behind cells.old to cells.new x.read x.written) }
+{
+    match lead {
+        Lead::Bool => take_flag::<R, W>(frame, at, cells, to, opening, last, id, behind),
+        Lead::I8 => take_leaf_field::<R, W>(
+            frame,
+            at,
+            cells,
+            to,
+            opening,
+            last,
+            id,
+            Kind::I8,
+            behind,
+        ),
+        Lead::I16 => take_leaf_field::<R, W>(
+            frame,
+            at,
+            cells,
+            to,
+            opening,
+            last,
+            id,
+            Kind::I16,
+            behind,
+        ),
+        Lead::I32 => take_leaf_field::<R, W>(
+            frame,
+            at,
+            cells,
+            to,
+            opening,
+            last,
+            id,
+            Kind::I32,
+            behind,
+        ),
+        Lead::I64 => take_leaf_field::<R, W>(
+            frame,
+            at,
+            cells,
+            to,
+            opening,
+            last,
+            id,
+            Kind::I64,
+            behind,
+        ),
+        Lead::Double => take_leaf_field::<R, W>(
+            frame,
+            at,
+            cells,
+            to,
+            opening,
+            last,
+            id,
+            Kind::Double,
+            behind,
+        ),
+        Lead::Uuid => take_leaf_field::<R, W>(
+            frame,
+            at,
+            cells,
+            to,
+            opening,
+            last,
+            id,
+            Kind::Uuid,
+            behind,
+        ),
+        Lead::Str => take_text_field::<R, W, K>(
+            known, schema, frame, at, cells, to, opening, last, id, behind,
+        ),
+        Lead::Struct => take_level_field::<R, W, K>(
+            known,
+            schema,
+            frame,
+            at,
+            cells,
+            to,
+            opening,
+            last,
+            id,
+            Kind::Struct,
+            behind,
+            depth,
+        ),
+        Lead::Map => take_level_field::<R, W, K>(
+            known,
+            schema,
+            frame,
+            at,
+            cells,
+            to,
+            opening,
+            last,
+            id,
+            Kind::Map,
+            behind,
+            depth,
+        ),
+        Lead::Set => take_level_field::<R, W, K>(
+            known,
+            schema,
+            frame,
+            at,
+            cells,
+            to,
+            opening,
+            last,
+            id,
+            Kind::Set,
+            behind,
+            depth,
+        ),
+        Lead::List => take_level_field::<R, W, K>(
+            known,
+            schema,
+            frame,
+            at,
+            cells,
+            to,
+            opening,
+            last,
+            id,
+            Kind::List,
+            behind,
+            depth,
+        ),
+        Lead::Stop | Lead::Bad => None,
+    }
+}
+
+/// Takes a bool field.
+#[inline(always)]
+fn take_flag<R: FormRead, W: FormWrite>(
+    frame: &[u8],
+    at: usize,
+    cells: &mut [u8],
+    to: usize,
+    opening: Opening,
+    last: i16,
+    id: i16,
+    behind: usize,
+) -> Option<Reach>
+    requires place { IsPast at frame.now behind }
+    requires room { HasRoom BEFORE_FIELD frame.now at cells.old to }
+    ensures kept { length cells.new ≡ length cells.old }
+    ensures past { IfSome result (λ x. IsPast at frame.now x.read) }
+    ensures grows { IfSome result (λ x. Grows at to x.read x.written) }
+    ensures takes { IfSome result (λ x. (d : Declarations) (ty : Ty) (depth : ℕ) → TakesField (source_of R.begun R.reads_head R.reads R.reads_end R.value_place R.ahead) (target_of W.begun W.name_bar W.plain_head W.bar W.plain W.after) R.stands_at W.stands_at
+        d ty depth frame.now at opening last (field id Kind.Bool) id behind cells.old to cells.new x.read x.written) }
+{
+    let (value, read) = R::flag(frame, at, behind, opening)?;
+    let written = W::flag(cells, to, opening, last, id, value);
+    Some(Reach { read, written })
+}
+
+/// Takes a field of a kind that is neither a bool nor a string nor a level.
+#[inline(always)]
+fn take_leaf_field<R: FormRead, W: FormWrite>(
+    frame: &[u8],
+    at: usize,
+    cells: &mut [u8],
+    to: usize,
+    opening: Opening,
+    last: i16,
+    id: i16,
+    kind: Kind,
+    behind: usize,
+) -> Option<Reach>
+    requires place { IsPast at frame.now behind }
+    requires room { HasRoom BEFORE_FIELD frame.now at cells.old to }
+    requires apart { kind ≡ Kind.Bool → ⊥ }
+    ensures kept { length cells.new ≡ length cells.old }
+    ensures past { IfSome result (λ x. IsPast at frame.now x.read) }
+    ensures grows { IfSome result (λ x. Grows at to x.read x.written) }
+    ensures takes { IfSome result (λ x. (d : Declarations) (ty : Ty) (depth : ℕ) → TakesField (source_of R.begun R.reads_head R.reads R.reads_end R.value_place R.ahead) (target_of W.begun W.name_bar W.plain_head W.bar W.plain W.after) R.stands_at W.stands_at
+        d ty depth frame.now at opening last (field id kind) id behind cells.old to cells.new x.read x.written) }
+{
+    let value = W::field(cells, to, opening, last, id, kind);
+    take_leaf::<R, W>(frame, behind, cells, value, Stand::Field, kind)
+}
+
+/// Takes a string field.
+#[inline(always)]
+fn take_text_field<R: FormRead, W: FormWrite, K: Known>(
+    known: K,
+    schema: &Schema,
+    frame: &[u8],
+    at: usize,
+    cells: &mut [u8],
+    to: usize,
+    opening: Opening,
+    last: i16,
+    id: i16,
+    behind: usize,
+) -> Option<Reach>
+    requires known { K.sound known schema.now }
+    requires informed { Informs K.tells R.hinted W.hinted W.marked }
+    requires size { length frame.now < 2 ^ 31 }
+    requires place { IsPast at frame.now behind }
+    requires room { HasRoom BEFORE_FIELD frame.now at cells.old to }
+    ensures kept { length cells.new ≡ length cells.old }
+    ensures past { IfSome result (λ x. IsPast at frame.now x.read) }
+    ensures grows { IfSome result (λ x. Grows at to x.read x.written) }
+    ensures takes { IfSome result (λ x. (ty : Ty) (depth : ℕ) → K.means known ty → TakesField (source_of R.begun R.reads_head R.reads R.reads_end R.value_place R.ahead) (target_of W.begun W.name_bar W.plain_head W.bar W.plain W.after) R.stands_at W.stands_at
+        schema.now ty depth frame.now at opening last (field id Kind.Str) id behind cells.old to cells.new x.read x.written) }
+{
+    let hint = text_hint::<R, W, K>(known, schema, id);
+    let value = W::field(cells, to, opening, last, id, Kind::Str);
+    take_text::<R, W>(frame, behind, cells, value, Stand::Field, hint)
+}
+
+/// How the string of a field is read, where reading or writing it depends on that.
+#[inline(always)]
+fn text_hint<R: FormRead, W: FormWrite, K: Known>(known: K, schema: &Schema, id: i16) -> Hint
+    requires known { K.sound known schema.now }
+    requires informed { Informs K.tells R.hinted W.hinted W.marked }
+    ensures reads { (ty : Ty) → K.means known ty → R.hinted ≡ true → hint_at (field_type schema.now (Some (in_struct ty)) id Kind.Str) ≡ result }
+    ensures writes { (ty : Ty) → K.means known ty → W.hinted ≡ true → hint_at (field_type schema.now (Some (in_struct ty)) id Kind.Str) ≡ result }
+{
+    if R::is_hinted() || W::is_hinted() {
+        return known.field(schema, id, Kind::Str).hint();
+    }
+    Hint::Unknown
+}
+
+/// Takes a field whose value is a level.
+#[cycle(body)]
+#[inline(always)]
+fn take_level_field<R: FormRead, W: FormWrite, K: Known>(
+    known: K,
+    schema: &Schema,
+    frame: &[u8],
+    at: usize,
+    cells: &mut [u8],
+    to: usize,
+    opening: Opening,
+    last: i16,
+    id: i16,
+    kind: Kind,
+    behind: usize,
+    depth: usize,
+) -> Option<Reach>
+    requires known { K.sound known schema.now }
+    requires informed { Informs K.tells R.hinted W.hinted W.marked }
+    requires size { length frame.now < 2 ^ 31 }
+    requires place { IsPast at frame.now behind }
+    requires room { HasRoom BEFORE_FIELD frame.now at cells.old to }
+    requires apart { kind ≡ Kind.Bool → ⊥ }
+    requires shallow { depth ≤ 256 }
+    ensures kept { length cells.new ≡ length cells.old }
+    ensures past { IfSome result (λ x. IsPast at frame.now x.read) }
+    ensures grows { IfSome result (λ x. Grows at to x.read x.written) }
+    ensures takes { IfSome result (λ x. (ty : Ty) → K.means known ty → TakesField (source_of R.begun R.reads_head R.reads R.reads_end R.value_place R.ahead) (target_of W.begun W.name_bar W.plain_head W.bar W.plain W.after) R.stands_at W.stands_at
+        schema.now ty depth frame.now at opening last (field id kind) id behind cells.old to cells.new x.read x.written) }
+{
+    let next = known.field(schema, id, kind);
+    let value = W::field(cells, to, opening, last, id, kind);
+    take_value::<R, W, K>(
+        next,
+        schema,
+        frame,
+        behind,
+        cells,
+        value,
+        Stand::Field,
+        kind,
+        depth,
+    )
+}
+
+/// Takes a value of which this is known, inside so many levels. A bool is no field's.
+#[cycle(body)]
+#[inline(always)]
+fn take_value<R: FormRead, W: FormWrite, K: Known>(
+    known: K,
+    schema: &Schema,
+    frame: &[u8],
+    at: usize,
+    cells: &mut [u8],
+    to: usize,
+    stand: Stand,
+    kind: Kind,
+    depth: usize,
+) -> Option<Reach>
+    requires known { K.sound known schema.now }
+    requires informed { Informs K.tells R.hinted W.hinted W.marked }
+    requires size { length frame.now < 2 ^ 31 }
+    requires place { at ≤ length frame.now }
+    requires room { HasRoom AROUND frame.now at cells.old to }
+    requires apart { kind ≡ Kind.Bool → stand ≡ Stand.Field → ⊥ }
+    requires shallow { depth ≤ 256 }
+    ensures kept { length cells.new ≡ length cells.old }
+    ensures past { IfSome result (λ x. IsPast at frame.now x.read) }
+    ensures grows { IfSome result (λ x. Grows at to x.read x.written) }
+    ensures takes { IfSome result (λ x. (ty : Ty) → K.means known ty → TakesValue (source_of R.begun R.reads_head R.reads R.reads_end R.value_place R.ahead) (target_of W.begun W.name_bar W.plain_head W.bar W.plain W.after) R.stands_at W.stands_at
+        schema.now ty depth frame.now at stand kind cells.old to cells.new x.read x.written) }
+{
+    match kind {
+        Kind::Str => take_text::<R, W>(frame, at, cells, to, stand, known.hint()),
+        Kind::Struct => take_struct::<R, W, K>(known, schema, frame, at, cells, to, stand, depth),
+        Kind::Map => take_map::<R, W, K>(known, schema, frame, at, cells, to, stand, depth),
+        Kind::Set => take_list::<R, W, K>(
+            known,
+            schema,
+            frame,
+            at,
+            cells,
+            to,
+            stand,
+            Container::Set,
+            depth,
+        ),
+        Kind::List => take_list::<R, W, K>(
+            known,
+            schema,
+            frame,
+            at,
+            cells,
+            to,
+            stand,
+            Container::List,
+            depth,
+        ),
+        _ => take_leaf::<R, W>(frame, at, cells, to, stand, kind),
+    }
+}
+
+/// Takes a struct inside so many levels.
+#[cycle(body)]
+#[inline(always)]
+fn take_struct<R: FormRead, W: FormWrite, K: Known>(
+    known: K,
+    schema: &Schema,
+    frame: &[u8],
+    at: usize,
+    cells: &mut [u8],
+    to: usize,
+    stand: Stand,
+    depth: usize,
+) -> Option<Reach>
+    requires known { K.sound known schema.now }
+    requires informed { Informs K.tells R.hinted W.hinted W.marked }
+    requires size { length frame.now < 2 ^ 31 }
+    requires place { at ≤ length frame.now }
+    requires room { HasRoom AROUND frame.now at cells.old to }
+    requires shallow { depth ≤ 256 }
+    ensures kept { length cells.new ≡ length cells.old }
+    ensures past { IfSome result (λ x. IsPast at frame.now x.read) }
+    ensures grows { IfSome result (λ x. Grows at to x.read x.written) }
+    ensures takes { IfSome result (λ x. (ty : Ty) → K.means known ty → TakesValue (source_of R.begun R.reads_head R.reads R.reads_end R.value_place R.ahead) (target_of W.begun W.name_bar W.plain_head W.bar W.plain W.after) R.stands_at W.stands_at
+        schema.now ty depth frame.now at stand Kind.Struct cells.old to cells.new x.read x.written) }
+{
+    if depth >= DEPTH {
+        return None;
+    }
+    let read = R::struct_begin(frame, at, stand)?;
+    let written = W::struct_begin(cells, to, stand);
+    take_fields::<R, W, K>(
+        known,
+        schema,
+        frame,
+        read,
+        cells,
+        written,
+        Opening::New,
+        depth + 1,
+    )
+}
+
+/// Takes a list or set inside so many levels.
+#[cycle(body)]
+fn take_list<R: FormRead, W: FormWrite, K: Known>(
+    known: K,
+    schema: &Schema,
+    frame: &[u8],
+    at: usize,
+    cells: &mut [u8],
+    to: usize,
+    stand: Stand,
+    container: Container,
+    depth: usize,
+) -> Option<Reach>
+    requires known { K.sound known schema.now }
+    requires informed { Informs K.tells R.hinted W.hinted W.marked }
+    requires size { length frame.now < 2 ^ 31 }
+    requires place { at ≤ length frame.now }
+    requires room { HasRoom AROUND frame.now at cells.old to }
+    requires no_map { container ≡ Container.Map → ⊥ }
+    requires shallow { depth ≤ 256 }
+    ensures kept { length cells.new ≡ length cells.old }
+    ensures past { IfSome result (λ x. IsPast at frame.now x.read) }
+    ensures grows { IfSome result (λ x. Grows at to x.read x.written) }
+    ensures takes { IfSome result (λ x. (ty : Ty) → K.means known ty → TakesValue (source_of R.begun R.reads_head R.reads R.reads_end R.value_place R.ahead) (target_of W.begun W.name_bar W.plain_head W.bar W.plain W.after) R.stands_at W.stands_at
+        schema.now ty depth frame.now at stand (container_kind container) cells.old to cells.new x.read x.written) }
+{
+    if depth >= DEPTH {
+        return None;
+    }
+    let (kind, size, read) = R::elements(frame, at, stand, container)?;
+    let written = W::elements(cells, to, stand, container, kind, size)?;
+    let element = known.element(schema, container, kind);
+    take_elements::<R, W, K>(
+        element,
+        schema,
+        frame,
+        read,
+        cells,
+        written,
+        container,
+        kind,
+        size,
+        depth + 1,
+    )
+}
+
+/// Takes the elements of an open list or set, of which this is known, to its end.
+#[cycle(body)]
+#[inline(always)]
+fn take_elements<R: FormRead, W: FormWrite, K: Known>(
+    known: K,
+    schema: &Schema,
+    frame: &[u8],
+    from: usize,
+    cells: &mut [u8],
+    into: usize,
+    container: Container,
+    kind: Kind,
+    size: u32,
+    depth: usize,
+) -> Option<Reach>
+    requires known { K.sound known schema.now }
+    requires informed { Informs K.tells R.hinted W.hinted W.marked }
+    requires size { length frame.now < 2 ^ 31 }
+    requires place { from ≤ length frame.now }
+    requires room { HasRoom AROUND frame.now from cells.old into }
+    requires no_map { container ≡ Container.Map → ⊥ }
+    requires shallow { depth ≤ 256 }
+    ensures kept { length cells.new ≡ length cells.old }
+    ensures place { IfSome result (λ x. (from ≤ x.read) × (x.read ≤ length frame.now)) }
+    ensures grows { IfSome result (λ x. Grows from (into + END) x.read x.written) }
+    ensures takes { IfSome result (λ x. (level : Level) → IsFlat level → K.means known (called_for (Some level)) → TakesElements (source_of R.begun R.reads_head R.reads R.reads_end R.value_place R.ahead) (target_of W.begun W.name_bar W.plain_head W.bar W.plain W.after) R.stands_at W.stands_at
+        schema.now level depth frame.now from kind size cells.old into cells.new x.read x.written) }
+{
+    let mut at = from;
+    let mut to = into;
+    'elements: for i in 0..size {
+        let reach = take_value::<R, W, K>(
+            known,
+            schema,
+            frame,
+            at,
+            cells,
+            to,
+            Stand::Element,
+            kind,
+            depth,
+        )?;
+        at = reach.read;
+        to = reach.written;
+    }
+    let read = R::end(frame, at, container)?;
+    let written = W::end(cells, to, container);
+    Some(Reach { read, written })
+}
+
+/// Takes a map inside so many levels.
+#[cycle(body)]
+fn take_map<R: FormRead, W: FormWrite, K: Known>(
+    known: K,
+    schema: &Schema,
+    frame: &[u8],
+    at: usize,
+    cells: &mut [u8],
+    to: usize,
+    stand: Stand,
+    depth: usize,
+) -> Option<Reach>
+    requires known { K.sound known schema.now }
+    requires informed { Informs K.tells R.hinted W.hinted W.marked }
+    requires size { length frame.now < 2 ^ 31 }
+    requires place { at ≤ length frame.now }
+    requires room { HasRoom AROUND frame.now at cells.old to }
+    requires shallow { depth ≤ 256 }
+    ensures kept { length cells.new ≡ length cells.old }
+    ensures past { IfSome result (λ x. IsPast at frame.now x.read) }
+    ensures grows { IfSome result (λ x. Grows at to x.read x.written) }
+    ensures takes { IfSome result (λ x. (ty : Ty) → K.means known ty → TakesValue (source_of R.begun R.reads_head R.reads R.reads_end R.value_place R.ahead) (target_of W.begun W.name_bar W.plain_head W.bar W.plain W.after) R.stands_at W.stands_at
+        schema.now ty depth frame.now at stand Kind.Map cells.old to cells.new x.read x.written) }
+{
+    if depth >= DEPTH {
+        return None;
+    }
+    let pairs = R::pairs(frame, at, stand)?;
+    if pairs.size == 0 {
+        let written = W::no_pairs(cells, to, stand, known.mark(schema));
+        return Some(Reach {
+            read: pairs.behind,
+            written,
+        });
+    }
+    let written = W::pairs(cells, to, stand, pairs.key, pairs.value, pairs.size)?;
+    let key = known.key(schema, pairs.key, pairs.value);
+    let value = known.value(schema, pairs.key, pairs.value);
+    take_pairs::<R, W, K>(key, value, schema, frame, cells, written, pairs, depth + 1)
+}
+
+/// Takes the pairs of an open map, of whose keys and values this is known, to its end.
+#[cycle(body)]
+#[inline(always)]
+fn take_pairs<R: FormRead, W: FormWrite, K: Known>(
+    key: K,
+    value: K,
+    schema: &Schema,
+    frame: &[u8],
+    cells: &mut [u8],
+    into: usize,
+    pairs: Pairs,
+    depth: usize,
+) -> Option<Reach>
+    requires key { K.sound key schema.now }
+    requires value { K.sound value schema.now }
+    requires informed { Informs K.tells R.hinted W.hinted W.marked }
+    requires size { length frame.now < 2 ^ 31 }
+    requires place { pairs.behind ≤ length frame.now }
+    requires room { HasRoom AROUND frame.now pairs.behind cells.old into }
+    requires shallow { depth ≤ 256 }
+    ensures kept { length cells.new ≡ length cells.old }
+    ensures place { IfSome result (λ x. (pairs.behind ≤ x.read) × (x.read ≤ length frame.now)) }
+    ensures grows { IfSome result (λ x. Grows pairs.behind (into + END) x.read x.written) }
+    ensures takes { IfSome result (λ x. (level : Level) → Turns level → K.means key (called_for (Some level)) → K.means value (called_for (Some (turned level))) → TakesPairs (source_of R.begun R.reads_head R.reads R.reads_end R.value_place R.ahead) (target_of W.begun W.name_bar W.plain_head W.bar W.plain W.after) R.stands_at W.stands_at
+        schema.now level depth frame.now pairs.behind pairs.key pairs.value pairs.size cells.old into cells.new x.read x.written) }
+{
+    let mut stand = Stand::FirstKey;
+    let mut at = pairs.behind;
+    let mut to = into;
+    'pairs: for i in 0..pairs.size {
+        let before = take_value::<R, W, K>(
+            key, schema, frame, at, cells, to, stand, pairs.key, depth,
+        )?;
+        let behind = take_value::<R, W, K>(
+            value,
+            schema,
+            frame,
+            before.read,
+            cells,
+            before.written,
+            Stand::Value,
+            pairs.value,
+            depth,
+        )?;
+        at = behind.read;
+        to = behind.written;
+        stand = Stand::Key;
+    }
+    let read = R::end(frame, at, Container::Map)?;
+    let written = W::end(cells, to, Container::Map);
+    Some(Reach { read, written })
+}
