@@ -1,5 +1,5 @@
 -- The quick forms of the Binary protocol: where a reader and a writer stand, and what one form says of them.
-use Rattle.std.proofs.Common.{◌≡◌, ℕ, ℤ, pos, ◌+◌, ◌-◌, ◌*◌, ◌<◌, ◌≤◌, ◌^◌, ◌⊎◌, inl, inr, Bool, true, false, List, [], ◌∷◌, length, take, drop, Option, Some, None, Ok, Err, refl, sym, ap, subst, ◌∙◌, arith, length-drop, length-take, add-zero}
+use Rattle.std.proofs.Common.{◌≡◌, ℕ, ℤ, pos, ◌+◌, ◌-◌, ◌<◌, ◌≤◌, ◌^◌, Bool, true, false, List, [], ◌∷◌, length, take, drop, Option, Some, None, Ok, Err, refl, sym, ap, subst, ◌∙◌, arith, length-drop, add-zero}
 use Rattle.std.specs.Prelude.{IfOk, nat_lt, nat_le, ◌==◌, ◌&&◌, if◌then◌else◌, slice_index}
 use Rattle.std.specs.Int.{w16, w32, from_be_bytes, cast_signed}
 use Rattle.std.proofs.lemmas.Bool.Decides.{nat_tests}
@@ -19,9 +19,8 @@ use Rattle.protocol_traits.specs.declared.fault.Reason.TheVariants as reasons
 use Rattle.protocol_traits.specs.declared.nest.Slot.{Slot}
 use Rattle.protocol_traits.specs.declared.nest.Slot.TheVariants as slots
 use Rattle.protocol_traits.specs.declared.proto.Hint.{Hint}
-use Rattle.protocol_traits.specs.declared.proto.Mark.{Mark}
-use Rattle.protocol_traits.specs.Follow.{after, depth_after}
-use Rattle.protocol_traits.specs.Forms.{lead_item, elements_item, container_kind, pairs_item, part, opening_after, Calls, IsDone, IsPast, Steps, StepsTwice, StepsValue, StepsInto}
+use Rattle.protocol_traits.specs.Follow.{after}
+use Rattle.protocol_traits.specs.Forms.{lead_item, elements_item, container_kind, pairs_item, part, Calls, IsDone, IsPast, Steps, StepsTwice, StepsValue, StepsInto}
 use Rattle.protocol_traits.specs.Heads.{Header}
 use Rattle.protocol_traits.specs.Stack.{first_of}
 use Rattle.protocol_traits.specs.Steps.{Step, told}
@@ -30,7 +29,7 @@ use Rattle.binary_protocol.specs.Codes.{kind_of_code}
 use Rattle.binary_protocol.specs.Heads.{head_at}
 use Rattle.binary_protocol.specs.Scan.{Scan, fault, unsigned_at, nests, called_for, item_in, value_in, value_at, field_of, field_at, string_at, text_at, uuid_at, shifted, size_at, zero_at, elements_at, set_at, list_at, map_of, map_at, is_bad_kind}
 use Rattle.binary_protocol.specs.Reading.{State, rest, begun, headed, reads, reads_head, reads_end}
-use Rattle.binary_protocol.specs.Laws.{GoodHead, head_was_read, reads_ok}
+use Rattle.binary_protocol.specs.Laws.{head_was_read, reads_ok}
 
 -- no hint tells this reader anything
 abbrev pub next_read : State → Hint → Step State Item

@@ -1,5 +1,5 @@
 -- The quick forms of the Binary protocol's writer.
-use Rattle.std.proofs.Common.{◌≡◌, pos, suc, ◌+◌, ◌<◌, List, [], ◌∷◌, length, refl, sym, ap, ◌∙◌, arith}
+use Rattle.std.proofs.Common.{◌≡◌, pos, suc, ◌<◌, List, [], ◌∷◌, length, refl, sym, ap, ◌∙◌, arith}
 use Rattle.thrift_value.specs.Items.{Item, field, stop, bool_value, i8_value, i16_value, i32_value, i64_value, double_value, text, number_text, unknown_text, struct_begin, empty_map, map_begin, set_begin, list_begin, end, uuid_value}
 use Rattle.protocol_traits.specs.declared.forms.Opening.{Opening}
 use Rattle.protocol_traits.specs.declared.forms.Opening.TheVariants as openings

@@ -1,5 +1,5 @@
 -- What stands in front of the place behind a write.
-use Rattle.std.proofs.Common.{◌≡◌, ℕ, zero, suc, ◌+◌, ◌≤◌, List, [], ◌∷◌, ◌++◌, length, take, drop, arith, ap, sym, refl, ◌∙◌, length-take, append-nil}
+use Rattle.std.proofs.Common.{◌≡◌, ℕ, zero, suc, ◌+◌, ◌≤◌, List, [], ◌∷◌, ◌++◌, length, take, arith, ap, sym, refl, ◌∙◌, length-take, append-nil}
 use Rattle.std.proofs.lemmas.List.{take_all, take-append-le}
 
 front_of : (a b c : List ℕ) (n m : ℕ) → m ≡ length a + n → n ≤ length b → take m (a ++ b ++ c) ≡ a ++ take n b

@@ -667,3 +667,18 @@ follows_nests w struct_begin some = omega (arith, spent_length w.nest)
 follows_nests w (map_begin key value size) some = omega (arith, spent_length w.nest)
 follows_nests w (set_begin kind size) some = omega (arith, spent_length w.nest)
 follows_nests w (list_begin kind size) some = omega (arith, spent_length w.nest)
+
+-- behind the header, the name lies in front of the place, and that in the frame
+named_fits : (frame : List ℕ) (front : MessageType × ℤ) (at : ℕ) (scan : Scan (List ℕ)) → at ≤ length frame → Yields (Behind at (Text (length (drop at frame)))) scan
+    → IfOk (named (begun frame) front at scan) (λ x. (x.1.frame ≡ frame) × (x.1.nest ≡ slots.Fields (pos 0) ∷ []) × (length x.0.name ≤ x.1.place) × (x.1.place ≤ length frame))
+named_fits frame front at (Ok x) within h = (refl, refl, omega (arith, h.1, h.2.0), omega (arith, h.1, h.2.1, length-drop {A = ℕ} at frame))
+named_fits frame front at (Err f) within h = tt
+
+headed_fits : (frame : List ℕ) (scan : Scan (MessageType × ℤ)) → Yields (Fronted (length frame)) scan
+    → IfOk (headed (begun frame) scan) (λ x. (x.1.frame ≡ frame) × (x.1.nest ≡ slots.Fields (pos 0) ∷ []) × (length x.0.name ≤ x.1.place) × (x.1.place ≤ length frame))
+headed_fits frame (Ok x) h = named_fits frame x.0 x.1 _ h.1 (moved_on _ x.1 _ (string_found (drop x.1 frame)))
+headed_fits frame (Err f) h = tt
+
+pub head_fits : (frame : List ℕ) → IfOk (reads_head (begun frame)) (λ x. (x.1.frame ≡ frame) × (x.1.nest ≡ slots.Fields (pos 0) ∷ []) × (length x.0.name ≤ x.1.place) × (x.1.place ≤ length frame))
+unfolding reads_head
+head_fits frame = headed_fits frame (front_at frame) (front_found frame)

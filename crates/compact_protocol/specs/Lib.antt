@@ -3,6 +3,7 @@ pub mod Codes
 pub mod Grammar
 pub mod Laws
 pub mod Forms
+pub mod WriteForms
 pub mod Plain
 pub mod Reading
 pub mod Scan

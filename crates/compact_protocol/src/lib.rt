@@ -4,11 +4,14 @@
 //! their shortest spelling. Neither takes memory.
 #![tactic(auto)]
 
+mod forms;
 mod numbers;
 mod protocol;
+mod read_forms;
 mod reader;
 mod scan;
 mod values;
+mod write_forms;
 mod writer;
 
 pub use reader::CompactRead;

@@ -73,7 +73,7 @@ fn field_at(last: i16, bytes: &[u8]) -> Result<(Event<'_>, usize), Fault>
 
 /// The id that lies so much above the last, if there is one.
 #[inline(always)]
-fn next_id(last: i16, step: u8) -> Option<i16>
+pub fn next_id(last: i16, step: u8) -> Option<i16>
     ensures { result ≡ next_id last step }
 {
     last.checked_add(i16::from(step))

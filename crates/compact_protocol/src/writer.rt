@@ -150,7 +150,7 @@ fn put_field(last: i16, id: i16, code: u8, out: &mut Out)
 /// What an id lies above the last, where a field's byte can tell it.
 #[inline(always)]
 #[tactic(auto, unfolding(crate::specs::Plain::short_step))]
-fn short_step(last: i16, id: i16) -> Option<u8>
+pub fn short_step(last: i16, id: i16) -> Option<u8>
     ensures exact { result ≡ short_step last id }
     ensures bound { IfSome result (λ step. step < 16) }
 {
@@ -203,7 +203,7 @@ fn put_elements(kind: Kind, size: u32, out: &mut Out)
 
 /// The number that stands for a kind; in a container 1 stands for bool.
 #[inline(always)]
-fn code_of(kind: Kind) -> u8
+pub fn code_of(kind: Kind) -> u8
     ensures code { result ≡ code_of kind }
     ensures bound { result < 14 }
 {
@@ -225,7 +225,7 @@ fn code_of(kind: Kind) -> u8
 
 /// The number that stands for a bool.
 #[inline(always)]
-fn flag_code(value: bool) -> u8
+pub fn flag_code(value: bool) -> u8
     ensures code { result ≡ flag_code value }
     ensures bound { result < 16 }
 {

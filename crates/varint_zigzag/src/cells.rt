@@ -22,6 +22,7 @@ pub fn put_u64(cells: &mut [u8], to: usize, v: u64) -> usize
     requires { to + 10 ≤ length cells.old }
     ensures laid { take result cells.new ≡ take to cells.old ++ shortest v }
     ensures place { result ≡ to + length (shortest v) }
+    ensures short { result ≤ to + 10 }
 {
     if v < SHORT {
         put_short(cells, to, v)
@@ -36,6 +37,7 @@ pub fn put_u32(cells: &mut [u8], to: usize, v: u32) -> usize
     requires { to + 8 ≤ length cells.old }
     ensures laid { take result cells.new ≡ take to cells.old ++ shortest v }
     ensures place { result ≡ to + length (shortest v) }
+    ensures short { result ≤ to + 5 }
 {
     put_short(cells, to, u64::from(v))
 }

@@ -1,0 +1,12 @@
+use Rattle.std.proofs.Common.{arith}
+use Rattle.thrift_value.specs.declared.kind.Kind.TheVariants as kinds
+use Rattle.compact_protocol.specs.Forms.{blank_there, pairs_there}
+use Rattle.compact_protocol.proofs.forms.pairs_from.Goals as goal
+
+pub returns-then-size-eq0-clause-found : goal.returns-then-size-eq0-clause-found
+returns-then-size-eq0-clause-found c =
+    rw (c.if-size-eq0.true) (blank_there c.args.frame.now c.args.at c.in_ok-size.mid kinds.Bool kinds.Bool (rw (c.if-size-eq0.true) at c.in_ok-size.ensures.found))
+
+pub returns-clause-found : goal.returns-clause-found
+returns-clause-found c =
+    pairs_there c.args.frame.now c.args.at c.in_ok-size.size c.in_ok-size.mid c.in_ok-key.key c.in_ok-value.value c.in_ok-size.ensures.found (omega arith) (omega arith) c.in_ok-key.ensures c.in_ok-value.ensures

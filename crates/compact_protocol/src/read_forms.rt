@@ -1,0 +1,210 @@
+//! The reader's quick forms: one item at a place of a frame, by value.
+ghost use Rattle.std.specs.Prelude.{◌≡◌, ℕ, ℤ, ◌+◌, ◌≤◌, ◌<◌, List, ◌∷◌, length, false, true, IfSome};
+ghost use Rattle.std.specs.Int.{w64, to_be_bytes};
+ghost use Rattle.thrift_value.specs.declared.kind.Kind.{Kind};
+ghost use Rattle.thrift_value.specs.Items.{field, bool_value, i8_value, i16_value, i32_value, i64_value, double_value, text, struct_begin, end, uuid_value};
+ghost use Rattle.protocol_traits.specs.declared.forms.Container.{Container};
+ghost use Rattle.protocol_traits.specs.declared.forms.Lead.{Lead};
+ghost use Rattle.protocol_traits.specs.declared.forms.Opening.{Opening};
+ghost use Rattle.protocol_traits.specs.declared.nest.Slot.{Slot};
+ghost use Rattle.protocol_traits.specs.declared.nest.Slot.TheVariants.{Fields};
+ghost use Rattle.protocol_traits.specs.declared.proto.Hint.{Hint};
+ghost use Rattle.protocol_traits.specs.Forms.{lead_item, elements_item, container_kind, pairs_item, part, Calls, IsDone, IsPast, Steps, StepsTwice, StepsValue, StepsInto};
+ghost use Rattle.compact_protocol.specs.Forms.{stands_at, next_read, head_stands, whole_ends};
+
+use crate::forms::{
+    bool_front, double_front, elements_from, i8_front, i16_from, i32_from, i64_from, lead_from,
+    pairs_from, size_from,
+};
+use crate::reader::CompactRead;
+use crate::scan::flag_of;
+use protocol_traits::{Container, FormRead, Hint, Lead, Opening, Pairs, Span, Stand, UUID};
+use thrift_value::Kind;
+
+impl<'f> FormRead for CompactRead<'f> {
+    ghost stands_at = { stands_at };
+
+    ghost next_place = { λ s. s.place };
+
+    ghost hinted = { false };
+
+    ghost headed = { head_stands };
+
+    ghost ended = { whole_ends };
+
+    #[inline(always)]
+    fn next_place(&self) -> usize {
+        self.item_place()
+    }
+
+    #[inline(always)]
+    fn is_hinted() -> bool
+        ensures { result ≡ false }
+    {
+        false
+    }
+
+    #[inline(always)]
+    fn next_field(
+        frame: &[u8],
+        at: usize,
+        opening: Opening,
+        last: i16,
+    ) -> Option<(Lead, i16, usize)>
+        requires { at ≤ length frame.now }
+        ensures past { IfSome result (λ x. (x.0 ≡ Lead.Bad → ⊥) → IsPast at frame.now x.2) }
+        ensures steps { IfSome result (λ x. (up : List Slot) (hint : Hint) → (x.0 ≡ Lead.Bad → ⊥) → Steps next_read stands_at frame.now at opening (Fields last ∷ up) hint (lead_item x.0 x.1) x.2) }
+    {
+        lead_from(frame, at, last)
+    }
+
+    #[inline(always)]
+    fn flag(frame: &[u8], at: usize, behind: usize, opening: Opening) -> Option<(bool, usize)>
+        requires { IsPast at frame.now behind }
+        ensures past { IfSome result (λ x. IsPast at frame.now x.1) }
+        ensures steps { IfSome result (λ x. (id : ℤ) (last : ℤ) (up : List Slot)
+            → ((hint : Hint) → Steps next_read stands_at frame.now at opening (Fields last ∷ up) hint (field id Kind.Bool) behind)
+            → StepsTwice next_read stands_at frame.now at opening (Fields last ∷ up) (field id Kind.Bool) (bool_value x.0) x.1) }
+    {
+        Some((flag_of(&frame[at..]), behind))
+    }
+
+    #[inline(always)]
+    fn bool(frame: &[u8], at: usize, stand: Stand) -> Option<(bool, usize)>
+        requires place { at ≤ length frame.now }
+        requires apart { stand ≡ Stand.Field → ⊥ }
+        ensures past { IfSome result (λ x. IsPast at frame.now x.1) }
+        ensures steps { IfSome result (λ x. StepsValue next_read stands_at frame.now at stand Kind.Bool (bool_value x.0) x.1) }
+    {
+        let value = bool_front(&frame[at..])?;
+        Some((value, at + 1))
+    }
+
+    #[inline(always)]
+    fn i8(frame: &[u8], at: usize, stand: Stand) -> Option<(i8, usize)>
+        requires { at ≤ length frame.now }
+        ensures past { IfSome result (λ x. IsPast at frame.now x.1) }
+        ensures steps { IfSome result (λ x. StepsValue next_read stands_at frame.now at stand Kind.I8 (i8_value x.0) x.1) }
+    {
+        let value = i8_front(&frame[at..])?;
+        Some((value, at + 1))
+    }
+
+    #[inline(always)]
+    fn i16(frame: &[u8], at: usize, stand: Stand) -> Option<(i16, usize)>
+        requires { at ≤ length frame.now }
+        ensures past { IfSome result (λ x. IsPast at frame.now x.1) }
+        ensures steps { IfSome result (λ x. StepsValue next_read stands_at frame.now at stand Kind.I16 (i16_value x.0) x.1) }
+    {
+        i16_from(frame, at)
+    }
+
+    #[inline(always)]
+    fn i32(frame: &[u8], at: usize, stand: Stand) -> Option<(i32, usize)>
+        requires { at ≤ length frame.now }
+        ensures past { IfSome result (λ x. IsPast at frame.now x.1) }
+        ensures steps { IfSome result (λ x. StepsValue next_read stands_at frame.now at stand Kind.I32 (i32_value x.0) x.1) }
+    {
+        i32_from(frame, at)
+    }
+
+    #[inline(always)]
+    fn i64(frame: &[u8], at: usize, stand: Stand) -> Option<(i64, usize)>
+        requires { at ≤ length frame.now }
+        ensures past { IfSome result (λ x. IsPast at frame.now x.1) }
+        ensures steps { IfSome result (λ x. StepsValue next_read stands_at frame.now at stand Kind.I64 (i64_value x.0) x.1) }
+    {
+        i64_from(frame, at)
+    }
+
+    #[inline(always)]
+    fn double(frame: &[u8], at: usize, stand: Stand) -> Option<(u64, usize)>
+        requires { at ≤ length frame.now }
+        ensures past { IfSome result (λ x. IsPast at frame.now x.1) }
+        ensures steps { IfSome result (λ x. StepsValue next_read stands_at frame.now at stand Kind.Double (double_value (to_be_bytes w64 x.0)) x.1) }
+    {
+        let value = double_front(&frame[at..])?;
+        Some((value, at + 8))
+    }
+
+    #[inline(always)]
+    fn uuid(frame: &[u8], at: usize, stand: Stand) -> Option<Span>
+        requires { at ≤ length frame.now }
+        ensures past { IfSome result (λ x. IsPast at frame.now x.behind) }
+        ensures part { IfSome result (λ x. (x.begin + UUID ≡ x.end) × (x.end ≤ x.behind)) }
+        ensures steps { IfSome result (λ x. StepsValue next_read stands_at frame.now at stand Kind.Uuid (uuid_value (part frame.now x.begin x.end)) x.behind) }
+    {
+        if frame.len() - at < UUID {
+            return None;
+        }
+        let behind = at + UUID;
+        Some(Span {
+            begin: at,
+            end: behind,
+            behind,
+        })
+    }
+
+    #[inline(always)]
+    fn text(frame: &[u8], at: usize, stand: Stand, hint: Hint) -> Option<Span>
+        requires { at ≤ length frame.now }
+        ensures past { IfSome result (λ x. IsPast at frame.now x.behind) }
+        ensures part { IfSome result (λ x. (at < x.begin) × (x.begin ≤ x.end) × (x.end ≤ x.behind)) }
+        ensures steps { IfSome result (λ x. (opening : Opening) (nest : List Slot) (known : Hint) → (false ≡ true → known ≡ hint)
+            → Calls stand Kind.Str opening nest → Steps next_read stands_at frame.now at opening nest known (text (part frame.now x.begin x.end)) x.behind) }
+    {
+        let (size, begin) = size_from(frame, at)?;
+        if frame.len() - begin < size as usize {
+            return None;
+        }
+        let behind = begin + size as usize;
+        Some(Span {
+            begin,
+            end: behind,
+            behind,
+        })
+    }
+
+    #[inline(always)]
+    fn struct_begin(frame: &[u8], at: usize, stand: Stand) -> Option<usize>
+        requires { at ≤ length frame.now }
+        ensures within { IfSome result (λ x. (at ≤ x) × (x ≤ length frame.now)) }
+        ensures steps { IfSome result (λ x. StepsInto next_read stands_at frame.now at stand Kind.Struct struct_begin x) }
+    {
+        Some(at)
+    }
+
+    #[inline(always)]
+    fn elements(
+        frame: &[u8],
+        at: usize,
+        stand: Stand,
+        container: Container,
+    ) -> Option<(Kind, u32, usize)>
+        requires place { at ≤ length frame.now }
+        requires no_map { container ≡ Container.Map → ⊥ }
+        ensures past { IfSome result (λ x. IsPast at frame.now x.2) }
+        ensures steps { IfSome result (λ x. StepsInto next_read stands_at frame.now at stand (container_kind container) (elements_item container x.0 x.1) x.2) }
+    {
+        elements_from(frame, at)
+    }
+
+    #[inline(always)]
+    fn pairs(frame: &[u8], at: usize, stand: Stand) -> Option<Pairs>
+        requires { at ≤ length frame.now }
+        ensures past { IfSome result (λ x. IsPast at frame.now x.behind) }
+        ensures long { IfSome result (λ x. 0 < x.size → at + 2 ≤ x.behind) }
+        ensures steps { IfSome result (λ x. StepsInto next_read stands_at frame.now at stand Kind.Map (pairs_item x.key x.value x.size) x.behind) }
+    {
+        pairs_from(frame, at)
+    }
+
+    #[inline(always)]
+    fn end(frame: &[u8], at: usize, container: Container) -> Option<usize>
+        requires { at ≤ length frame.now }
+        ensures within { IfSome result (λ x. (at ≤ x) × (x ≤ length frame.now)) }
+        ensures steps { IfSome result (λ x. (opening : Opening) (nest : List Slot) (hint : Hint) → IsDone container nest → Steps next_read stands_at frame.now at opening nest hint end x) }
+    {
+        Some(at)
+    }
+}
