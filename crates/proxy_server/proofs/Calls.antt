@@ -1,13 +1,14 @@
 -- What the calls of a server lead to, wherever it stands.
-use Rattle.std.proofs.Common.{◌≡◌, ◌≢◌, ℕ, zero, suc, ◌+◌, ◌<◌, ◌≤◌, ◌⊎◌, inl, inr, List, [], ◌∷◌, ◌++◌, length, take, Option, None, Some, true, false, true≢false, arith, ap, sym, ◌∙◌, subst, refl, append_assoc}
+use Rattle.std.proofs.Common.{◌≡◌, ◌≢◌, ℕ, zero, suc, ◌+◌, ◌<◌, ◌≤◌, ◌⊎◌, inl, inr, List, [], ◌∷◌, ◌++◌, length, take, Option, None, Some, Result, Ok, Err, Bool, true, false, true≢false, arith, ap, sym, ◌∙◌, subst, refl, append_assoc}
 use Rattle.std.proofs.lemmas.List.{append-nil, length-set}
 use Rattle.std.proofs.lemmas.List.Edits.{length-remove}
 use Rattle.std.proofs.lemmas.Grind.{flat_map-append}
 use Rattle.std.specs.Io.KnownBytes.{Appends}
+use Rattle.std.specs.Prelude.{⊤}
 use Rattle.std.specs.List.{slice_get, remove}
 use Rattle.std.proofs.Math.ListN.{set as put}
-use Rattle.gate_hub.specs.Meaning.{Told, Link, Meaning, IsOpen, link_of}
-use Rattle.gate_hub.specs.Hubs.{Leads, Changes, Closes, Answers, HasStarted, NextLeads}
+use Rattle.gate_hub.specs.Meaning.{Told, Link, HubCall, Closed, Meaning, IsOpen, link_of}
+use Rattle.gate_hub.specs.Hubs.{Counts, Later, Leads, Changes, Closes, Answers, HasStarted, NextLeads}
 use Rattle.gate_base.specs.Causes.{Rose}
 use Rattle.gate_hub.specs.declared.hub.Served.{Served}
 use Rattle.gate_hub.specs.declared.hub.Served.TheVariants as served
@@ -21,27 +22,28 @@ use Rattle.session_core.specs.Standing.{Standing, History}
 use Rattle.session_core.specs.Session.{Seen, due_to}
 use Rattle.session_core.specs.Fits.{Fits}
 use Rattle.session_core.specs.Steps.{outcome_of}
+use Rattle.session_core.specs.Ends.{is_own}
 use Rattle.session_core.specs.declared.outcome.Outcome.{Outcome}
 use Rattle.session_core.specs.declared.outcome.Outcome.TheVariants as outcome
 use Rattle.proxy_server.specs.Matching.{history_of, Matches, IsSame}
 use Rattle.proxy_server.specs.Lines.{line_text}
 use Rattle.gate_io.specs.Fronts.{AppendsFront}
+use Rattle.proxy_server.specs.Calling.{closings_of, EndsFailing}
 use Rattle.proxy_server.specs.Turning.{ReadsNoMore, held_of_side, HasFailed, IsSettled, Goes, TurnDoes, EndsBy, ByLink, BySession, EndsAs, GoesOn}
-use Rattle.proxy_server.specs.declared.ending.Turn.TheVariants as turn
+use Rattle.proxy_server.specs.declared.turn_end.Turn.TheVariants as turn
 use Rattle.gate_io.specs.declared.writing.Wrote.{Wrote}
 use Rattle.gate_io.specs.declared.writing.Wrote.TheVariants as wrote
-use Rattle.proxy_server.specs.declared.server.Went.{Went}
-use Rattle.proxy_server.specs.declared.server.Went.TheVariants as went
-use Rattle.proxy_server.specs.declared.server.Attended.{Attended}
-use Rattle.proxy_server.specs.declared.server.Attended.TheVariants as attended
-use Rattle.proxy_server.specs.Serving.{Setting, Entry, Closing, IsHeld, IsOutcome, LinkFailed, OfItself, IsRising, Stands, no_more, Keeps, IsFresh, EndsOn, SpendsBy, is_over, closing_line, closing_lines, left_line, left_lines}
+use Rattle.proxy_server.specs.declared.server.End.{End}
+use Rattle.proxy_server.specs.declared.server.End.TheVariants as ends
+use Rattle.proxy_server.specs.Serving.{Setting, Entry, Closing, IsHeld, IsOutcome, LinkFailed, OfItself, IsRising, Stands, no_more, Keeps, IsFresh, EndsOn, SpendsBy, is_over, closing_line, closing_lines, left_line, left_lines, ended_numbers, held_numbers, IsClosedInOrder, IsJustClosed}
 use Rattle.proxy_server.specs.Working.{IsAtWork, Waits, HasWaited, IsBusy, IsNamed, HasEndedAt, Awaits}
-use Rattle.proxy_server.specs.Steps.{Writes, WentWrites, WentTo, AreUnfailed, Leaves, IsLeft, Accounts, Attends, Serves, first_wrote, served_by, Goes as StepGoes}
+use Rattle.proxy_server.specs.Steps.{IsRefusedAs, WasCounted, StepEnds, Writes, Outside, WorkEnds, StepWrites, EndedTo, LastLineFails, AreUnfailed, closing_calls, Leaves, LinesEnd, AllLines, LastOfWork, LeftOpen, WritesLines, AnswersLines, IsLeft, Accounts, Ending, Serves, first_wrote, served_by, Goes as StepGoes}
 use Rattle.proxy_server.specs.Spending.{moved_of}
 use Rattle.proxy_server.proofs.Places.{decide, some_same, get_put_same, put_as_it_was, get_within, elsewhere}
 use Rattle.gate_io.proofs.Streams.{appends_none, appends_on, then_front, front_of_more}
-use Rattle.proxy_server.proofs.Endings.{opened_outcome}
-use Rattle.proxy_server.proofs.Tallies.{tally_none, tally_on, turned_work, long_work, closed_tally, closed_work, more_work, ended_full, refused_full}
+use Rattle.proxy_server.proofs.Ordering.{order_kept, order_left, closing_more, all_left, ends_failing_on, just_closed, counted_none, counted_wider, counted_both}
+use Rattle.proxy_server.proofs.Running.{later_not}
+use Rattle.proxy_server.proofs.Tallies.{tally_none, tally_on, turned_work, long_work, closed_tally, ended_work, ended_full, refused_full}
 use Rattle.proxy_server.proofs.Standing.{changes, same_all, is_quiet, closed_calm, removes, refuses, announces, names, turns_on, was_failed, at_place}
 
 pub keeps_then : (told told' told'' P Q R : Meaning → Type 0) → Keeps told told' P Q → Keeps told' told'' Q R → Keeps told told'' P R
@@ -58,7 +60,7 @@ keeps_on told told' P Q R p by = λ m tells is.
 same_count : {J : Type 0} → (begun : Meaning) (set : Setting) (spent : ℕ) (held : List (Entry J)) (past : List Closing) (at : ℕ) (e : Entry J) (m : Meaning) → IsAtWork begun set spent (length held) past m → IsAtWork begun set spent (length (put held at e)) past m
 same_count begun set spent held past at e m w = subst (λ n. IsAtWork begun set spent n past m) (sym (length-set held at e)) w
 
-pub turned_settled : (J : Type 0) (rules : J → Rules) (set : Setting) (begun : Meaning) (spent : ℕ) (held : List (Entry J)) (past : List Closing) (at : ℕ) (e e' : Entry J) (told told' : Meaning → Type 0) → slice_get held at ≡ Some e → e'.number ≡ e.number → IsSame J e.session e'.session → Goes told told' (Matches J rules e.session) (Matches J rules e'.session) e.number (TurnDoes J rules e'.session turn.Settled) → Keeps told told' (IsBusy J rules set begun spent at held past) (Waits J rules set begun spent (put held at e') past)
+pub turned_settled : (J : Type 0) (rules : J → Rules) (set : Setting) (begun : Meaning) (spent : ℕ) (held : List (Entry J)) (past : List Closing) (at : ℕ) (e e' : Entry J) (told told' : Meaning → Type 0) → slice_get held at ≡ Some e → e'.number ≡ e.number → IsSame J e.session e'.session → Goes told told' (Matches J rules e.session) (Matches J rules e'.session) e.number (TurnDoes J rules e.number e'.session turn.Settled) → Keeps told told' (IsBusy J rules set begun spent at held past) (Waits J rules set begun spent (put held at e') past)
 turned_settled J rules set begun spent held past at e e' told told' was number same goes = λ m tells b.
     let s = b.stands in
     let h = s.each at e was in
@@ -74,7 +76,7 @@ turned_settled J rules set begun spent held past at e e' told told' was number s
       },
     )
 
-pub turned_more : (J : Type 0) (rules : J → Rules) (set : Setting) (begun : Meaning) (spent : ℕ) (held : List (Entry J)) (past : List Closing) (at : ℕ) (e e' : Entry J) (told told' : Meaning → Type 0) → slice_get held at ≡ Some e → e'.number ≡ e.number → IsSame J e.session e'.session → Goes told told' (Matches J rules e.session) (Matches J rules e'.session) e.number (TurnDoes J rules e'.session turn.More) → Keeps told told' (IsBusy J rules set begun spent at held past) (IsBusy J rules set begun (spent + 1) at (put held at e') past)
+pub turned_more : (J : Type 0) (rules : J → Rules) (set : Setting) (begun : Meaning) (spent : ℕ) (held : List (Entry J)) (past : List Closing) (at : ℕ) (e e' : Entry J) (told told' : Meaning → Type 0) → slice_get held at ≡ Some e → e'.number ≡ e.number → IsSame J e.session e'.session → Goes told told' (Matches J rules e.session) (Matches J rules e'.session) e.number (TurnDoes J rules e.number e'.session turn.More) → Keeps told told' (IsBusy J rules set begun spent at held past) (IsBusy J rules set begun (spent + 1) at (put held at e') past)
 turned_more J rules set begun spent held past at e e' told told' was number same goes = λ m tells b.
     let s = b.stands in
     let h = s.each at e was in
@@ -97,18 +99,51 @@ fits_at set rules limit most h s a b d fits =
 outcome_at : (set : Setting) (rules : Rules) (limit most : ℕ) (s : Standing) → rules ≡ set.rules → limit ≡ set.limit → most ≡ set.most → outcome_of rules limit most s ≡ outcome_of set.rules set.limit set.most s
 outcome_at set rules limit most s a b d = ap (λ (r : Rules). outcome_of r limit most s) a ∙ (ap (λ (k : ℕ). outcome_of set.rules k most s) b ∙ ap (λ (k : ℕ). outcome_of set.rules set.limit k s) d)
 
-ends_so : (J : Type 0) (rules : J → Rules) (set : Setting) (session : Seen J) (o : Outcome) (s t : Told) → IsHeld J rules set session t → ((x : Side) → HasFailed x s → ⊥) → EndsBy session.outcome o s t → IsOutcome set o t
-ends_so J rules set session o s t h calm (ByLink x is f others) = LinkFailed x session.standing is f (λ y other g. calm y (others y other g)) (fits_at set (rules session.judge) session.limit session.most _ _ h.judged h.limited h.calls h.matches.fits)
-ends_so J rules set session o s t h calm (BySession is none) = OfItself session.standing (sym (outcome_at set (rules session.judge) session.limit session.most session.standing h.judged h.limited h.calls) ∙ (sym h.matches.rest.outcome_is ∙ is)) (λ x f. calm x (was_failed s t none x f)) (fits_at set (rules session.judge) session.limit session.most _ _ h.judged h.limited h.calls h.matches.fits)
+ends_so : (J : Type 0) (rules : J → Rules) (set : Setting) (session : Seen J) (k : ℕ) (o : Outcome) (made : List HubCall) (s t : Told) → IsHeld J rules set session t → ((x : Side) → HasFailed x s → ⊥) → EndsBy k session.outcome o made s t → IsOutcome set o t
+ends_so J rules set session k o made s t h calm (ByLink x is last f others) = LinkFailed x session.standing is f (λ y other g. calm y (others y other g)) (fits_at set (rules session.judge) session.limit session.most _ _ h.judged h.limited h.calls h.matches.fits)
+ends_so J rules set session k o made s t h calm (BySession is own none) = OfItself session.standing (sym (outcome_at set (rules session.judge) session.limit session.most session.standing h.judged h.limited h.calls) ∙ (sym h.matches.rest.outcome_is ∙ is)) (λ x f. calm x (was_failed s t none x f)) (fits_at set (rules session.judge) session.limit session.most _ _ h.judged h.limited h.calls h.matches.fits)
 
-opened_so : (J : Type 0) (rules : J → Rules) (session : Seen J) (o : Outcome) (s t : Told) → Matches J rules session (history_of t) → EndsBy session.outcome o s t → o ≡ outcome.Full → ⊥
-opened_so J rules session o s t h (ByLink x is f others) full = absurd (differ (sym is ∙ full))
+abbrev is_link : Outcome → Bool
+is_link outcome.Clean = false
+is_link (outcome.ClientFault n h) = false
+is_link (outcome.UpstreamFault n h) = false
+is_link (outcome.UpstreamEnded n) = false
+is_link (outcome.Unsolicited n calls) = false
+is_link (outcome.LinkFault x) = true
+is_link outcome.Full = false
+is_link outcome.NoMemory = false
+
+not_link : (x : Side) (o : Outcome) → is_link o ≡ false → o ≡ outcome.LinkFault x → ⊥
+not_link x o off is = absurd (true≢false (sym (ap is_link is) ∙ off))
+
+opened_so : (k : ℕ) (ending : Option Outcome) (o : Outcome) (made : List HubCall) (s t : Told) → EndsBy k ending o made s t → o ≡ outcome.Full → ⊥
+opened_so k ending o made s t (ByLink x is last f others) full = absurd (differ (sym is ∙ full))
   where
     differ : outcome.LinkFault x ≡ outcome.Full → ⊥
     differ e = absurd (cc)
-opened_so J rules session o s t h (BySession is calm) full = opened_outcome (rules session.judge) session.limit session.most session.standing (sym h.rest.outcome_is ∙ (is ∙ ap Some full))
+opened_so k ending o made s t (BySession is own calm) full = absurd (true≢false (sym own ∙ ap is_own full))
 
-pub turned_ended : (J : Type 0) (rules : J → Rules) (set : Setting) (begun : Meaning) (spent : ℕ) (held : List (Entry J)) (past : List Closing) (at : ℕ) (e e' : Entry J) (o : Outcome) (told told' : Meaning → Type 0) → slice_get held at ≡ Some e → e'.number ≡ e.number → IsSame J e.session e'.session → Goes told told' (Matches J rules e.session) (Matches J rules e'.session) e.number (TurnDoes J rules e'.session (turn.Ended o)) → Keeps told told' (IsBusy J rules set begun spent at held past) (HasEndedAt J rules set begun spent at o (put held at e') past)
+-- a session that ended by a fault of a side made the call that failed last
+broke_so : (k : ℕ) (ending : Option Outcome) (o : Outcome) (calls calls' made : List HubCall) (s t : Told) → calls' ≡ calls ++ made → EndsBy k ending o made s t → (x : Side) → o ≡ outcome.LinkFault x → EndsFailing k x calls'
+broke_so k ending o calls calls' made s t e (ByLink y is last f others) x fault =
+    let same : y ≡ x = same_side y x (sym is ∙ fault) in
+    ends_failing_on k x calls calls' made e (subst (λ z. EndsFailing k z made) same last)
+  where
+    side_or : Outcome → Side → Side
+    side_or outcome.Clean d = d
+    side_or (outcome.ClientFault n h) d = d
+    side_or (outcome.UpstreamFault n h) d = d
+    side_or (outcome.UpstreamEnded n) d = d
+    side_or (outcome.Unsolicited n c) d = d
+    side_or (outcome.LinkFault z) d = z
+    side_or outcome.Full d = d
+    side_or outcome.NoMemory d = d
+
+    same_side : (a b : Side) → outcome.LinkFault a ≡ outcome.LinkFault b → a ≡ b
+    same_side a b q = ap (λ z. side_or z a) q
+broke_so k ending o calls calls' made s t e (BySession is own calm) x fault = absurd (true≢false (sym own ∙ ap is_own fault))
+
+pub turned_ended : (J : Type 0) (rules : J → Rules) (set : Setting) (begun : Meaning) (spent : ℕ) (held : List (Entry J)) (past : List Closing) (at : ℕ) (e e' : Entry J) (o : Outcome) (told told' : Meaning → Type 0) → slice_get held at ≡ Some e → e'.number ≡ e.number → IsSame J e.session e'.session → Goes told told' (Matches J rules e.session) (Matches J rules e'.session) e.number (TurnDoes J rules e.number e'.session (turn.Ended o)) → Keeps told told' (IsBusy J rules set begun spent at held past) (HasEndedAt J rules set begun spent at o (put held at e') past)
 turned_ended J rules set begun spent held past at e e' o told told' was number same goes = λ m tells b.
     let s = b.stands in
     let h = s.each at e was in
@@ -121,72 +156,127 @@ turned_ended J rules set begun spent held past at e e' o told told' was number s
         stands = stands;
         why = λ d got. at_place J held at e e' d (λ u t. IsOutcome set o t) g.0 was number
             (subst (λ k. IsOutcome set o (g.0.session k)) number
-            (ends_so J rules set e'.session o (m.session e.number) (g.0.session e'.number) (stands.each at e' (get_put_same held at e' (get_within held at e was))) (b.unfailed e was)
-            (subst (λ k. EndsBy e'.session.outcome o (m.session e.number) (g.0.session k)) (sym number) does.1))) got;
-        opened = opened_so J rules e'.session o (m.session e.number) (g.0.session e.number) g.2 does.1;
+            (ends_so J rules set e'.session e.number o g.3.made (m.session e.number) (g.0.session e'.number) (stands.each at e' (get_put_same held at e' (get_within held at e was))) (b.unfailed e was)
+            (subst (λ k. EndsBy e.number e'.session.outcome o g.3.made (m.session e.number) (g.0.session k)) (sym number) does.1))) got;
+        broke = λ d x got is. subst (λ k. EndsFailing k x g.0.calls) (sym (ap (λ (f : Entry J). f.number) (sym (some_same (slice_get (put held at e') at) e' d (get_put_same held at e' (get_within held at e was)) got)) ∙ number))
+            (broke_so e.number e'.session.outcome o m.calls g.0.calls g.3.made (m.session e.number) (g.0.session e.number) g.3.calls does.1 x is);
+        opened = opened_so e.number e'.session.outcome o g.3.made (m.session e.number) (g.0.session e.number) does.1;
         work = same_count begun set spent held past at e' g.0 (turned_work begun set spent (length held) past e.number _ m g.0 b.work h.announced does.0 g.3);
       },
     )
 
 -- ---- what the calls of the server do
 
-pub went_writes : (w : Wrote) (r : Went) (old new : Option (List ℕ)) (lines : List ℕ) → (w ≡ wrote.All → r ≡ went.On) → (w ≡ wrote.Failed → r ≡ went.WriteFault) → Writes w old new lines → WentWrites r old new lines
-went_writes wrote.All r old new lines a b x = subst (λ q. WentWrites q old new lines) (sym (a refl)) x
-went_writes wrote.Failed r old new lines a b x = subst (λ q. WentWrites q old new lines) (sym (b refl)) x
+-- where the work goes on once a line was written, or ends where it could not be
+pub line_ends : (w : Wrote) (r : Result ⊤ End) (spent events : ℕ) → (w ≡ wrote.All → (x : ⊤) × (r ≡ Ok x)) → (w ≡ wrote.Failed → r ≡ Err ends.WriteFault) → WorkEnds r spent events
+line_ends wrote.All r spent events a b = subst (λ q. WorkEnds q spent events) (sym (a refl).1) tt
+line_ends wrote.Failed r spent events a b = subst (λ q. WorkEnds q spent events) (sym (b refl)) tt
 
-went_to : (J : Type 0) (rules : J → Rules) (w : Wrote) (r : Went) (set : Setting) (begun : Meaning) (spent : ℕ) (held : List (Entry J)) (past : List Closing) (m : Meaning) → (w ≡ wrote.All → r ≡ went.On) → (w ≡ wrote.Failed → r ≡ went.WriteFault) → Waits J rules set begun spent held past m → WentTo J rules r set begun spent held past m
-went_to J rules wrote.All r set begun spent held past m a b x = subst (λ q. WentTo J rules q set begun spent held past m) (sym (a refl)) x
-went_to J rules wrote.Failed r set begun spent held past m a b x = subst (λ q. WentTo J rules q set begun spent held past m) (sym (b refl)) x
+pub write_fault_by : (w : Wrote) (r : Result ⊤ End) (f g : ℕ) → (w ≡ wrote.All → (x : ⊤) × (r ≡ Ok x)) → (w ≡ wrote.Failed → Rose f g) → r ≡ Err ends.WriteFault → Rose f g
+write_fault_by wrote.All r f g a b is = absurd (other (a refl).0 (sym (a refl).1 ∙ is))
+  where
+    other : (x : ⊤) → Ok x ≡ Err ends.WriteFault → ⊥
+    other x e = absurd (cc)
+write_fault_by wrote.Failed r f g a b is = b refl
 
-pub one_line : (k : ℕ) (o : Outcome) → closing_lines ((k, o) ∷ []) ≡ line_text k (Some o)
+one_line : (k : ℕ) (o : Outcome) → closing_lines ((k, o) ∷ []) ≡ line_text k (Some o)
 one_line k o = append-nil (line_text k (Some o))
 
-refused_by : (held sessions : ℕ) (o : Outcome) → ((o ≡ outcome.Full) × (sessions ≤ held)) ⊎ ((o ≡ outcome.NoMemory) × (held < sessions)) → (o ≡ outcome.Full) ⊎ (o ≡ outcome.NoMemory)
+-- the one line of a session that has ended
+pub line_writes : (w : Wrote) (r : Result ⊤ End) (k : ℕ) (o : Outcome) (old new : Option (List ℕ)) → (w ≡ wrote.All → (x : ⊤) × (r ≡ Ok x)) → (w ≡ wrote.Failed → r ≡ Err ends.WriteFault) → Writes w old new (line_text k (Some o)) → StepWrites r old new ((k, o) ∷ [])
+line_writes wrote.All r k o old new a b x =
+    subst (λ q. StepWrites q old new ((k, o) ∷ [])) (sym (a refl).1) (subst (λ (xs : List ℕ). Appends old new xs) (sym (one_line k o)) x)
+line_writes wrote.Failed r k o old new a b x =
+    subst (λ q. StepWrites q old new ((k, o) ∷ [])) (sym (b refl)) (record { before = []; last = (k, o); count = x.0; ended_are = refl; within = x.1; written = x.2 })
+
+ended_to : (J : Type 0) (rules : J → Rules) (w : Wrote) (r : Result ⊤ End) (set : Setting) (begun : Meaning) (spent : ℕ) (held : List (Entry J)) (past : List Closing) (m : Meaning) → (w ≡ wrote.All → (x : ⊤) × (r ≡ Ok x)) → (w ≡ wrote.Failed → r ≡ Err ends.WriteFault) → Waits J rules set begun spent held past m → IsJustClosed past m.calls → EndedTo J rules r set begun spent held past m
+ended_to J rules wrote.All r set begun spent held past m a b x last = subst (λ q. EndedTo J rules q set begun spent held past m) (sym (a refl).1) x
+ended_to J rules wrote.Failed r set begun spent held past m a b x last = subst (λ q. EndedTo J rules q set begun spent held past m) (sym (b refl)) (x, last)
+
+refused_by : (held sessions : ℕ) (o : Outcome) → IsRefusedAs o held sessions → (o ≡ outcome.Full) ⊎ (o ≡ outcome.NoMemory)
 refused_by held sessions o (inl full) = inl full.0
 refused_by held sessions o (inr none) = inr none.0
 
-pub refused : (J : Type 0) (rules : J → Rules) (set : Setting) (begun : Meaning) (spent : ℕ) (held held' : List (Entry J)) (past : List Closing) (k : ℕ) (o : Outcome) (w : Wrote) (r : Went) (told told' : Meaning → Type 0) → (w ≡ wrote.All → r ≡ went.On) → (w ≡ wrote.Failed → r ≡ went.WriteFault) → ((o ≡ outcome.Full) × (set.sessions ≤ length held)) ⊎ ((o ≡ outcome.NoMemory) × (length held < set.sessions)) → held' ≡ held → Leads told told' (IsOpen k) (Changes k Closes) → Keeps told told' (Awaits J rules set begun spent k held past) (WentTo J rules r set begun spent held' (past ++ (k, o) ∷ []))
-refused J rules set begun spent held held' past k o w r told told' a b why same leads = λ m tells awaits.
+pub refused : (J : Type 0) (rules : J → Rules) (set : Setting) (begun : Meaning) (spent : ℕ) (held : List (Entry J)) (past : List Closing) (k : ℕ) (o : Outcome) (w : Wrote) (r : Result ⊤ End) (told told' : Meaning → Type 0) → (w ≡ wrote.All → (x : ⊤) × (r ≡ Ok x)) → (w ≡ wrote.Failed → r ≡ Err ends.WriteFault) → IsRefusedAs o (length held) set.sessions → Leads told told' (IsOpen k) (Changes k (Closed k) Closes) → Keeps told told' (Awaits J rules set begun spent k held past) (EndedTo J rules r set begun spent held (past ++ (k, o) ∷ []))
+refused J rules set begun spent held past k o w r told told' a b why leads = λ m tells awaits.
     let led = leads m tells (ap (λ (u : Told). u.announced) awaits.new, ap (λ (u : Told). u.closed) awaits.new) in
     let few = awaits.work.tally.few in
     let full = refused_full J rules set held past k o m awaits.stands awaits.above few why in
-    let work = closed_work begun set spent (length held) (past ++ (k, o) ∷ []) k m led.0 (more_work begun set spent (length held) (length held) past (k, o) m awaits.work few full) led.2 in (
+    let work = ended_work begun set spent (length held) (length held) past k o m led.0 awaits.work few full led.2 in (
       led.0,
       led.1,
-      went_to J rules w r set begun spent held' (past ++ (k, o) ∷ []) led.0 a b
-          (subst (λ xs. Waits J rules set begun spent xs (past ++ (k, o) ∷ []) led.0) (sym same)
-          (record { stands = refuses J rules set begun spent held past k o m led.0 awaits (refused_by (length held) set.sessions o why) led.2; work = work })),
+      ended_to J rules w r set begun spent held (past ++ (k, o) ∷ []) led.0 a b
+          (record { stands = refuses J rules set begun spent held past k o m led.0 awaits (refused_by (length held) set.sessions o why) led.2; work = work })
+          (just_closed past k o m.calls led.0.calls led.2.calls),
     )
 
-pub finished : (J : Type 0) (rules : J → Rules) (set : Setting) (begun : Meaning) (spent : ℕ) (held held' : List (Entry J)) (past : List Closing) (at k : ℕ) (e : Entry J) (o : Outcome) (w : Wrote) (r : Went) (told told' : Meaning → Type 0) → (w ≡ wrote.All → r ≡ went.On) → (w ≡ wrote.Failed → r ≡ went.WriteFault) → slice_get held at ≡ Some e → k ≡ e.number → held' ≡ remove held at → Leads told told' (IsOpen k) (Changes k Closes) → Keeps told told' (HasEndedAt J rules set begun spent at o held past) (WentTo J rules r set begun spent held' (past ++ (k, o) ∷ []))
+pub finished : (J : Type 0) (rules : J → Rules) (set : Setting) (begun : Meaning) (spent : ℕ) (held held' : List (Entry J)) (past : List Closing) (at k : ℕ) (e : Entry J) (o : Outcome) (w : Wrote) (r : Result ⊤ End) (told told' : Meaning → Type 0) → (w ≡ wrote.All → (x : ⊤) × (r ≡ Ok x)) → (w ≡ wrote.Failed → r ≡ Err ends.WriteFault) → slice_get held at ≡ Some e → k ≡ e.number → held' ≡ remove held at → Leads told told' (IsOpen k) (Changes k (Closed k) Closes) → Keeps told told' (HasEndedAt J rules set begun spent at o held past) (EndedTo J rules r set begun spent held' (past ++ (k, o) ∷ []))
 finished J rules set begun spent held held' past at k e o w r told told' a b was number removed leads = λ m tells h.
     let s = h.stands in
     let led = leads m tells (ap (λ j. (m.session j).announced) number ∙ (s.each at e was).announced, ap (λ j. (m.session j).closed) number ∙ s.is_open at e was (omega arith)) in
     let few = h.work.tally.few in
     let full = ended_full J rules set held past at e o m s was h.opened few in
     let fewer : length (remove held at) ≤ set.sessions = omega (arith, few, length-remove held at (get_within held at e was)) in
-    let change : Changes e.number Closes m led.0 = subst (λ j. Changes j Closes m led.0) number led.2 in
-    let work = closed_work begun set spent (length (remove held at)) (past ++ (e.number, o) ∷ []) e.number m led.0 (more_work begun set spent (length held) (length (remove held at)) past (e.number, o) m h.work fewer full) change in (
+    let change : Changes e.number (Closed e.number) Closes m led.0 = subst (λ j. Changes j (Closed j) Closes m led.0) number led.2 in
+    let work = ended_work begun set spent (length held) (length (remove held at)) past e.number o m led.0 h.work fewer full change in (
       led.0,
       led.1,
-      went_to J rules w r set begun spent held' (past ++ (k, o) ∷ []) led.0 a b
+      ended_to J rules w r set begun spent held' (past ++ (k, o) ∷ []) led.0 a b
           (subst (λ xs. Waits J rules set begun spent xs (past ++ (k, o) ∷ []) led.0) (sym removed)
           (subst (λ j. Waits J rules set begun spent (remove held at) (past ++ (j, o) ∷ []) led.0) (sym number)
-          (record { stands = removes J rules set held past at e o m led.0 was s (h.why e was) change; work = work }))),
+          (record { stands = removes J rules set held past at e o m led.0 was s (h.why e was) (λ x is. h.broke e x was is) change; work = work })))
+          (just_closed past k o m.calls led.0.calls led.2.calls),
     )
 
+-- a session that was not opened did not end by a fault of a side
+pub refused_alone : (held sessions : ℕ) (o : Outcome) (x : Side) → IsRefusedAs o held sessions → o ≡ outcome.LinkFault x → ⊥
+refused_alone held sessions o x (inl full) is = not_link x outcome.Full refl (sym full.0 ∙ is)
+refused_alone held sessions o x (inr none) is = not_link x outcome.NoMemory refl (sym none.0 ∙ is)
+
+-- nothing was written
+pub unwritten : (a b : Option (List ℕ)) → b ≡ a → Appends a b []
+unwritten a b same = subst (λ (o : Option (List ℕ)). Appends a o []) (sym same) (appends_none a)
+
+-- a fault of a side that a turn met was counted, for the session at its place
+pub counted_at : (J : Type 0) (held : List (Entry J)) (at : ℕ) (e e' : Entry J) (o : Outcome) (a b c : Counts) → slice_get held at ≡ Some e → e'.number ≡ e.number → Later a b → ((x : Side) → o ≡ outcome.LinkFault x → Rose (b.link_faults e.number x) (c.link_faults e.number x)) → WasCounted a c o (put held at e') at
+counted_at J held at e e' o a b c was number later rose = λ d x got is.
+    let same : e' ≡ d = some_same (slice_get (put held at e') at) e' d (get_put_same held at e' (get_within held at e was)) got in
+    let from = later.links e.number x in
+    subst (λ (f : Entry J). Rose (a.link_faults f.number x) (c.link_faults f.number x)) same
+    (subst (λ k. Rose (a.link_faults k x) (c.link_faults k x)) (sym number) (omega (arith, from, rose x is)))
+
+pub step_ends : (r : Result ⊤ End) (before spent events : ℕ) → WorkEnds r spent events → before < spent → StepEnds r before spent events
+step_ends (Ok x) before spent events p less = less
+step_ends (Err ends.Stopped) before spent events p less = absurd p
+step_ends (Err ends.HubFault) before spent events p less = absurd p
+step_ends (Err ends.WriteFault) before spent events p less = tt
+step_ends (Err (ends.Budget at)) before spent events p less = p
+
+pub no_hub_fault : (X : Type 0) (r : Result ⊤ End) (spent events : ℕ) → WorkEnds r spent events → r ≡ Err ends.HubFault → X
+no_hub_fault X r spent events p is = absurd (subst (λ q. WorkEnds q spent events) is p)
+
 -- no session has ended on the way
-pub with_none : (told told' Before : Meaning → Type 0) (After : List Closing → Meaning → Type 0) (past : List Closing) → Keeps told told' Before (After past) → Keeps told told' Before (After (past ++ []))
-with_none told told' Before After past p = subst (λ (xs : List Closing). Keeps told told' Before (After xs)) (sym (append-nil past)) p
+pub goes_quietly : (J : Type 0) (rules : J → Rules) (set : Setting) (a b : Outside) (Before : Meaning → List Closing → Meaning → Type 0) (spent : ℕ) (held : List (Entry J)) (r : Result ⊤ End) → StepWrites r a.written b.written [] → ((begun : Meaning) (past : List Closing) → Keeps a.told b.told (Before begun past) (EndedTo J rules r set begun spent held past)) → StepGoes J rules set a b Before spent held r
+goes_quietly J rules set a b Before spent held r writes keeps = record {
+  more = [];
+  writes = writes;
+  counted = counted_none a.counts b.counts;
+  keeps = λ begun past. subst (λ (xs : List Closing). Keeps a.told b.told (Before begun past) (EndedTo J rules r set begun spent held xs)) (sym (append-nil past)) (keeps begun past);
+}
 
 pub more_goes_on : (ending : Option Outcome) → EndsAs ending turn.More → ending ≡ None
 more_goes_on ending (GoesOn e) = e
 
 -- ---- from one step to the next
 
--- what was gone on from, by what leads to it
-pub goes_after : (J : Type 0) (rules : J → Rules) (told told' told'' : Meaning → Type 0) (written written' : Option (List ℕ)) (set : Setting) (Before Mid : Meaning → List Closing → Meaning → Type 0) (spent : ℕ) (held : List (Entry J)) (r : Went) → ((begun : Meaning) (past : List Closing) → Keeps told told' (Before begun past) (Mid begun past)) → StepGoes J rules told' told'' written written' set Mid spent held r → StepGoes J rules told told'' written written' set Before spent held r
-goes_after J rules told told' told'' written written' set Before Mid spent held r p g = (g.0, g.1, λ begun past. keeps_then told told' told'' (Before begun past) (Mid begun past) (WentTo J rules r set begun spent held (past ++ g.0)) (p begun past) (g.2 begun past))
+-- what was gone on from, by what leads to it: nothing was written on the way
+pub goes_after : (J : Type 0) (rules : J → Rules) (set : Setting) (a b c : Outside) (Before Mid : Meaning → List Closing → Meaning → Type 0) (spent : ℕ) (held : List (Entry J)) (r : Result ⊤ End) → a.written ≡ b.written → Later a.counts b.counts → ((begun : Meaning) (past : List Closing) → Keeps a.told b.told (Before begun past) (Mid begun past)) → StepGoes J rules set b c Mid spent held r → StepGoes J rules set a c Before spent held r
+goes_after J rules set a b c Before Mid spent held r same later p g = record {
+  more = g.more;
+  writes = subst (λ (o : Option (List ℕ)). StepWrites r o c.written g.more) (sym same) g.writes;
+  counted = counted_wider a.counts b.counts c.counts c.counts g.more later (later_not c.counts) g.counted;
+  keeps = λ begun past. keeps_then a.told b.told c.told (Before begun past) (Mid begun past) (EndedTo J rules r set begun spent held (past ++ g.more)) (p begun past) (g.keeps begun past);
+}
 
 pub stays_so : (told Before After : Meaning → Type 0) → ((m : Meaning) → Before m → After m) → Keeps told told Before After
 stays_so told Before After by = λ m tells b. (m, tells, by m b)
@@ -203,7 +293,8 @@ named_none J rules set begun spent held past k After m none (i, e, p, q, busy) =
 
 waited_on : (J : Type 0) (rules : J → Rules) (set : Setting) (begun : Meaning) (spent : ℕ) (held : List (Entry J)) (past : List Closing) (last : HubNext) (m n : Meaning) → Waits J rules set begun spent held past m → Answers last m n → HasWaited J rules set begun spent last held past n
 waited_on J rules set begun spent held past last m n w a = record {
-  stands = same_all J rules set no_more held past (length held) 0 m n w.stands a.sessions a.started;
+  stands = same_all J rules set no_more held past (length held) 0 _ m n w.stands a.sessions a.started a.calls;
+  order = order_kept begun.calls m.calls n.calls _ (ended_numbers past) a.calls refl w.work.order;
   tally = tally_on begun set spent (length held) past m n w.work.tally (λ j. ap (λ (u : Told). u.announced) (a.sessions j)) (λ j. omega (arith, ap moved_of (a.sessions j))) a.started a.events;
   last_event = a.last_event;
 }
@@ -228,21 +319,51 @@ ready_on J rules set begun spent held past k told told' leads = λ m tells w.
     let led = leads m tells w.stands.started in
     (led.0, led.1, names J rules set begun spent held past k m led.0 w led.2.1.0 led.2.1.1)
 
--- sessions that have ended on the way, and others after them
-pub chained : (told told' told'' : Meaning → Type 0) (written written' written'' : Option (List ℕ)) (Before Mid After : Meaning → List Closing → Meaning → Type 0) (W : Option (List ℕ) → Option (List ℕ) → List ℕ → Type 0) → ((xs ys : List ℕ) → Appends written written' xs → W written' written'' ys → W written written'' (xs ++ ys)) → (more : List Closing) × Appends written written' (closing_lines more) × ((begun : Meaning) (past : List Closing) → Keeps told told' (Before begun past) (Mid begun (past ++ more))) → (more : List Closing) × W written' written'' (closing_lines more) × ((begun : Meaning) (past : List Closing) → Keeps told' told'' (Mid begun past) (After begun (past ++ more))) → (more : List Closing) × W written written'' (closing_lines more) × ((begun : Meaning) (past : List Closing) → Keeps told told'' (Before begun past) (After begun (past ++ more)))
-chained told told' told'' written written' written'' Before Mid After W then a b = (
-  a.0 ++ b.0,
-  subst (λ xs. W written written'' xs) (sym (flat_map-append closing_line a.0 b.0)) (then (closing_lines a.0) (closing_lines b.0) a.1 b.1),
-  (λ begun past. subst (λ (xs : List Closing). Keeps told told'' (Before begun past) (After begun xs)) (append_assoc past a.0 b.0)
-      (keeps_then told told' told'' (Before begun past) (Mid begun (past ++ a.0)) (After begun ((past ++ a.0) ++ b.0)) (a.2 begun past) (b.2 begun (past ++ a.0)))),
-)
-
 pub waits_spent : (J : Type 0) (rules : J → Rules) (set : Setting) (begun : Meaning) (spent : ℕ) (held : List (Entry J)) (past : List Closing) (m : Meaning) → Waits J rules set begun spent held past m → IsBusy J rules set begun spent (length held) held past m
 waits_spent J rules set begun spent held past m w = record {
   stands = w.stands;
   going = λ e got. absurd (omega (arith, get_within held (length held) e got));
   unfailed = λ e got. absurd (omega (arith, get_within held (length held) e got));
   work = w.work;
+}
+
+-- the last of these lines failed, behind others that were written
+last_behind : (a b c : Option (List ℕ)) (xs ys : List Closing) → Appends a b (closing_lines xs) → LastLineFails b c ys → LastLineFails a c (xs ++ ys)
+last_behind a b c xs ys p q = record {
+  before = xs ++ q.before;
+  last = q.last;
+  count = q.count;
+  ended_are = ap (λ zs. xs ++ zs) q.ended_are ∙ sym (append_assoc xs q.before (q.last ∷ []));
+  within = q.within;
+  written = subst (λ (zs : List ℕ). Appends a c zs) (sym (ap (λ zs. zs ++ take q.count (closing_line q.last)) (flat_map-append closing_line xs q.before) ∙ append_assoc (closing_lines xs) (closing_lines q.before) (take q.count (closing_line q.last))))
+      (appends_on a b c (closing_lines xs) (closing_lines q.before ++ take q.count (closing_line q.last)) p q.written);
+}
+
+writes_behind : (r : Result ⊤ End) (a b c : Option (List ℕ)) (xs ys : List Closing) → Appends a b (closing_lines xs) → StepWrites r b c ys → StepWrites r a c (xs ++ ys)
+writes_behind (Ok x) a b c xs ys p q = subst (λ (zs : List ℕ). Appends a c zs) (sym (flat_map-append closing_line xs ys)) (appends_on a b c (closing_lines xs) (closing_lines ys) p q)
+writes_behind (Err ends.Stopped) a b c xs ys p q = subst (λ (zs : List ℕ). Appends a c zs) (sym (flat_map-append closing_line xs ys)) (appends_on a b c (closing_lines xs) (closing_lines ys) p q)
+writes_behind (Err ends.HubFault) a b c xs ys p q = subst (λ (zs : List ℕ). Appends a c zs) (sym (flat_map-append closing_line xs ys)) (appends_on a b c (closing_lines xs) (closing_lines ys) p q)
+writes_behind (Err ends.WriteFault) a b c xs ys p q = last_behind a b c xs ys p q
+writes_behind (Err (ends.Budget at)) a b c xs ys p q = subst (λ (zs : List ℕ). Appends a c zs) (sym (flat_map-append closing_line xs ys)) (appends_on a b c (closing_lines xs) (closing_lines ys) p q)
+
+-- sessions that have ended on the way, and others after them
+-- the budget is spent
+pub at_budget : (J : Type 0) (rules : J → Rules) (set : Setting) (a b : Outside) (x : ⊤) (spent spent' at : ℕ) (held held' : List (Entry J)) → at ≡ length held' → StepGoes J rules set a b (λ begun. Waits J rules set begun spent held) spent' held' (Ok x) → StepGoes J rules set a b (λ begun. Waits J rules set begun spent held) spent' held' (Err (ends.Budget at))
+at_budget J rules set a b x spent spent' at held held' is p = record {
+  more = p.more;
+  writes = p.writes;
+  counted = p.counted;
+  keeps = λ begun past. keeps_on a.told b.told (Waits J rules set begun spent held past) (Waits J rules set begun spent' held' (past ++ p.more)) (IsBusy J rules set begun spent' at held' (past ++ p.more)) (p.keeps begun past)
+      (λ m s. subst (λ j. IsBusy J rules set begun spent' j held' (past ++ p.more) m) (sym is) (waits_spent J rules set begun spent' held' (past ++ p.more) m s));
+}
+
+pub chained : (J : Type 0) (rules : J → Rules) (set : Setting) (a b c : Outside) (x : ⊤) (spent spent' spent'' : ℕ) (held held' held'' : List (Entry J)) (r : Result ⊤ End) → Later a.counts b.counts → Later b.counts c.counts → StepGoes J rules set a b (λ begun. Waits J rules set begun spent held) spent' held' (Ok x) → StepGoes J rules set b c (λ begun. Waits J rules set begun spent' held') spent'' held'' r → StepGoes J rules set a c (λ begun. Waits J rules set begun spent held) spent'' held'' r
+chained J rules set a b c x spent spent' spent'' held held' held'' r first second p q = record {
+  more = p.more ++ q.more;
+  writes = writes_behind r a.written b.written c.written p.more q.more p.writes q.writes;
+  counted = counted_both a.counts c.counts p.more q.more (counted_wider a.counts a.counts b.counts c.counts p.more (later_not a.counts) second p.counted) (counted_wider a.counts b.counts c.counts c.counts q.more first (later_not c.counts) q.counted);
+  keeps = λ begun past. subst (λ (xs : List Closing). Keeps a.told c.told (Waits J rules set begun spent held past) (EndedTo J rules r set begun spent'' held'' xs)) (append_assoc past p.more q.more)
+      (keeps_then a.told b.told c.told (Waits J rules set begun spent held past) (Waits J rules set begun spent' held' (past ++ p.more)) (EndedTo J rules r set begun spent'' held'' ((past ++ p.more) ++ q.more)) (p.keeps begun past) (q.keeps begun (past ++ p.more)));
 }
 
 -- ---- the end
@@ -259,13 +380,13 @@ settled_closed J rules session t s = record {
   reads = λ x. subst (λ (l : Link). ReadsNoMore session.limit (held_of_side x session.standing) l) (sym (closed_link x t)) (s.reads x);
 }
 
-pub leaves_next : (J : Type 0) (rules : J → Rules) (set : Setting) (begun : Meaning) (spent : ℕ) (held : List (Entry J)) (past : List Closing) (at busy k : ℕ) (last : Option HubNext) (e : Entry J) (told told' : Meaning → Type 0) → slice_get held at ≡ Some e → k ≡ e.number → Leads told told' (IsOpen k) (Changes k Closes) → Keeps told told' (Leaves J rules set begun spent held past busy last at) (Leaves J rules set begun spent held past busy last (at + 1))
-leaves_next J rules set begun spent held past at busy k last e told told' was number leads = λ m tells l.
+pub leaves_next : (J : Type 0) (rules : J → Rules) (set : Setting) (begun : Meaning) (spent : ℕ) (held : List (Entry J)) (past : List Closing) (at busy k : ℕ) (last : Option HubNext) (calls : List HubCall) (e : Entry J) (told told' : Meaning → Type 0) → slice_get held at ≡ Some e → k ≡ e.number → Leads told told' (IsOpen k) (Changes k (Closed k) Closes) → Keeps told told' (Leaves J rules set begun spent held past busy last calls at) (Leaves J rules set begun spent held past busy last calls (at + 1))
+leaves_next J rules set begun spent held past at busy k last calls e told told' was number leads = λ m tells l.
     let s = l.stands in
     let h = s.each at e was in
     let led = leads m tells (ap (λ j. (m.session j).announced) number ∙ h.announced, ap (λ j. (m.session j).closed) number ∙ s.is_open at e was (omega arith)) in
     let n = led.0 in
-    let change : Changes e.number Closes m n = subst (λ j. Changes j Closes m n) number led.2 in
+    let change : Changes e.number (Closed e.number) Closes m n = subst (λ j. Changes j (Closed j) Closes m n) number led.2 in
     let after : n.session e.number ≡ record (m.session e.number) { closed = true } = change.session in (
       n,
       led.1,
@@ -277,6 +398,8 @@ leaves_next J rules set begun spent held past at busy k last e told told' was nu
               before = omega arith;
               others = change.others;
               started = change.started;
+              more = _;
+              calls = change.calls;
               is_held = subst (λ u. IsHeld J rules set e.session u) (sym after) (record { announced = h.announced; judged = h.judged; limited = h.limited; calls = h.calls; matches = h.matches });
               closed = λ _. ap (λ (u : Told). u.closed) after;
               is_open = λ over. absurd (omega (arith, over));
@@ -288,11 +411,12 @@ leaves_next J rules set begun spent held past at busy k last e told told' was nu
             }));
         unfailed = λ i d p x. unfailed_on J held e m n l.unfailed change i d p x (decide d.number e.number);
         tally = closed_tally begun set spent (length held) past e.number m n l.tally change;
+        closings = change.calls ∙ (ap (λ xs. xs ++ Closed e.number ∷ []) l.closings ∙ (append_assoc calls (closing_calls (held_numbers (take at held))) (Closed e.number ∷ []) ∙ ap (λ xs. calls ++ xs) (sym (closing_more held at e was))));
         last_event = change.last_event ∙ l.last_event;
       },
     )
   where
-    unfailed_on : (J : Type 0) (held : List (Entry J)) (e : Entry J) (m n : Meaning) → AreUnfailed held m → Changes e.number Closes m n → (i : ℕ) (d : Entry J) → slice_get held i ≡ Some d → (x : Side) → (d.number ≡ e.number) ⊎ (d.number ≢ e.number) → HasFailed x (n.session d.number) → ⊥
+    unfailed_on : (J : Type 0) (held : List (Entry J)) (e : Entry J) (m n : Meaning) → AreUnfailed held m → Changes e.number (Closed e.number) Closes m n → (i : ℕ) (d : Entry J) → slice_get held i ≡ Some d → (x : Side) → (d.number ≡ e.number) ⊎ (d.number ≢ e.number) → HasFailed x (n.session d.number) → ⊥
     unfailed_on J held e m n calm change i d p x (inl is) f = calm i d p x (subst (λ k. HasFailed x (m.session k)) (sym is) (closed_calm x (m.session e.number) (subst (λ u. HasFailed x u) (ap n.session is ∙ change.session) f)))
     unfailed_on J held e m n calm change i d p x (inr other) f = calm i d p x (subst (λ u. HasFailed x u) (change.others d.number other) f)
 
@@ -320,9 +444,11 @@ fresh_waits J rules set spent held m is none f = subst (λ n. Waits J rules set 
     unfailed = λ i e p. absurd (cc);
     ended = λ i c p. absurd (cc);
     once = λ i j c d less p q. absurd (cc);
+    apart = λ i j c e p q. absurd (cc);
+    broke = λ i c x p is. absurd (cc);
     covers = λ k announced. absurd (f.none k announced);
   };
-  work = record { tally = tally_none set m; going = ap is_over f.unasked };
+  work = record { tally = tally_none set m; order = sym (append-nil (closings_of m.calls)); going = ap is_over f.unasked };
 }))
 
 pub cause_on : (A B : Type 0) (f g h : ℕ) → (B → A ⊎ Rose f g) → f ≤ g → g ≤ h → B ⊎ Rose g h → A ⊎ Rose f h
@@ -343,8 +469,9 @@ rose_by f g h a (inr rose) = omega (arith, a, rose)
 -- ---- the whole
 
 -- all that the work leads to
-record Leading (J : Type 0) (rules : J → Rules) (set : Setting) (begun : Meaning) (spent : ℕ) (held : List (Entry J)) (past : List Closing) (busy : ℕ) (last : Option HubNext) (m : Meaning) : Type 0 where
-  leaves : Leaves J rules set begun spent held past busy last 0 m
+record Leading (J : Type 0) (rules : J → Rules) (set : Setting) (begun : Meaning) (spent : ℕ) (held : List (Entry J)) (past : List Closing) (busy : ℕ) (m : Meaning) : Type 0 where
+  leaves : Leaves J rules set begun spent held past busy m.last_event m.calls 0 m
+  order : IsClosedInOrder begun.calls m.calls (ended_numbers past)
   going : (e : Entry J) → slice_get held busy ≡ Some e → e.session.outcome ≡ None
 
 unfailed_at : (J : Type 0) (rules : J → Rules) (set : Setting) (held : List (Entry J)) (past : List Closing) (busy : ℕ) (m : Meaning) → Stands J rules set no_more held past busy 0 m → ((e : Entry J) → slice_get held busy ≡ Some e → (x : Side) → HasFailed x (m.session e.number) → ⊥) → AreUnfailed held m
@@ -352,23 +479,29 @@ unfailed_at J rules set held past busy m s calm i e p = by (decide i busy)
   where
     by : (i ≡ busy) ⊎ (i ≢ busy) → (x : Side) → HasFailed x (m.session e.number) → ⊥
     by (inl is) = calm e (ap (λ j. slice_get held j) (sym is) ∙ p)
-    by (inr other) = s.unfailed i e p other
+    by (inr off) = s.unfailed i e p off
 
-busy_leads : (J : Type 0) (rules : J → Rules) (set : Setting) (begun : Meaning) (spent : ℕ) (held : List (Entry J)) (past : List Closing) (busy : ℕ) (m : Meaning) → IsBusy J rules set begun spent busy held past m → Leading J rules set begun spent held past busy m.last_event m
+none_closed : {J : Type 0} → (held : List (Entry J)) (calls : List HubCall) → calls ≡ calls ++ closing_calls (held_numbers (take 0 held))
+none_closed [] calls = sym (append-nil calls)
+none_closed (e ∷ held) calls = sym (append-nil calls)
+
+busy_leads : (J : Type 0) (rules : J → Rules) (set : Setting) (begun : Meaning) (spent : ℕ) (held : List (Entry J)) (past : List Closing) (busy : ℕ) (m : Meaning) → IsBusy J rules set begun spent busy held past m → Leading J rules set begun spent held past busy m
 busy_leads J rules set begun spent held past busy m b = record {
-  leaves = record { stands = b.stands; unfailed = unfailed_at J rules set held past busy m b.stands b.unfailed; tally = b.work.tally; last_event = refl };
+  leaves = record { stands = b.stands; unfailed = unfailed_at J rules set held past busy m b.stands b.unfailed; tally = b.work.tally; closings = none_closed held m.calls; last_event = refl };
+  order = b.work.order;
   going = b.going;
 }
 
-waited_leads : (J : Type 0) (rules : J → Rules) (set : Setting) (begun : Meaning) (spent : ℕ) (held : List (Entry J)) (past : List Closing) (last : HubNext) (m : Meaning) → HasWaited J rules set begun spent last held past m → Leading J rules set begun spent held past (length held) (Some last) m
+waited_leads : (J : Type 0) (rules : J → Rules) (set : Setting) (begun : Meaning) (spent : ℕ) (held : List (Entry J)) (past : List Closing) (last : HubNext) (m : Meaning) → HasWaited J rules set begun spent last held past m → Leading J rules set begun spent held past (length held) m
 waited_leads J rules set begun spent held past last m w = record {
-  leaves = record { stands = w.stands; unfailed = unfailed_at J rules set held past (length held) m w.stands (λ e got. absurd (omega (arith, get_within held (length held) e got))); tally = w.tally; last_event = w.last_event };
+  leaves = record { stands = w.stands; unfailed = unfailed_at J rules set held past (length held) m w.stands (λ e got. absurd (omega (arith, get_within held (length held) e got))); tally = w.tally; closings = none_closed held m.calls; last_event = refl };
+  order = w.order;
   going = λ e got. absurd (omega (arith, get_within held (length held) e got));
 }
 
 -- what is left at the end
-left_so : (J : Type 0) (rules : J → Rules) (set : Setting) (result : Served) (begun : Meaning) (spent : ℕ) (held : List (Entry J)) (past : List Closing) (busy : ℕ) (last : Option HubNext) (n : Meaning) → ((result ≡ served.Budget → ⊥) → length held ≤ busy) → ((e : Entry J) → slice_get held busy ≡ Some e → e.session.outcome ≡ None) → Leaves J rules set begun spent held past busy last (length held) n → IsLeft J rules set result held n
-left_so J rules set result begun spent held past busy last n all going l = record {
+left_so : (J : Type 0) (rules : J → Rules) (set : Setting) (result : Served) (begun : Meaning) (spent : ℕ) (held : List (Entry J)) (past : List Closing) (busy : ℕ) (last : Option HubNext) (calls : List HubCall) (n : Meaning) → ((result ≡ served.Budget → ⊥) → length held ≤ busy) → ((e : Entry J) → slice_get held busy ≡ Some e → e.session.outcome ≡ None) → Leaves J rules set begun spent held past busy last calls (length held) n → IsLeft J rules set result held n
+left_so J rules set result begun spent held past busy last calls n all going l = record {
   settled = λ off i e p. l.stands.settled i e p (λ is. absurd (omega (arith, all off, is, get_within held i e p)));
   going = λ i e p. let h = l.stands.each i e p in
       sym (outcome_at set (rules e.session.judge) e.session.limit e.session.most e.session.standing h.judged h.limited h.calls) ∙ (sym h.matches.rest.outcome_is ∙ goes_on i e p (decide i busy));
@@ -377,129 +510,157 @@ left_so J rules set result begun spent held past busy last n all going l = recor
   where
     goes_on : (i : ℕ) (e : Entry J) → slice_get held i ≡ Some e → (i ≡ busy) ⊎ (i ≢ busy) → e.session.outcome ≡ None
     goes_on i e p (inl is) = going e (ap (λ j. slice_get held j) (sym is) ∙ p)
-    goes_on i e p (inr other) = (l.stands.settled i e p other).going
+    goes_on i e p (inr off) = (l.stands.settled i e p off).going
 
-abbrev Ending : (J : Type 0) → (J → Rules) → Setting → Served → List (Entry J) → List Closing → ℕ → Meaning → Meaning → Type 0
-Ending J rules set result held past busy m n = Stands J rules set no_more held past busy (length held) n × EndsOn result n × IsLeft J rules set result held n × Accounts set result (length held) past m n
-
--- the whole of a server, from its events and its last lines
-pub record Parts (J : Type 0) (rules : J → Rules) (set : Setting) (a : Attended) (w : Wrote) (told told' told'' : Meaning → Type 0) (written written' written'' : Option (List ℕ)) (f g h spent spent' : ℕ) (begun held : List (Entry J)) : Type 0 where
-  pub none_before : begun ≡ []
+-- the whole of a server, from its work and its last lines
+pub record Parts (J : Type 0) (rules : J → Rules) (set : Setting) (ending : End) (w : Wrote) (a b c : Outside) (spent spent' : ℕ) (first held : List (Entry J)) : Type 0 where
+  pub none_before : first ≡ []
   pub none_spent : spent ≡ 0
-  pub attends : Attends J rules told told' written written' set spent spent' begun held a
-  pub spends : SpendsBy (served_by a wrote.All) spent' set.events
-  pub lines : first_wrote a ≡ wrote.All → Writes w written' written'' (left_lines held)
-  pub no_lines : first_wrote a ≡ wrote.Failed → (w ≡ wrote.Failed) × (written'' ≡ written')
-  pub leaves : (m : Meaning) (past : List Closing) (busy : ℕ) (last : Option HubNext) → Keeps told' told'' (Leaves J rules set m spent' held past busy last 0) (Leaves J rules set m spent' held past busy last (length held))
-  pub fault : a ≡ attended.WriteFault → Rose f g
-  pub cause : w ≡ wrote.Failed → (first_wrote a ≡ wrote.Failed) ⊎ Rose g h
-  pub later : f ≤ g
-  pub later_still : g ≤ h
+  pub work : StepGoes J rules set a b (λ begun. Waits J rules set begun spent first) spent' held (Err ending)
+  pub spends : SpendsBy (served_by ending wrote.All) spent' set.events
+  pub lines : first_wrote ending ≡ wrote.All → Writes w b.written c.written (left_lines held)
+  pub no_lines : first_wrote ending ≡ wrote.Failed → (w ≡ wrote.Failed) × (c.written ≡ b.written)
+  pub leaves : (m : Meaning) (past : List Closing) (busy : ℕ) (last : Option HubNext) (calls : List HubCall) → Keeps b.told c.told (Leaves J rules set m spent' held past busy last calls 0) (Leaves J rules set m spent' held past busy last calls (length held))
+  pub fault : ending ≡ ends.WriteFault → Rose a.faults b.faults
+  pub cause : w ≡ wrote.Failed → (first_wrote ending ≡ wrote.Failed) ⊎ Rose b.faults c.faults
+  pub later : a.faults ≤ b.faults
+  pub later_still : b.faults ≤ c.faults
+  pub counts_later : Later b.counts c.counts
 
--- from what the work leads to to the end
-ends_from : (J : Type 0) (rules : J → Rules) (set : Setting) (result : Served) (spent : ℕ) (told' told'' : Meaning → Type 0) (held : List (Entry J)) (past : List Closing) (busy : ℕ) (last : Option HubNext) (m b : Meaning) → ((result ≡ served.Budget → ⊥) → length held ≤ busy) → SpendsBy result spent set.events → ((n : Meaning) → n.last_event ≡ last → EndsOn result n) → Keeps told' told'' (Leaves J rules set m spent held past busy last 0) (Leaves J rules set m spent held past busy last (length held)) → told' b → Leading J rules set m spent held past busy last b → (n : Meaning) × told'' n × Ending J rules set result held past busy m n
-ends_from J rules set result spent told' told'' held past busy last m b all spends ends leaves tells l =
-    let d = leaves b tells l.leaves in
-    (d.0, d.1, (d.2.stands, ends d.0 d.2.last_event, left_so J rules set result m spent held past busy last d.0 all l.going d.2, record { spent = spent; tally = d.2.tally; spends = spends }))
+-- what is asked of the moment at which the work has ended
+record Stops (J : Type 0) (rules : J → Rules) (set : Setting) (result : Served) (lines : LinesEnd) (begun : Meaning) (spent : ℕ) (held : List (Entry J)) (past : List Closing) (busy : ℕ) (m : Meaning) : Type 0 where
+  leading : Leading J rules set begun spent held past busy m
+  all : (result ≡ served.Budget → ⊥) → length held ≤ busy
+  event : (n : Meaning) → n.last_event ≡ m.last_event → EndsOn result n
+  just_closed : lines ≡ LastOfWork → IsJustClosed past m.calls
 
-no_failure : (o : Option HubNext) → is_over o ≡ false → o ≡ Some event.Failed → ⊥
-no_failure o off is = absurd (true≢false (sym (ap is_over is) ∙ off))
+ending_from : (J : Type 0) (rules : J → Rules) (set : Setting) (result : Served) (lines : LinesEnd) (begun : Meaning) (spent : ℕ) (held : List (Entry J)) (past : List Closing) (busy : ℕ) (told told' : Meaning → Type 0) (m : Meaning) → Stops J rules set result lines begun spent held past busy m → SpendsBy result spent set.events → Keeps told told' (Leaves J rules set begun spent held past busy m.last_event m.calls 0) (Leaves J rules set begun spent held past busy m.last_event m.calls (length held)) → told m → (n : Meaning) × told' n × Ending J rules set result lines held past busy begun n
+ending_from J rules set result lines begun spent held past busy told told' m s spends leaves tells =
+    let d = leaves m tells s.leading.leaves in
+    let closings = all_left held m.calls d.0.calls d.2.closings in (
+      d.0,
+      d.1,
+      record {
+        stands = d.2.stands;
+        event = s.event d.0 d.2.last_event;
+        left = left_so J rules set result begun spent held past busy m.last_event m.calls d.0 s.all s.leading.going d.2;
+        accounts = record { spent = spent; tally = d.2.tally; spends = spends };
+        order = order_left begun.calls m.calls d.0.calls past held closings s.leading.order;
+        not_asked = λ is. (m.calls, s.just_closed is, closings);
+      },
+    )
+
+-- from the work to the end
+whole_of : (J : Type 0) (rules : J → Rules) (set : Setting) (ending : End) (result : Served) (lines : LinesEnd) (w : Wrote) (a b c : Outside) (spent spent' : ℕ) (first held : List (Entry J)) (busy : ℕ) (p : Parts J rules set ending w a b c spent spent' first held) → WritesLines lines a.written c.written a.faults c.faults p.work.more held → AnswersLines result lines → SpendsBy result spent' set.events → ((begun m : Meaning) → EndedTo J rules (Err ending) set begun spent' held p.work.more m → Stops J rules set result lines begun spent' held p.work.more busy m) → Serves J rules set a c result
+whole_of J rules set ending result lines w a b c spent spent' first held busy p writes answers spends stops = record {
+  held = held;
+  ended = p.work.more;
+  busy = busy;
+  lines = lines;
+  writes = writes;
+  answers = answers;
+  counted = counted_wider a.counts a.counts b.counts c.counts p.work.more (later_not a.counts) p.counts_later p.work.counted;
+  keeps = λ m tells fresh.
+      let n = p.work.keeps m [] m tells (fresh_waits J rules set spent first m p.none_before p.none_spent fresh) in
+      ending_from J rules set result lines m spent' held p.work.more busy b.told c.told n.0 (stops m n.0 n.2) spends (p.leaves m p.work.more busy n.0.last_event n.0.calls) n.1;
+}
 
 other_event : Some event.Stopped ≡ Some event.Failed → ⊥
 other_event e = absurd (cc)
 
-hub_failed : (J : Type 0) (rules : J → Rules) (set : Setting) (told told' told'' : Meaning → Type 0) (written written' written'' : Option (List ℕ)) (f g h spent spent' : ℕ) (begun held : List (Entry J)) (w : Wrote) (p : Parts J rules set attended.HubFault w told told' told'' written written' written'' f g h spent spent' begun held) (m : Meaning) → told m → IsFresh m → (n : Meaning) × told'' n × Ending J rules set served.HubFault held p.attends.0 (length held) m n
-hub_failed J rules set told told' told'' written written' written'' f g h spent spent' begun held w p m tells fresh =
-    let a = p.attends in
-    let b = a.2 m [] m tells (fresh_waits J rules set spent begun m p.none_before p.none_spent fresh) in
-    ends_from J rules set served.HubFault spent' told' told'' held a.0 (length held) (Some event.Failed) m b.0 (λ _. omega arith) p.spends (λ n is. is) (p.leaves m a.0 (length held) (Some event.Failed)) b.1 (waited_leads J rules set m spent' held a.0 event.Failed b.0 b.2)
+no_failure : (o : Option HubNext) → is_over o ≡ false → o ≡ Some event.Failed → ⊥
+no_failure o off is = absurd (true≢false (sym (ap is_over is) ∙ off))
 
-budget_spent : (J : Type 0) (rules : J → Rules) (set : Setting) (told told' told'' : Meaning → Type 0) (written written' written'' : Option (List ℕ)) (f g h spent spent' : ℕ) (begun held : List (Entry J)) (at : ℕ) (w : Wrote) (p : Parts J rules set (attended.Budget at) w told told' told'' written written' written'' f g h spent spent' begun held) (m : Meaning) → told m → IsFresh m → (n : Meaning) × told'' n × Ending J rules set served.Budget held p.attends.0 at m n
-budget_spent J rules set told told' told'' written written' written'' f g h spent spent' begun held at w p m tells fresh =
-    let a = p.attends in
-    let b = a.2 m [] m tells (fresh_waits J rules set spent begun m p.none_before p.none_spent fresh) in
-    ends_from J rules set served.Budget spent' told' told'' held a.0 at b.0.last_event m b.0 (λ off. absurd (off refl)) p.spends (λ n is. ap is_over is ∙ b.2.work.going) (p.leaves m a.0 at b.0.last_event) b.1 (busy_leads J rules set m spent' held a.0 at b.0 b.2)
+no_last : (X : Type 0) → AllLines ≡ LastOfWork → X
+no_last X e = absurd (cc)
 
-pub serves_parts : (J : Type 0) (rules : J → Rules) (set : Setting) (a : Attended) (w : Wrote) (told told' told'' : Meaning → Type 0) (written written' written'' : Option (List ℕ)) (f g h spent spent' : ℕ) (begun held : List (Entry J)) → Parts J rules set a w told told' told'' written written' written'' f g h spent spent' begun held → Serves J rules told told'' written written'' f h set (served_by a w)
-serves_parts J rules set attended.Stopped wrote.All told told' told'' written written' written'' f g h spent spent' begun held p =
-    let a = p.attends in (
-      held,
-      a.0,
-      length held,
-      appends_on written written' written'' (closing_lines a.0) (left_lines held) a.1 (p.lines refl),
-      (λ m tells fresh.
-          let b = a.2 m [] m tells (fresh_waits J rules set spent begun m p.none_before p.none_spent fresh) in
-          ends_from J rules set served.Stopped spent' told' told'' held a.0 (length held) (Some event.Stopped) m b.0 (λ _. omega arith) p.spends (λ n is. is) (p.leaves m a.0 (length held) (Some event.Stopped)) b.1 (waited_leads J rules set m spent' held a.0 event.Stopped b.0 b.2)),
-    )
-serves_parts J rules set attended.Stopped wrote.Failed told told' told'' written written' written'' f g h spent spent' begun held p =
-    let a = p.attends in (
-      held,
-      a.0,
-      length held,
-      (then_front written written' written'' (closing_lines a.0) (left_lines held) a.1 (p.lines refl), rose_by f g h p.later (p.cause refl)),
-      (λ m tells fresh.
-          let b = a.2 m [] m tells (fresh_waits J rules set spent begun m p.none_before p.none_spent fresh) in
-          ends_from J rules set served.WriteFault spent' told' told'' held a.0 (length held) (Some event.Stopped) m b.0 (λ _. omega arith) (omega (arith, p.spends)) (λ n is bad. other_event (sym is ∙ bad)) (p.leaves m a.0 (length held) (Some event.Stopped)) b.1 (waited_leads J rules set m spent' held a.0 event.Stopped b.0 b.2)),
-    )
-serves_parts J rules set attended.HubFault wrote.All told told' told'' written written' written'' f g h spent spent' begun held p =
-    let a = p.attends in (
-      held,
-      a.0,
-      length held,
-      inl (appends_on written written' written'' (closing_lines a.0) (left_lines held) a.1 (p.lines refl)),
-      (λ m tells fresh. hub_failed J rules set told told' told'' written written' written'' f g h spent spent' begun held wrote.All p m tells fresh),
-    )
-serves_parts J rules set attended.HubFault wrote.Failed told told' told'' written written' written'' f g h spent spent' begun held p =
-    let a = p.attends in (
-      held,
-      a.0,
-      length held,
-      inr (then_front written written' written'' (closing_lines a.0) (left_lines held) a.1 (p.lines refl), rose_by f g h p.later (p.cause refl)),
-      (λ m tells fresh. hub_failed J rules set told told' told'' written written' written'' f g h spent spent' begun held wrote.Failed p m tells fresh),
-    )
-serves_parts J rules set attended.WriteFault w told told' told'' written written' written'' f g h spent spent' begun held p =
-    let a = p.attends in
-    let q = p.no_lines refl in (
-      held,
-      a.0,
-      length held,
-      (front_of_more written written'' (closing_lines a.0) (left_lines held) (subst (λ o. AppendsFront written o (closing_lines a.0)) (sym q.1) a.1), omega (arith, p.fault refl, p.later_still)),
-      (λ m tells fresh.
-          let b = a.2 m [] m tells (fresh_waits J rules set spent begun m p.none_before p.none_spent fresh) in
-          ends_from J rules set served.WriteFault spent' told' told'' held a.0 (length held) b.0.last_event m b.0 (λ _. omega arith) p.spends (λ n is. no_failure n.last_event (ap is_over is ∙ b.2.work.going)) (p.leaves m a.0 (length held) b.0.last_event) b.1 (busy_leads J rules set m spent' held a.0 (length held) b.0 (waits_spent J rules set m spent' held a.0 b.0 b.2))),
-    )
-serves_parts J rules set (attended.Budget at) wrote.All told told' told'' written written' written'' f g h spent spent' begun held p =
-    let a = p.attends in (
-      held,
-      a.0,
-      at,
-      inl (appends_on written written' written'' (closing_lines a.0) (left_lines held) a.1 (p.lines refl)),
-      (λ m tells fresh. budget_spent J rules set told told' told'' written written' written'' f g h spent spent' begun held at wrote.All p m tells fresh),
-    )
-serves_parts J rules set (attended.Budget at) wrote.Failed told told' told'' written written' written'' f g h spent spent' begun held p =
-    let a = p.attends in (
-      held,
-      a.0,
-      at,
-      inr (then_front written written' written'' (closing_lines a.0) (left_lines held) a.1 (p.lines refl), rose_by f g h p.later (p.cause refl)),
-      (λ m tells fresh. budget_spent J rules set told told' told'' written written' written'' f g h spent spent' begun held at wrote.Failed p m tells fresh),
-    )
+no_last_left : (X : Type 0) → LeftOpen ≡ LastOfWork → X
+no_last_left X e = absurd (cc)
 
-pub serves_none : (J : Type 0) (rules : J → Rules) (set : Setting) (told : Meaning → Type 0) (written : Option (List ℕ)) (f : ℕ) → Serves J rules told told written written f f set served.OutOfMemory
-serves_none J rules set told written f = (
-  [],
-  [],
-  0,
-  appends_none written,
-  (λ m tells fresh.
+-- the lines of those that ended were written, and of the others all or a front
+all_lines : (a b c : Outside) (J : Type 0) (ended : List Closing) (held : List (Entry J)) → Appends a.written b.written (closing_lines ended) → Writes wrote.All b.written c.written (left_lines held) → WritesLines AllLines a.written c.written a.faults c.faults ended held
+all_lines a b c J ended held p q = appends_on a.written b.written c.written (closing_lines ended) (left_lines held) p q
+
+left_front : (a b c : Outside) (J : Type 0) (ended : List Closing) (held : List (Entry J)) → Appends a.written b.written (closing_lines ended) → Writes wrote.Failed b.written c.written (left_lines held) → Rose a.faults c.faults → WritesLines LeftOpen a.written c.written a.faults c.faults ended held
+left_front a b c J ended held p q rose = ((q.0, q.1, appends_on a.written b.written c.written (closing_lines ended) (take q.0 (left_lines held)) p q.2), rose)
+
+-- the moment at which the work has ended, by how it ended
+waited_stops : (J : Type 0) (rules : J → Rules) (set : Setting) (result : Served) (lines : LinesEnd) (begun : Meaning) (spent : ℕ) (held : List (Entry J)) (past : List Closing) (last : HubNext) (m : Meaning) → ((n : Meaning) → n.last_event ≡ Some last → EndsOn result n) → (lines ≡ LastOfWork → ⊥) → HasWaited J rules set begun spent last held past m → Stops J rules set result lines begun spent held past (length held) m
+waited_stops J rules set result lines begun spent held past last m event never w = record {
+  leading = waited_leads J rules set begun spent held past last m w;
+  all = λ _. omega arith;
+  event = λ n is. event n (is ∙ w.last_event);
+  just_closed = λ is. absurd (never is);
+}
+
+busy_stops : (J : Type 0) (rules : J → Rules) (set : Setting) (lines : LinesEnd) (begun : Meaning) (spent : ℕ) (held : List (Entry J)) (past : List Closing) (at : ℕ) (m : Meaning) → (lines ≡ LastOfWork → ⊥) → IsBusy J rules set begun spent at held past m → Stops J rules set served.Budget lines begun spent held past at m
+busy_stops J rules set lines begun spent held past at m never b = record {
+  leading = busy_leads J rules set begun spent held past at m b;
+  all = λ off. absurd (off refl);
+  event = λ n is. ap is_over is ∙ b.work.going;
+  just_closed = λ is. absurd (never is);
+}
+
+fault_stops : (J : Type 0) (rules : J → Rules) (set : Setting) (begun : Meaning) (spent : ℕ) (held : List (Entry J)) (past : List Closing) (m : Meaning) → Waits J rules set begun spent held past m → IsJustClosed past m.calls → Stops J rules set served.WriteFault LastOfWork begun spent held past (length held) m
+fault_stops J rules set begun spent held past m w last = record {
+  leading = busy_leads J rules set begun spent held past (length held) m (waits_spent J rules set begun spent held past m w);
+  all = λ _. omega arith;
+  event = λ n is. no_failure n.last_event (ap is_over is ∙ w.work.going);
+  just_closed = λ _. last;
+}
+
+pub serves_parts : (J : Type 0) (rules : J → Rules) (set : Setting) (ending : End) (w : Wrote) (a b c : Outside) (spent spent' : ℕ) (first held : List (Entry J)) → Parts J rules set ending w a b c spent spent' first held → Serves J rules set a c (served_by ending w)
+serves_parts J rules set ends.Stopped wrote.All a b c spent spent' first held p =
+    whole_of J rules set ends.Stopped served.Stopped AllLines wrote.All a b c spent spent' first held (length held) p
+    (all_lines a b c J p.work.more held p.work.writes (p.lines refl)) refl p.spends
+    (λ begun m e. waited_stops J rules set served.Stopped AllLines begun spent' held p.work.more event.Stopped m (λ n is. is) (λ is. no_last ⊥ is) e)
+serves_parts J rules set ends.Stopped wrote.Failed a b c spent spent' first held p =
+    whole_of J rules set ends.Stopped served.WriteFault LeftOpen wrote.Failed a b c spent spent' first held (length held) p
+    (left_front a b c J p.work.more held p.work.writes (p.lines refl) (rose_by a.faults b.faults c.faults p.later (p.cause refl))) (inr refl) (omega (arith, p.spends))
+    (λ begun m e. waited_stops J rules set served.WriteFault LeftOpen begun spent' held p.work.more event.Stopped m (λ n is bad. other_event (sym is ∙ bad)) (λ is. no_last_left ⊥ is) e)
+serves_parts J rules set ends.HubFault wrote.All a b c spent spent' first held p =
+    whole_of J rules set ends.HubFault served.HubFault AllLines wrote.All a b c spent spent' first held (length held) p
+    (all_lines a b c J p.work.more held p.work.writes (p.lines refl)) (inl refl) p.spends
+    (λ begun m e. waited_stops J rules set served.HubFault AllLines begun spent' held p.work.more event.Failed m (λ n is. is) (λ is. no_last ⊥ is) e)
+serves_parts J rules set ends.HubFault wrote.Failed a b c spent spent' first held p =
+    whole_of J rules set ends.HubFault served.HubFault LeftOpen wrote.Failed a b c spent spent' first held (length held) p
+    (left_front a b c J p.work.more held p.work.writes (p.lines refl) (rose_by a.faults b.faults c.faults p.later (p.cause refl))) (inr refl) p.spends
+    (λ begun m e. waited_stops J rules set served.HubFault LeftOpen begun spent' held p.work.more event.Failed m (λ n is. is) (λ is. no_last_left ⊥ is) e)
+serves_parts J rules set ends.WriteFault w a b c spent spent' first held p =
+    let none = p.no_lines refl in
+    whole_of J rules set ends.WriteFault served.WriteFault LastOfWork w a b c spent spent' first held (length held) p
+    (subst (λ (o : Option (List ℕ)). LastLineFails a.written o p.work.more) (sym none.1) p.work.writes, omega (arith, p.fault refl, p.later_still)) (inl refl) p.spends
+    (λ begun m e. fault_stops J rules set begun spent' held p.work.more m e.0 e.1)
+serves_parts J rules set (ends.Budget at) wrote.All a b c spent spent' first held p =
+    whole_of J rules set (ends.Budget at) served.Budget AllLines wrote.All a b c spent spent' first held at p
+    (all_lines a b c J p.work.more held p.work.writes (p.lines refl)) (inl refl) p.spends
+    (λ begun m e. busy_stops J rules set AllLines begun spent' held p.work.more at m (λ is. no_last ⊥ is) e)
+serves_parts J rules set (ends.Budget at) wrote.Failed a b c spent spent' first held p =
+    whole_of J rules set (ends.Budget at) served.Budget LeftOpen wrote.Failed a b c spent spent' first held at p
+    (left_front a b c J p.work.more held p.work.writes (p.lines refl) (rose_by a.faults b.faults c.faults p.later (p.cause refl))) (inr refl) p.spends
+    (λ begun m e. busy_stops J rules set LeftOpen begun spent' held p.work.more at m (λ is. no_last_left ⊥ is) e)
+
+-- no memory was found for the server, and nothing was done
+pub serves_none : (J : Type 0) (rules : J → Rules) (set : Setting) (a : Outside) → Serves J rules set a a served.OutOfMemory
+serves_none J rules set a = record {
+  held = [];
+  ended = [];
+  busy = 0;
+  lines = AllLines;
+  writes = appends_none a.written;
+  answers = refl;
+  counted = counted_none a.counts a.counts;
+  keeps = λ m tells fresh.
       let w = fresh_waits J rules set 0 [] m refl refl fresh in (
         m,
         tells,
-        (
-          w.stands,
-          fresh.unasked,
-          record { settled = λ off i e got. absurd (cc); going = λ i e got. absurd (cc); unfailed = λ i e got. absurd (cc) },
-          record { spent = 0; tally = w.work.tally; spends = refl },
-        ),
-      )),
-)
+        record {
+          stands = w.stands;
+          event = fresh.unasked;
+          left = record { settled = λ off i e got. absurd (cc); going = λ i e got. absurd (cc); unfailed = λ i e got. absurd (cc) };
+          accounts = record { spent = 0; tally = w.work.tally; spends = refl };
+          order = sym (append-nil (closings_of m.calls));
+          not_asked = λ is. no_last _ is;
+        },
+      );
+}

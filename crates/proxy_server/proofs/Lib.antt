@@ -1,6 +1,6 @@
 -- Lemmas.
 pub mod Calls
-pub mod Endings
+pub mod Ordering
 pub mod Places
 pub mod Running
 pub mod Standing

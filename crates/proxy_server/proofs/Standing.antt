@@ -1,9 +1,9 @@
 -- What events, turns and closings do to what a server stands on.
-use Rattle.std.proofs.Common.{◌≡◌, ◌≢◌, ℕ, ◌+◌, ◌<◌, ◌≤◌, ◌⊎◌, inl, inr, List, [], ◌∷◌, ◌++◌, length, Option, None, Some, true, false, true≢false, arith, ap, sym, ◌∙◌, subst, refl, length-append}
+use Rattle.std.proofs.Common.{◌≡◌, ◌≢◌, ℕ, ◌+◌, ◌<◌, ◌≤◌, ◌⊎◌, inl, inr, List, [], ◌∷◌, ◌++◌, length, Option, None, Some, Bool, true, false, true≢false, arith, ap, sym, ◌∙◌, subst, refl, length-append}
 use Rattle.std.specs.Prelude.{IsSome}
 use Rattle.std.specs.List.{slice_get, remove}
 use Rattle.std.proofs.Math.ListN.{set as put}
-use Rattle.gate_hub.specs.Meaning.{Told, Meaning, Started, IsOpen, reopened, new_session}
+use Rattle.gate_hub.specs.Meaning.{Told, HubCall, Closed, Meaning, Started, IsOpen, reopened, new_session}
 use Rattle.gate_hub.specs.Hubs.{Changes, Closes, Comes}
 use Rattle.gate_hub.specs.declared.hub.Side.{Side}
 use Rattle.gate_hub.specs.declared.hub.Side.TheVariants as side
@@ -14,9 +14,11 @@ use Rattle.session_core.specs.Session.{Seen}
 use Rattle.session_core.specs.declared.outcome.Outcome.{Outcome}
 use Rattle.session_core.specs.declared.outcome.Outcome.TheVariants as outcome
 use Rattle.proxy_server.specs.Matching.{history_of, Matches, IsSame}
-use Rattle.proxy_server.specs.Turning.{AllGrow, NoneFailed, HasFailed, IsSettled}
+use Rattle.proxy_server.specs.Turning.{Moves, AllGrow, NoneFailed, HasFailed, IsSettled}
 use Rattle.proxy_server.specs.Serving.{Setting, Entry, Closing, IsHeld, IsOutcome, NotOpened, LinkFailed, OfItself, HasClosed, IsAmong, IsOpenOne, IsEndedOne, IsRising, Stands, no_more}
 use Rattle.proxy_server.specs.Working.{Waits, IsBusy, IsNamed, Awaits}
+use Rattle.proxy_server.specs.Calling.{EndsFailing}
+use Rattle.proxy_server.proofs.Ordering.{broken_on, broken_more}
 use Rattle.proxy_server.proofs.Places.{decide, some_same, get_put_same, get_put_other, put_as_it_was, get_within, get_last, get_before, behind_cases, put_cases, shift, shift_get, shift_rises, shift_elsewhere, unshift, elsewhere}
 use Rattle.proxy_server.proofs.Tallies.{opened_work, ready_work, held_work}
 
@@ -37,6 +39,8 @@ pub record Turns (J : Type 0) (rules : J → Rules) (set : Setting) (held : List
   pub before : gone ≤ at
   pub others : (j : ℕ) → j ≢ e.number → n.session j ≡ m.session j
   pub started : n.started ≡ m.started
+  pub more : List HubCall
+  pub calls : n.calls ≡ m.calls ++ more
   pub is_held : IsHeld J rules set e'.session (n.session e.number)
   pub closed : at < gone' → (n.session e.number).closed ≡ true
   pub is_open : gone' ≤ at → (n.session e.number).closed ≡ false
@@ -63,6 +67,8 @@ changes J rules set held past at e e' busy busy' gone gone' m n s t = record {
       let h = s.ended i c p in
       subst (λ u. HasClosed set c.1 u) (sym (t.others c.0 (two_numbers m c.0 e.number h.closed (s.is_open at e t.was t.before)))) h;
   once = s.once;
+  apart = λ i j c d p q. let b = old j d q in λ same. s.apart i j c b.0 p b.1 (same ∙ b.2);
+  broke = broken_on past m.calls n.calls t.more t.calls s.broke;
   covers = covered;
 }
   where
@@ -112,8 +118,8 @@ changes J rules set held past at e e' busy busy' gone gone' m n s t = record {
         by (inr other) = known (s.covers k (ap (λ (u : Told). u.announced) (sym (t.others k other)) ∙ announced))
 
 -- no session changes
-pub same_all : (J : Type 0) (rules : J → Rules) (set : Setting) (More : ℕ → Type 0) (held : List (Entry J)) (past : List Closing) (busy gone : ℕ) (m n : Meaning) → Stands J rules set More held past busy gone m → ((j : ℕ) → n.session j ≡ m.session j) → n.started ≡ m.started → Stands J rules set More held past busy gone n
-same_all J rules set More held past busy gone m n s same started = record {
+pub same_all : (J : Type 0) (rules : J → Rules) (set : Setting) (More : ℕ → Type 0) (held : List (Entry J)) (past : List Closing) (busy gone : ℕ) (more : List HubCall) (m n : Meaning) → Stands J rules set More held past busy gone m → ((j : ℕ) → n.session j ≡ m.session j) → n.started ≡ m.started → n.calls ≡ m.calls ++ more → Stands J rules set More held past busy gone n
+same_all J rules set More held past busy gone more m n s same started calls = record {
   started = subst (λ (o : Option Started). IsSome o) (sym started) s.started;
   rising = s.rising;
   each = λ i e p. subst (λ u. IsHeld J rules set e.session u) (sym (same e.number)) (s.each i e p);
@@ -123,6 +129,8 @@ same_all J rules set More held past busy gone m n s same started = record {
   unfailed = λ i e p other. subst (λ u. (x : Side) → HasFailed x u → ⊥) (sym (same e.number)) (s.unfailed i e p other);
   ended = λ i c p. subst (λ u. HasClosed set c.1 u) (sym (same c.0)) (s.ended i c p);
   once = s.once;
+  apart = s.apart;
+  broke = broken_on past m.calls n.calls more calls s.broke;
   covers = λ k announced. s.covers k (ap (λ (u : Told). u.announced) (sym (same k)) ∙ announced);
 }
 
@@ -138,6 +146,8 @@ is_quiet J rules set held past at busy gone m s settles calm = record {
   unfailed = λ i e p _. fine i e p (decide i at);
   ended = s.ended;
   once = s.once;
+  apart = s.apart;
+  broke = s.broke;
   covers = s.covers;
 }
   where
@@ -171,7 +181,7 @@ pub record Ends (set : Setting) (past : List Closing) (k : ℕ) (o : Outcome) (m
   pub why : IsOutcome set o (m.session k)
   pub ended : (i : ℕ) (c : Closing) → slice_get past i ≡ Some c → HasClosed set c.1 (m.session c.0)
   pub once : (i j : ℕ) (c d : Closing) → i < j → slice_get past i ≡ Some c → slice_get past j ≡ Some d → c.0 ≢ d.0
-  pub change : Changes k Closes m n
+  pub change : Changes k (Closed k) Closes m n
 
 ended_more : (set : Setting) (past : List Closing) (k : ℕ) (o : Outcome) (m n : Meaning) → Ends set past k o m n → (i : ℕ) (c : Closing) → slice_get (past ++ (k, o) ∷ []) i ≡ Some c → HasClosed set c.1 (n.session c.0)
 ended_more set past k o m n e i c p = by (behind_cases past (k, o) c i p)
@@ -195,8 +205,8 @@ once_more set past k o m n e i j c d less p q = by (behind_cases past (k, o) c i
     by (inr x) (inr y) = e.once i j c d less x y
 
 -- the session at a place has ended, and is let go
-pub removes : (J : Type 0) (rules : J → Rules) (set : Setting) (held : List (Entry J)) (past : List Closing) (at : ℕ) (e : Entry J) (o : Outcome) (m n : Meaning) → slice_get held at ≡ Some e → Stands J rules set no_more held past at 0 m → IsOutcome set o (m.session e.number) → Changes e.number Closes m n → Rests J rules set (remove held at) (past ++ (e.number, o) ∷ []) n
-removes J rules set held past at e o m n was s why change = record {
+pub removes : (J : Type 0) (rules : J → Rules) (set : Setting) (held : List (Entry J)) (past : List Closing) (at : ℕ) (e : Entry J) (o : Outcome) (m n : Meaning) → slice_get held at ≡ Some e → Stands J rules set no_more held past at 0 m → IsOutcome set o (m.session e.number) → ((x : Side) → o ≡ outcome.LinkFault x → EndsFailing e.number x m.calls) → Changes e.number (Closed e.number) Closes m n → Rests J rules set (remove held at) (past ++ (e.number, o) ∷ []) n
+removes J rules set held past at e o m n was s why last change = record {
   started = subst (λ (x : Option Started). IsSome x) (sym change.started) s.started;
   rising = λ i j d f less p q. s.rising (shift at i) (shift at j) d f (shift_rises at i j less) (back i d p) (back j f q);
   each = λ i d p. stay (λ u. IsHeld J rules set d.session u) i d p (s.each (shift at i) d (back i d p));
@@ -206,6 +216,8 @@ removes J rules set held past at e o m n was s why change = record {
   unfailed = λ i d p other. stay (λ u. (x : Side) → HasFailed x u → ⊥) i d p (s.unfailed (shift at i) d (back i d p) (shift_elsewhere at i));
   ended = ended_more set past e.number o m n ends;
   once = once_more set past e.number o m n ends;
+  apart = apart_on;
+  broke = broken_more past e.number o m.calls n.calls change.calls last s.broke;
   covers = covered;
 }
   where
@@ -217,6 +229,13 @@ removes J rules set held past at e o m n was s why change = record {
 
     back : (i : ℕ) (d : Entry J) → slice_get (remove held at) i ≡ Some d → slice_get held (shift at i) ≡ Some d
     back i d p = sym (shift_get held at i within) ∙ p
+
+    apart_on : (i j : ℕ) (c : Closing) (d : Entry J) → slice_get (past ++ (e.number, o) ∷ []) i ≡ Some c → slice_get (remove held at) j ≡ Some d → c.0 ≢ d.number
+    apart_on i j c d p q = by (behind_cases past (e.number, o) c i p)
+      where
+        by : ((i ≡ length past) × (c ≡ (e.number, o))) ⊎ (slice_get past i ≡ Some c) → c.0 ≢ d.number
+        by (inl x) = λ same. elsewhere held (shift at j) at d e s.rising (shift_elsewhere at j) (back j d q) was (sym same ∙ ap (λ (z : Closing). z.0) x.1)
+        by (inr x) = s.apart i (shift at j) c d x (back j d q)
 
     stay : (P : Told → Type 0) (i : ℕ) (d : Entry J) → slice_get (remove held at) i ≡ Some d → P (m.session d.number) → P (n.session d.number)
     stay P i d p q = subst P (sym (change.others d.number (elsewhere held (shift at i) at d e s.rising (shift_elsewhere at i) (back i d p) was))) q
@@ -256,8 +275,21 @@ reopened_unfailed side.Client t (inr f) = absurd (cc)
 reopened_unfailed side.Upstream t (inl f) = absurd (cc)
 reopened_unfailed side.Upstream t (inr f) = absurd (cc)
 
+abbrev is_link_fault : Outcome → Bool
+is_link_fault outcome.Clean = false
+is_link_fault (outcome.ClientFault n h) = false
+is_link_fault (outcome.UpstreamFault n h) = false
+is_link_fault (outcome.UpstreamEnded n) = false
+is_link_fault (outcome.Unsolicited n calls) = false
+is_link_fault (outcome.LinkFault x) = true
+is_link_fault outcome.Full = false
+is_link_fault outcome.NoMemory = false
+
+other_outcome : (x : Side) (o : Outcome) → is_link_fault o ≡ false → o ≡ outcome.LinkFault x → ⊥
+other_outcome x o off is = absurd (true≢false (sym (ap is_link_fault is) ∙ off))
+
 -- and is closed at once
-pub refuses : (J : Type 0) (rules : J → Rules) (set : Setting) (begun : Meaning) (spent : ℕ) (held : List (Entry J)) (past : List Closing) (k : ℕ) (o : Outcome) (m n : Meaning) → Awaits J rules set begun spent k held past m → (o ≡ outcome.Full) ⊎ (o ≡ outcome.NoMemory) → Changes k Closes m n → Rests J rules set held (past ++ (k, o) ∷ []) n
+pub refuses : (J : Type 0) (rules : J → Rules) (set : Setting) (begun : Meaning) (spent : ℕ) (held : List (Entry J)) (past : List Closing) (k : ℕ) (o : Outcome) (m n : Meaning) → Awaits J rules set begun spent k held past m → (o ≡ outcome.Full) ⊎ (o ≡ outcome.NoMemory) → Changes k (Closed k) Closes m n → Rests J rules set held (past ++ (k, o) ∷ []) n
 refuses J rules set begun spent held past k o m n a why change = record {
   started = subst (λ (x : Option Started). IsSome x) (sym change.started) s.started;
   rising = s.rising;
@@ -268,6 +300,8 @@ refuses J rules set begun spent held past k o m n a why change = record {
   unfailed = λ i d p other. stay (λ u. (x : Side) → HasFailed x u → ⊥) i d p (s.unfailed i d p other);
   ended = ended_more set past k o m n ends;
   once = once_more set past k o m n ends;
+  apart = apart_on;
+  broke = broken_more past k o m.calls n.calls change.calls (λ x is. absurd (no_link_fault x why is)) s.broke;
   covers = λ j announced. by j announced (decide j k);
 }
   where
@@ -276,6 +310,17 @@ refuses J rules set begun spent held past k o m n a why change = record {
 
     ends : Ends set past k o m n
     ends = record { announced = ap (λ (u : Told). u.announced) a.new; was_open = ap (λ (u : Told). u.closed) a.new; why = NotOpened why (ap history_of a.new) (subst (λ u. (x : Side) → HasFailed x u → ⊥) (sym a.new) new_unfailed); ended = s.ended; once = s.once; change = change }
+
+    no_link_fault : (x : Side) → (o ≡ outcome.Full) ⊎ (o ≡ outcome.NoMemory) → o ≡ outcome.LinkFault x → ⊥
+    no_link_fault x (inl full) is = other_outcome x outcome.Full refl (sym full ∙ is)
+    no_link_fault x (inr none) is = other_outcome x outcome.NoMemory refl (sym none ∙ is)
+
+    apart_on : (i j : ℕ) (c : Closing) (d : Entry J) → slice_get (past ++ (k, o) ∷ []) i ≡ Some c → slice_get held j ≡ Some d → c.0 ≢ d.number
+    apart_on i j c d p q = by (behind_cases past (k, o) c i p)
+      where
+        by : ((i ≡ length past) × (c ≡ (k, o))) ⊎ (slice_get past i ≡ Some c) → c.0 ≢ d.number
+        by (inl x) = λ same. absurd (omega (arith, a.above j d q, same, ap (λ (z : Closing). z.0) x.1))
+        by (inr x) = s.apart i j c d x q
 
     stay : (P : Told → Type 0) (i : ℕ) (d : Entry J) → slice_get held i ≡ Some d → P (m.session d.number) → P (n.session d.number)
     stay P i d p q = subst P (sym (change.others d.number (λ e. absurd (omega (arith, a.above i d p, e))))) q
@@ -301,6 +346,8 @@ opens J rules set begun spent held past e m a judged limited calls matches = rec
   unfailed = λ i d p. cases (λ i d. i ≢ length held → (x : Side) → HasFailed x (m.session d.number) → ⊥) (λ off. absurd (off refl)) s.unfailed i d p;
   ended = s.ended;
   once = s.once;
+  apart = λ i j c d p q. cases (λ j d. c.0 ≢ d.number) (two_numbers m c.0 e.number (s.ended i c p).closed (ap (λ (u : Told). u.closed) a.new)) (λ j d q. s.apart i j c d p q) j d q;
+  broke = s.broke;
   covers = λ j announced. known j (s.covers j announced);
 }
   where
@@ -347,6 +394,8 @@ announces J rules set begun spent held past k m n waits over comes = record {
         let h = s.ended i c p in
         subst (λ u. HasClosed set c.1 u) (sym (comes.others c.0 (λ e. absurd (omega (arith, over c.0 h.announced, e))))) h;
     once = s.once;
+    apart = s.apart;
+    broke = broken_on past m.calls n.calls _ comes.calls s.broke;
     covers = λ j announced. by j announced (decide j k);
   };
   new = comes.session;
@@ -393,6 +442,8 @@ names J rules set begun spent held past k m n waits open_at comes = known (s.cov
                   before = omega arith;
                   others = λ j other. comes.others j (λ is. other (is ∙ sym q));
                   started = comes.started;
+                  more = _;
+                  calls = comes.calls;
                   is_held = subst (λ u. IsHeld J rules set e.session u) (sym after) (record { announced = h.announced; judged = h.judged; limited = h.limited; calls = h.calls; matches = h.matches });
                   closed = λ under. absurd (omega (arith, under));
                   is_open = λ _. ap (λ (u : Told). u.closed) after ∙ s.is_open i e p (omega arith);
@@ -424,7 +475,7 @@ opens_busy J rules set begun spent held past e m a judged limited calls matches 
 
 -- ---- turns
 
-pub turns_on : (J : Type 0) (rules : J → Rules) (set : Setting) (held : List (Entry J)) (past : List Closing) (at : ℕ) (e e' : Entry J) (T : Told → Told → Type 0) (m n : Meaning) → slice_get held at ≡ Some e → e'.number ≡ e.number → IsSame J e.session e'.session → Stands J rules set no_more held past at 0 m → Matches J rules e'.session (history_of (n.session e.number)) → AllGrow (m.session e.number) (n.session e.number) → Changes e.number T m n → Stands J rules set no_more (put held at e') past at 0 n
+pub turns_on : (J : Type 0) (rules : J → Rules) (set : Setting) (held : List (Entry J)) (past : List Closing) (at : ℕ) (e e' : Entry J) (T : List HubCall → Told → Told → Type 0) (m n : Meaning) → slice_get held at ≡ Some e → e'.number ≡ e.number → IsSame J e.session e'.session → Stands J rules set no_more held past at 0 m → Matches J rules e'.session (history_of (n.session e.number)) → AllGrow (m.session e.number) (n.session e.number) → Moves e.number T m n → Stands J rules set no_more (put held at e') past at 0 n
 turns_on J rules set held past at e e' T m n was number same s matches grows change =
     let h = s.each at e was in
     changes J rules set held past at e e' at at 0 0 m n s (record {
@@ -433,6 +484,8 @@ turns_on J rules set held past at e e' T m n was number same s matches grows cha
       before = omega arith;
       others = change.others;
       started = change.started;
+      more = change.made;
+      calls = change.calls;
       is_held = record {
         announced = grows.announced ∙ h.announced;
         judged = ap rules same.judge ∙ h.judged;

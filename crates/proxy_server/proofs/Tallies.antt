@@ -4,18 +4,19 @@ use Rattle.std.proofs.lemmas.List.{take-append-le}
 use Rattle.std.proofs.Math.Seq.{take-append_seam}
 use Rattle.std.specs.List.{slice_get}
 use Rattle.gate_base.specs.Causes.{one_more}
-use Rattle.gate_hub.specs.Meaning.{Told, Link, Meaning, new_session, reopened}
+use Rattle.gate_hub.specs.Meaning.{Told, Link, HubCall, Closed, Meaning, new_session, reopened}
 use Rattle.gate_hub.specs.Hubs.{Changes, Closes, Comes}
 use Rattle.gate_hub.specs.declared.hub.Side.TheVariants as side
 use Rattle.gate_hub.specs.declared.hub.HubNext.TheVariants as event
 use Rattle.session_core.specs.Rules.{Rules}
 use Rattle.session_core.specs.declared.outcome.Outcome.{Outcome}
 use Rattle.session_core.specs.declared.outcome.Outcome.TheVariants as outcome
-use Rattle.proxy_server.specs.Turning.{Grows, AllGrow, link_amount, amount}
-use Rattle.proxy_server.specs.Serving.{Setting, Entry, Closing, Stands, IsAmong, IsOpenOne, IsEndedOne, is_over, no_more}
+use Rattle.proxy_server.specs.Turning.{Grows, AllGrow, Moves, long_turn, link_amount, amount}
+use Rattle.proxy_server.specs.Serving.{Setting, Entry, Closing, Stands, IsAmong, IsOpenOne, IsEndedOne, is_over, no_more, ended_numbers}
 use Rattle.proxy_server.specs.Spending.{moved_of, moved_below, HasSpent}
 use Rattle.proxy_server.specs.Filling.{HasNotEnded, AreOpenBefore, IsFullWhere}
 use Rattle.proxy_server.specs.Working.{Tally, IsAtWork}
+use Rattle.proxy_server.proofs.Ordering.{pieces_close_none, order_kept, order_more}
 use Rattle.proxy_server.proofs.Places.{decide, some_same, get_within, behind_cases}
 
 -- ---- what moves
@@ -43,8 +44,8 @@ moved_on s t on p =
     let all = moved_by s t 0 p.announced on (omega (arith, link_grows s.client t.client (p.sides side.Client), link_grows s.upstream t.upstream (p.sides side.Upstream))) in
     omega (arith, all)
 
-pub moved_enough_on : (s t : Told) → s.announced ≡ true → t.announced ≡ s.announced → amount s + 16 ≤ amount t → moved_of s + 16 ≤ moved_of t
-moved_enough_on s t on same p = moved_by s t 16 same on p
+pub moved_enough_on : (s t : Told) → s.announced ≡ true → t.announced ≡ s.announced → amount s + long_turn ≤ amount t → moved_of s + long_turn ≤ moved_of t
+moved_enough_on s t on same p = moved_by s t long_turn same on p
 
 -- no session has moved less
 abbrev pub MovedOn : Meaning → Meaning → Type 0
@@ -81,13 +82,13 @@ below_wider (suc a) (suc b) m less = by (decide a b) (λ more. below_wider (suc 
     by (inl is) next = omega (arith, ap (λ i. moved_below (suc i) m) is)
     by (inr other) next = omega (arith, next (omega (arith, less, other)))
 
-below_more : (k b : ℕ) (m n : Meaning) → MovedOn m n → k < b → moved_of (m.session k) + 16 ≤ moved_of (n.session k) → moved_below b m + 16 ≤ moved_below b n
+below_more : (k b : ℕ) (m n : Meaning) → MovedOn m n → k < b → moved_of (m.session k) + long_turn ≤ moved_of (n.session k) → moved_below b m + long_turn ≤ moved_below b n
 below_more k zero m n p under q = absurd (omega (arith, under))
 below_more k (suc b) m n p under q = by (decide k b) (λ less. below_more k b m n p less q)
   where
-    by : (k ≡ b) ⊎ (k ≢ b) → (k < b → moved_below b m + 16 ≤ moved_below b n) → moved_below (suc b) m + 16 ≤ moved_below (suc b) n
+    by : (k ≡ b) ⊎ (k ≢ b) → (k < b → moved_below b m + long_turn ≤ moved_below b n) → moved_below (suc b) m + long_turn ≤ moved_below (suc b) n
     by (inl is) next =
-        let here : moved_of (m.session b) + 16 ≤ moved_of (n.session b) = subst (λ i. moved_of (m.session i) + 16 ≤ moved_of (n.session i)) is q in
+        let here : moved_of (m.session b) + long_turn ≤ moved_of (n.session b) = subst (λ i. moved_of (m.session i) + long_turn ≤ moved_of (n.session i)) is q in
         omega (arith, below_on b m n p, here)
     by (inr other) next = omega (arith, next (omega (arith, under, other)), p b)
 
@@ -106,7 +107,7 @@ spent_on begun spent m n p moved events = record {
   moved = omega (arith, p.moved, below_on p.bound m n moved);
 }
 
-spent_long : (begun : Meaning) (spent k : ℕ) (m n : Meaning) → HasSpent begun spent m → MovedOn m n → n.events ≡ m.events → moved_of (m.session k) + 16 ≤ moved_of (n.session k) → HasSpent begun (spent + 1) n
+spent_long : (begun : Meaning) (spent k : ℕ) (m n : Meaning) → HasSpent begun spent m → MovedOn m n → n.events ≡ m.events → moved_of (m.session k) + long_turn ≤ moved_of (n.session k) → HasSpent begun (spent + 1) n
 spent_long begun spent k m n p moved events enough =
     let bound = p.bound + suc k in record {
       named = p.named;
@@ -256,7 +257,7 @@ tally_on begun set spent count past m n t same moved started events = record {
   full = λ i c p. full_on set.sessions (take i past) c m n (λ a _. same a) (t.full i c p);
 }
 
-tally_long : (begun : Meaning) (set : Setting) (spent count k : ℕ) (past : List Closing) (m n : Meaning) → Tally begun set spent count past m → SameOnes m n → MovedOn m n → n.started ≡ m.started → n.events ≡ m.events → moved_of (m.session k) + 16 ≤ moved_of (n.session k) → Tally begun set (spent + 1) count past n
+tally_long : (begun : Meaning) (set : Setting) (spent count k : ℕ) (past : List Closing) (m n : Meaning) → Tally begun set spent count past m → SameOnes m n → MovedOn m n → n.started ≡ m.started → n.events ≡ m.events → moved_of (m.session k) + long_turn ≤ moved_of (n.session k) → Tally begun set (spent + 1) count past n
 tally_long begun set spent count k past m n t same moved started events enough = record {
   started = started ∙ t.started;
   spends = spent_long begun spent k m n t.spends moved events enough;
@@ -295,32 +296,35 @@ tally_held begun set spent count count' past m t few = record { started = t.star
 -- ---- the steps
 
 -- a session was closed, and nothing else has changed
-pub closed_tally : (begun : Meaning) (set : Setting) (spent count : ℕ) (past : List Closing) (k : ℕ) (m n : Meaning) → Tally begun set spent count past m → Changes k Closes m n → Tally begun set spent count past n
+pub closed_tally : (begun : Meaning) (set : Setting) (spent count : ℕ) (past : List Closing) (k : ℕ) (m n : Meaning) → Tally begun set spent count past m → Changes k (Closed k) Closes m n → Tally begun set spent count past n
 closed_tally begun set spent count past k m n t change =
     tally_on begun set spent count past m n t
     (one_same k m n change.others (ap (λ (u : Told). u.announced) change.session))
     (one_moved k m n change.others (omega (arith, ap moved_of change.session)))
     change.started change.events
 
-pub closed_work : (begun : Meaning) (set : Setting) (spent count : ℕ) (past : List Closing) (k : ℕ) (m n : Meaning) → IsAtWork begun set spent count past m → Changes k Closes m n → IsAtWork begun set spent count past n
-closed_work begun set spent count past k m n w change = record { tally = closed_tally begun set spent count past k m n w.tally change; going = ap is_over change.last_event ∙ w.going }
-
--- one more has ended, and so many are held
-pub more_work : (begun : Meaning) (set : Setting) (spent count count' : ℕ) (past : List Closing) (c : Closing) (m : Meaning) → IsAtWork begun set spent count past m → count' ≤ set.sessions → IsFullWhere set.sessions past c m → IsAtWork begun set spent count' (past ++ c ∷ []) m
-more_work begun set spent count count' past c m w few full = record { tally = tally_more begun set spent count count' past c m w.tally few full; going = w.going }
-
-pub held_work : (begun : Meaning) (set : Setting) (spent count count' : ℕ) (past : List Closing) (m : Meaning) → IsAtWork begun set spent count past m → count' ≤ set.sessions → IsAtWork begun set spent count' past m
-held_work begun set spent count count' past m w few = record { tally = tally_held begun set spent count count' past m w.tally few; going = w.going }
-
-pub turned_work : (begun : Meaning) (set : Setting) (spent count : ℕ) (past : List Closing) (k : ℕ) (T : Told → Told → Type 0) (m n : Meaning) → IsAtWork begun set spent count past m → (m.session k).announced ≡ true → AllGrow (m.session k) (n.session k) → Changes k T m n → IsAtWork begun set spent count past n
-turned_work begun set spent count past k T m n w on grows change = record {
-  tally = tally_on begun set spent count past m n w.tally (one_same k m n change.others grows.announced) (one_moved k m n change.others (moved_on (m.session k) (n.session k) on grows)) change.started change.events;
+-- a session has ended and was closed, and so many are held
+pub ended_work : (begun : Meaning) (set : Setting) (spent count count' : ℕ) (past : List Closing) (k : ℕ) (o : Outcome) (m n : Meaning) → IsAtWork begun set spent count past m → count' ≤ set.sessions → IsFullWhere set.sessions past (k, o) m → Changes k (Closed k) Closes m n → IsAtWork begun set spent count' (past ++ (k, o) ∷ []) n
+ended_work begun set spent count count' past k o m n w few full change = record {
+  tally = closed_tally begun set spent count' (past ++ (k, o) ∷ []) k m n (tally_more begun set spent count count' past (k, o) m w.tally few full) change;
+  order = order_more begun.calls m.calls n.calls past k o change.calls w.order;
   going = ap is_over change.last_event ∙ w.going;
 }
 
-pub long_work : (begun : Meaning) (set : Setting) (spent count : ℕ) (past : List Closing) (k : ℕ) (T : Told → Told → Type 0) (m n : Meaning) → IsAtWork begun set spent count past m → (m.session k).announced ≡ true → AllGrow (m.session k) (n.session k) → amount (m.session k) + 16 ≤ amount (n.session k) → Changes k T m n → IsAtWork begun set (spent + 1) count past n
+pub held_work : (begun : Meaning) (set : Setting) (spent count count' : ℕ) (past : List Closing) (m : Meaning) → IsAtWork begun set spent count past m → count' ≤ set.sessions → IsAtWork begun set spent count' past m
+held_work begun set spent count count' past m w few = record { tally = tally_held begun set spent count count' past m w.tally few; order = w.order; going = w.going }
+
+pub turned_work : (begun : Meaning) (set : Setting) (spent count : ℕ) (past : List Closing) (k : ℕ) (T : List HubCall → Told → Told → Type 0) (m n : Meaning) → IsAtWork begun set spent count past m → (m.session k).announced ≡ true → AllGrow (m.session k) (n.session k) → Moves k T m n → IsAtWork begun set spent count past n
+turned_work begun set spent count past k T m n w on grows change = record {
+  tally = tally_on begun set spent count past m n w.tally (one_same k m n change.others grows.announced) (one_moved k m n change.others (moved_on (m.session k) (n.session k) on grows)) change.started change.events;
+  order = order_kept begun.calls m.calls n.calls change.made (ended_numbers past) change.calls (pieces_close_none k change.made change.pieces) w.order;
+  going = ap is_over change.last_event ∙ w.going;
+}
+
+pub long_work : (begun : Meaning) (set : Setting) (spent count : ℕ) (past : List Closing) (k : ℕ) (T : List HubCall → Told → Told → Type 0) (m n : Meaning) → IsAtWork begun set spent count past m → (m.session k).announced ≡ true → AllGrow (m.session k) (n.session k) → amount (m.session k) + long_turn ≤ amount (n.session k) → Moves k T m n → IsAtWork begun set (spent + 1) count past n
 long_work begun set spent count past k T m n w on grows enough change = record {
   tally = tally_long begun set spent count k past m n w.tally (one_same k m n change.others grows.announced) (one_moved k m n change.others (moved_on (m.session k) (n.session k) on grows)) change.started change.events (moved_enough_on (m.session k) (n.session k) on grows.announced enough);
+  order = order_kept begun.calls m.calls n.calls change.made (ended_numbers past) change.calls (pieces_close_none k change.made change.pieces) w.order;
   going = ap is_over change.last_event ∙ w.going;
 }
 
@@ -335,6 +339,7 @@ opened_work begun set spent count past k m n w over known comes = record {
       (λ i c a p under. ap (λ (u : Told). u.announced) (comes.others a (λ is. absurd (omega (arith, is, under, over c.0 (known i c p))))))
       (one_moved k m n comes.others (let none : moved_of (m.session k) ≡ 0 = unannounced (m.session k).announced (amount (m.session k)) (λ on. absurd (omega (arith, over k on))) in omega (arith, none)))
       comes.started comes.events;
+  order = order_kept begun.calls m.calls n.calls _ (ended_numbers past) comes.calls refl w.order;
   going = ap is_over comes.last_event;
 }
 
@@ -345,5 +350,6 @@ ready_work begun set spent count past k m n w comes = record {
       (λ i c a p under. one_same k m n comes.others (ap (λ (u : Told). u.announced) comes.session) a)
       (one_moved k m n comes.others (omega (arith, ap moved_of comes.session)))
       comes.started comes.events;
+  order = order_kept begun.calls m.calls n.calls _ (ended_numbers past) comes.calls refl w.order;
   going = ap is_over comes.last_event;
 }

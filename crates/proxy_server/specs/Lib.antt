@@ -1,4 +1,5 @@
 -- What the server does.
+pub mod Calling
 pub mod Filling
 pub mod Lines
 pub mod Matching

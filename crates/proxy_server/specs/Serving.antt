@@ -1,8 +1,9 @@
 -- What a server stands on while it serves.
-use Rattle.std.specs.Prelude.{◌≡◌, ◌≢◌, ℕ, ◌<◌, ◌≤◌, ◌⊎◌, List, Bool, true, false, Option, None, Some, slice_get}
+use Rattle.std.specs.Prelude.{◌≡◌, ◌≢◌, ℕ, ◌<◌, ◌≤◌, ◌⊎◌, List, [], ◌∷◌, ◌++◌, Bool, true, false, Option, None, Some, slice_get}
 use Rattle.std.specs.List.{flat_map}
-use Rattle.gate_hub.specs.Meaning.{Told, Meaning}
-use Rattle.gate_hub.specs.Hubs.{HasStarted}
+use Rattle.gate_base.specs.Causes.{Rose}
+use Rattle.gate_hub.specs.Meaning.{Told, HubCall, Closed, Meaning}
+use Rattle.gate_hub.specs.Hubs.{Counts, HasStarted}
 use Rattle.gate_hub.specs.declared.hub.Side.{Side}
 use Rattle.gate_hub.specs.declared.hub.HubNext.{HubNext}
 use Rattle.gate_hub.specs.declared.hub.HubNext.TheVariants as event
@@ -16,6 +17,7 @@ use Rattle.session_core.specs.Session.{Seen}
 use Rattle.session_core.specs.declared.outcome.Outcome.{Outcome}
 use Rattle.session_core.specs.declared.outcome.Outcome.TheVariants as outcome
 use Rattle.proxy_server.specs.Lines.{line_text}
+use Rattle.proxy_server.specs.Calling.{closings_of, FailsLast}
 use Rattle.proxy_server.specs.Matching.{history_of, Matches}
 use Rattle.proxy_server.specs.Turning.{IsSettled, HasFailed}
 
@@ -67,7 +69,8 @@ abbrev pub IsRising : {J : Type 0} → List (Entry J) → Type 0
 IsRising {J} held = (i j : ℕ) (d e : Entry J) → i < j → slice_get held i ≡ Some d → slice_get held j ≡ Some e → d.number < e.number
 
 -- the server holds these sessions, of which the first so many are closed, all but that at `busy` are settled and no call of
--- theirs failed, and these have ended, in order of closing; each announced session is one of them, but for `More`
+-- theirs failed, and these have ended, in order of closing; each announced session is one of them, but for `More`, and none is
+-- two of them. A session that ended by a fault of a side was closed by the very next call
 pub record Stands (J : Type 0) (rules : J → Rules) (set : Setting) (More : ℕ → Type 0) (held : List (Entry J)) (past : List Closing) (busy gone : ℕ) (m : Meaning) : Type 0 where
   pub started : HasStarted m
   pub rising : IsRising held
@@ -78,6 +81,8 @@ pub record Stands (J : Type 0) (rules : J → Rules) (set : Setting) (More : ℕ
   pub unfailed : (i : ℕ) (e : Entry J) → slice_get held i ≡ Some e → i ≢ busy → (x : Side) → HasFailed x (m.session e.number) → ⊥
   pub ended : (i : ℕ) (c : Closing) → slice_get past i ≡ Some c → HasClosed set c.1 (m.session c.0)
   pub once : (i j : ℕ) (c d : Closing) → i < j → slice_get past i ≡ Some c → slice_get past j ≡ Some d → c.0 ≢ d.0
+  pub apart : (i j : ℕ) (c : Closing) (e : Entry J) → slice_get past i ≡ Some c → slice_get held j ≡ Some e → c.0 ≢ e.number
+  pub broke : (i : ℕ) (c : Closing) (x : Side) → slice_get past i ≡ Some c → c.1 ≡ outcome.LinkFault x → FailsLast c.0 x m.calls
   pub covers : (k : ℕ) → (m.session k).announced ≡ true → More k ⊎ IsAmong J k held past
 
 abbrev pub no_more : ℕ → Type 0
@@ -90,6 +95,33 @@ Keeps told told' Before After = (m : Meaning) → told m → Before m → ((n : 
 -- the same where what follows also tells of the meaning from which it was led
 abbrev pub KeepsFrom : (Meaning → Type 0) → (Meaning → Type 0) → (Meaning → Type 0) → (Meaning → Meaning → Type 0) → Type 0
 KeepsFrom told told' Before After = (m : Meaning) → told m → Before m → ((n : Meaning) × told' n × After m n)
+
+-- ---- the order of closing
+
+abbrev pub ended_numbers : List Closing → List ℕ
+ended_numbers [] = []
+ended_numbers (c ∷ ended) = c.0 ∷ ended_numbers ended
+
+abbrev pub held_numbers : {J : Type 0} → List (Entry J) → List ℕ
+held_numbers [] = []
+held_numbers (e ∷ held) = e.number ∷ held_numbers held
+
+-- from `begun` on these were closed, in this order
+abbrev pub IsClosedInOrder : List HubCall → List HubCall → List ℕ → Type 0
+IsClosedInOrder begun calls numbers = closings_of calls ≡ closings_of begun ++ numbers
+
+-- the last of these to end was closed by the last call
+pub record IsJustClosed (ended : List Closing) (calls : List HubCall) : Type 0 where
+  pub before : List Closing
+  pub last : Closing
+  pub earlier : List HubCall
+  pub ended_are : ended ≡ before ++ last ∷ []
+  pub calls_are : calls ≡ earlier ++ Closed last.0 ∷ []
+
+-- each of these that ended by a fault of a side was counted there
+abbrev pub AreCounted : Counts → Counts → List Closing → Type 0
+AreCounted before now ended =
+    (i : ℕ) (c : Closing) (x : Side) → slice_get ended i ≡ Some c → c.1 ≡ outcome.LinkFault x → Rose (before.link_faults c.0 x) (now.link_faults c.0 x)
 
 -- ---- the lines
 

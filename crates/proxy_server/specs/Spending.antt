@@ -1,7 +1,7 @@
 -- How much of its budget a server has spent.
 use Rattle.std.specs.Prelude.{◌≡◌, ℕ, zero, suc, ◌+◌, ◌*◌, ◌-◌, ◌^◌, ◌≤◌, min, if◌then◌else◌}
 use Rattle.gate_hub.specs.Meaning.{Told, Meaning}
-use Rattle.proxy_server.specs.Turning.{amount}
+use Rattle.proxy_server.specs.Turning.{amount, long_turn}
 
 -- how much was received and sent over a session that was announced, with its ends
 abbrev pub moved_of : Told → ℕ
@@ -24,4 +24,4 @@ pub record HasSpent (begun : Meaning) (spent : ℕ) (m : Meaning) : Type 0 where
   pub bound : ℕ
   pub sum : named + long ≡ spent
   pub events : RoseBy named begun.events m.events
-  pub moved : 16 * long ≤ moved_below bound m
+  pub moved : long_turn * long ≤ moved_below bound m

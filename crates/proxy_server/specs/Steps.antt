@@ -1,8 +1,12 @@
--- What the steps of a server do.
-use Rattle.std.specs.Prelude.{◌≡◌, ℕ, ◌^◌, ◌<◌, ◌≤◌, ◌⊎◌, List, ◌++◌, length, Option, None, Some, slice_get}
+-- What the steps of a server do, and what it leaves.
+use Rattle.std.specs.Prelude.{◌≡◌, ℕ, ⊤, ◌^◌, ◌<◌, ◌≤◌, ◌⊎◌, List, [], ◌∷◌, ◌++◌, length, take, Option, None, Some, Result, Ok, Err, slice_get}
 use Rattle.std.specs.Io.KnownBytes.{Appends}
-use Rattle.gate_hub.specs.Meaning.{Meaning}
 use Rattle.gate_base.specs.Causes.{Rose}
+use Rattle.gate_io.specs.Fronts.{AppendsFront}
+use Rattle.gate_io.specs.declared.writing.Wrote.{Wrote}
+use Rattle.gate_io.specs.declared.writing.Wrote.TheVariants as wrote
+use Rattle.gate_hub.specs.Meaning.{HubCall, Closed, Meaning}
+use Rattle.gate_hub.specs.Hubs.{Counts}
 use Rattle.gate_hub.specs.declared.hub.HubNext.{HubNext}
 use Rattle.gate_hub.specs.declared.hub.HubNext.TheVariants as event
 use Rattle.gate_hub.specs.declared.hub.Served.{Served}
@@ -10,19 +14,14 @@ use Rattle.gate_hub.specs.declared.hub.Served.TheVariants as served
 use Rattle.gate_hub.specs.declared.hub.Side.{Side}
 use Rattle.session_core.specs.Rules.{Rules}
 use Rattle.session_core.specs.Steps.{outcome_of}
-use Rattle.gate_io.specs.Fronts.{AppendsFront}
+use Rattle.session_core.specs.declared.outcome.Outcome.{Outcome}
+use Rattle.session_core.specs.declared.outcome.Outcome.TheVariants as outcome
 use Rattle.proxy_server.specs.Turning.{HasFailed, IsSettled}
-use Rattle.proxy_server.specs.Serving.{Setting, Entry, Closing, Stands, Keeps, KeepsFrom, no_more, closing_lines, left_lines, IsFresh, EndsOn, SpendsBy}
+use Rattle.proxy_server.specs.Serving.{Setting, Entry, Closing, Stands, Keeps, KeepsFrom, no_more, closing_line, closing_lines, left_lines, ended_numbers, held_numbers, IsClosedInOrder, IsJustClosed, AreCounted, IsFresh, EndsOn, SpendsBy}
 use Rattle.proxy_server.specs.Working.{Tally, Waits, HasWaited, IsBusy}
-use Rattle.proxy_server.specs.declared.limits.Limits.{Limits}
-use Rattle.gate_io.specs.declared.writing.Wrote.{Wrote}
-use Rattle.gate_io.specs.declared.writing.Wrote.TheVariants as wrote
-use Rattle.proxy_server.specs.declared.server.Went.{Went}
-use Rattle.proxy_server.specs.declared.server.Went.TheVariants as went
-use Rattle.proxy_server.specs.declared.server.Stepped.{Stepped}
-use Rattle.proxy_server.specs.declared.server.Stepped.TheVariants as stepped
-use Rattle.proxy_server.specs.declared.server.Attended.{Attended}
-use Rattle.proxy_server.specs.declared.server.Attended.TheVariants as attended
+use Rattle.proxy_server.specs.declared.server.Limits.{Limits}
+use Rattle.proxy_server.specs.declared.server.End.{End}
+use Rattle.proxy_server.specs.declared.server.End.TheVariants as ends
 
 -- a server's limits are those of its sessions, whose judges have room for so many bytes
 pub record AreGood (limits : Limits) (room : ℕ) : Type 0 where
@@ -39,56 +38,78 @@ abbrev pub Writes : Wrote → Option (List ℕ) → Option (List ℕ) → List �
 Writes wrote.All old new lines = Appends old new lines
 Writes wrote.Failed old new lines = AppendsFront old new lines
 
--- where the server stands once the session of an event was turned
-abbrev pub WentTo : (J : Type 0) → (J → Rules) → Went → Setting → Meaning → ℕ → List (Entry J) → List Closing → Meaning → Type 0
-WentTo J rules went.On set begun spent held past m = Waits J rules set begun spent held past m
-WentTo J rules went.WriteFault set begun spent held past m = Waits J rules set begun spent held past m
-WentTo J rules (went.Spent at) set begun spent held past m = IsBusy J rules set begun spent at held past m
+-- a session that was announced is not opened: so many are open already, or its memory was not found
+abbrev pub IsRefusedAs : Outcome → ℕ → ℕ → Type 0
+IsRefusedAs o held sessions = ((o ≡ outcome.Full) × (sessions ≤ held)) ⊎ ((o ≡ outcome.NoMemory) × (held < sessions))
 
-abbrev pub WentWrites : Went → Option (List ℕ) → Option (List ℕ) → List ℕ → Type 0
-WentWrites went.On old new lines = Appends old new lines
-WentWrites went.WriteFault old new lines = AppendsFront old new lines
-WentWrites (went.Spent at) old new lines = Appends old new lines
+-- where the session at this place ended by a fault of a side, that was counted
+abbrev pub WasCounted : {J : Type 0} → Counts → Counts → Outcome → List (Entry J) → ℕ → Type 0
+WasCounted {J} before now o held at =
+    (e : Entry J) (x : Side) → slice_get held at ≡ Some e → o ≡ outcome.LinkFault x → Rose (before.link_faults e.number x) (now.link_faults e.number x)
 
--- sessions have ended on the way, of each of which a line was written
-abbrev pub Goes : (J : Type 0) → (J → Rules) → (Meaning → Type 0) → (Meaning → Type 0) → Option (List ℕ) → Option (List ℕ) → Setting → (Meaning → List Closing → Meaning → Type 0) → ℕ → List (Entry J) → Went → Type 0
-Goes J rules told told' written written' set Before spent held went =
-    (more : List Closing) × WentWrites went written written' (closing_lines more)
-    × ((begun : Meaning) (past : List Closing) → Keeps told told' (Before begun past) (WentTo J rules went set begun spent held (past ++ more)))
+-- ---- one step
 
--- the same of a step of the whole server
-abbrev pub SteppedTo : (J : Type 0) → (J → Rules) → Stepped → Setting → Meaning → ℕ → List (Entry J) → List Closing → Meaning → Type 0
-SteppedTo J rules stepped.Stopped set begun spent held past m = HasWaited J rules set begun spent event.Stopped held past m
-SteppedTo J rules stepped.HubFault set begun spent held past m = HasWaited J rules set begun spent event.Failed held past m
-SteppedTo J rules (stepped.Event went) set begun spent held past m = WentTo J rules went set begun spent held past m
+-- what stands outside of a server at a moment: what the hub tells and its counts, what was written and the output's faults
+pub record Outside : Type 1 where
+  pub told : Meaning → Type 0
+  pub counts : Counts
+  pub written : Option (List ℕ)
+  pub faults : ℕ
 
-abbrev pub StepWrites : Stepped → Option (List ℕ) → Option (List ℕ) → List ℕ → Type 0
-StepWrites stepped.Stopped old new lines = Appends old new lines
-StepWrites stepped.HubFault old new lines = Appends old new lines
-StepWrites (stepped.Event went) old new lines = WentWrites went old new lines
+abbrev pub outside : {H O : Type 0} → (H → Meaning → Type 0) → (H → Counts) → (O → Option (List ℕ)) → (O → ℕ) → H → O → Outside
+outside tells counts written faults hub output = record { told = tells hub; counts = counts hub; written = written output; faults = faults output }
 
-abbrev pub StepsOn : (J : Type 0) → (J → Rules) → (Meaning → Type 0) → (Meaning → Type 0) → Option (List ℕ) → Option (List ℕ) → Setting → ℕ → ℕ → List (Entry J) → List (Entry J) → Stepped → Type 0
-StepsOn J rules told told' written written' set spent spent' held held' result =
-    (more : List Closing) × StepWrites result written written' (closing_lines more)
-    × ((begun : Meaning) (past : List Closing) → Keeps told told' (Waits J rules set begun spent held past) (SteppedTo J rules result set begun spent' held' (past ++ more)))
+-- the limits and the room for a line stay, and no more is spent than may be
+abbrev pub IsCarriedOn : Limits → Limits → ℕ → ℕ → ℕ → ℕ → Type 0
+IsCarriedOn limits limits' room room' spent spent' = (limits' ≡ limits) × (room' ≡ room) × (spent ≤ spent') × (spent' ≤ limits.events)
 
--- and of all events
-abbrev pub AttendedTo : (J : Type 0) → (J → Rules) → Attended → Setting → Meaning → ℕ → List (Entry J) → List Closing → Meaning → Type 0
-AttendedTo J rules attended.Stopped set begun spent held past m = HasWaited J rules set begun spent event.Stopped held past m
-AttendedTo J rules attended.HubFault set begun spent held past m = HasWaited J rules set begun spent event.Failed held past m
-AttendedTo J rules attended.WriteFault set begun spent held past m = Waits J rules set begun spent held past m
-AttendedTo J rules (attended.Budget at) set begun spent held past m = IsBusy J rules set begun spent at held past m
+-- how turns and lines end the work: the hub is not asked there, and the budget is spent where it ends them
+abbrev pub WorkEnds : Result ⊤ End → ℕ → ℕ → Type 0
+WorkEnds (Ok x) spent events = ⊤
+WorkEnds (Err ends.Stopped) spent events = ⊥
+WorkEnds (Err ends.HubFault) spent events = ⊥
+WorkEnds (Err ends.WriteFault) spent events = ⊤
+WorkEnds (Err (ends.Budget at)) spent events = spent ≡ events
 
-abbrev pub AttendWrites : Attended → Option (List ℕ) → Option (List ℕ) → List ℕ → Type 0
-AttendWrites attended.Stopped old new lines = Appends old new lines
-AttendWrites attended.HubFault old new lines = Appends old new lines
-AttendWrites attended.WriteFault old new lines = AppendsFront old new lines
-AttendWrites (attended.Budget at) old new lines = Appends old new lines
+-- and a step: it spends some where an event has come
+abbrev pub StepEnds : Result ⊤ End → ℕ → ℕ → ℕ → Type 0
+StepEnds (Ok x) before spent events = before < spent
+StepEnds (Err ends.Stopped) before spent events = spent ≡ before
+StepEnds (Err ends.HubFault) before spent events = spent ≡ before
+StepEnds (Err ends.WriteFault) before spent events = ⊤
+StepEnds (Err (ends.Budget at)) before spent events = spent ≡ events
 
-abbrev pub Attends : (J : Type 0) → (J → Rules) → (Meaning → Type 0) → (Meaning → Type 0) → Option (List ℕ) → Option (List ℕ) → Setting → ℕ → ℕ → List (Entry J) → List (Entry J) → Attended → Type 0
-Attends J rules told told' written written' set spent spent' held held' result =
-    (more : List Closing) × AttendWrites result written written' (closing_lines more)
-    × ((begun : Meaning) (past : List Closing) → Keeps told told' (Waits J rules set begun spent held past) (AttendedTo J rules result set begun spent' held' (past ++ more)))
+-- where the server stands after a step, and where it has ended
+abbrev pub EndedTo : (J : Type 0) → (J → Rules) → Result ⊤ End → Setting → Meaning → ℕ → List (Entry J) → List Closing → Meaning → Type 0
+EndedTo J rules (Ok x) set begun spent held past m = Waits J rules set begun spent held past m
+EndedTo J rules (Err ends.Stopped) set begun spent held past m = HasWaited J rules set begun spent event.Stopped held past m
+EndedTo J rules (Err ends.HubFault) set begun spent held past m = HasWaited J rules set begun spent event.Failed held past m
+EndedTo J rules (Err ends.WriteFault) set begun spent held past m = Waits J rules set begun spent held past m × IsJustClosed past m.calls
+EndedTo J rules (Err (ends.Budget at)) set begun spent held past m = IsBusy J rules set begun spent at held past m
+
+-- the lines of all but the last of these were written, and a front of that one
+pub record LastLineFails (old new : Option (List ℕ)) (ended : List Closing) : Type 0 where
+  pub before : List Closing
+  pub last : Closing
+  pub count : ℕ
+  pub ended_are : ended ≡ before ++ last ∷ []
+  pub within : count ≤ length (closing_line last)
+  pub written : Appends old new (closing_lines before ++ take count (closing_line last))
+
+-- the line of each session that has ended was written at once, and nothing behind one that could not be
+abbrev pub StepWrites : Result ⊤ End → Option (List ℕ) → Option (List ℕ) → List Closing → Type 0
+StepWrites (Ok x) old new ended = Appends old new (closing_lines ended)
+StepWrites (Err ends.Stopped) old new ended = Appends old new (closing_lines ended)
+StepWrites (Err ends.HubFault) old new ended = Appends old new (closing_lines ended)
+StepWrites (Err ends.WriteFault) old new ended = LastLineFails old new ended
+StepWrites (Err (ends.Budget at)) old new ended = Appends old new (closing_lines ended)
+
+-- sessions have ended on the way
+pub record Goes (J : Type 0) (rules : J → Rules) (set : Setting) (a b : Outside) (Before : Meaning → List Closing → Meaning → Type 0) (spent : ℕ) (held : List (Entry J)) (result : Result ⊤ End) : Type 0 where
+  pub more : List Closing
+  pub writes : StepWrites result a.written b.written more
+  pub counted : AreCounted a.counts b.counts more
+  pub keeps : (begun : Meaning) (past : List Closing) → Keeps a.told b.told (Before begun past) (EndedTo J rules result set begun spent held (past ++ more))
 
 -- ---- the end
 
@@ -96,23 +117,45 @@ Attends J rules told told' written written' set spent spent' held held' result =
 abbrev pub AreUnfailed : {J : Type 0} → List (Entry J) → Meaning → Type 0
 AreUnfailed {J} held m = (i : ℕ) (e : Entry J) → slice_get held i ≡ Some e → (x : Side) → HasFailed x (m.session e.number) → ⊥
 
--- the first so many of the sessions that were open are closed, and the hub's last event stays
-pub record Leaves (J : Type 0) (rules : J → Rules) (set : Setting) (begun : Meaning) (spent : ℕ) (held : List (Entry J)) (past : List Closing) (busy : ℕ) (last : Option HubNext) (gone : ℕ) (m : Meaning) : Type 0 where
+-- these sessions are closed, one after another
+abbrev pub closing_calls : List ℕ → List HubCall
+closing_calls [] = []
+closing_calls (k ∷ numbers) = Closed k ∷ closing_calls numbers
+
+-- after these calls the first so many of the sessions that were open were closed, and the hub's last event stays
+pub record Leaves (J : Type 0) (rules : J → Rules) (set : Setting) (begun : Meaning) (spent : ℕ) (held : List (Entry J)) (past : List Closing) (busy : ℕ) (last : Option HubNext) (calls : List HubCall) (gone : ℕ) (m : Meaning) : Type 0 where
   pub stands : Stands J rules set no_more held past busy gone m
   pub unfailed : AreUnfailed held m
   pub tally : Tally begun set spent (length held) past m
+  pub closings : m.calls ≡ calls ++ closing_calls (held_numbers (take gone held))
   pub last_event : m.last_event ≡ last
 
--- all lines were written, or a front of them before a fault of the output
-abbrev pub WritesOrFails : Option (List ℕ) → Option (List ℕ) → ℕ → ℕ → List ℕ → Type 0
-WritesOrFails old new faults faults' lines = Appends old new lines ⊎ (AppendsFront old new lines × Rose faults faults')
+-- which lines a server has written: all; or those of the sessions that have ended, but for a front of the last's; or those,
+-- and of the lines of sessions that were left open a front
+pub data LinesEnd : Type 0 where
+  AllLines : LinesEnd
+  LastOfWork : LinesEnd
+  LeftOpen : LinesEnd
 
-abbrev pub ServedWrites : Served → Option (List ℕ) → Option (List ℕ) → ℕ → ℕ → List ℕ → Type 0
-ServedWrites served.Stopped old new faults faults' lines = Appends old new lines
-ServedWrites served.HubFault old new faults faults' lines = WritesOrFails old new faults faults' lines
-ServedWrites served.WriteFault old new faults faults' lines = AppendsFront old new lines × Rose faults faults'
-ServedWrites served.Budget old new faults faults' lines = WritesOrFails old new faults faults' lines
-ServedWrites served.OutOfMemory old new faults faults' lines = Appends old new lines
+abbrev pub WritesLines : {J : Type 0} → LinesEnd → Option (List ℕ) → Option (List ℕ) → ℕ → ℕ → List Closing → List (Entry J) → Type 0
+WritesLines AllLines old new faults faults' ended held = Appends old new (closing_lines ended ++ left_lines held)
+WritesLines LastOfWork old new faults faults' ended held = LastLineFails old new ended × Rose faults faults'
+WritesLines LeftOpen old new faults faults' ended held =
+    ((count : ℕ) × (count ≤ length (left_lines held)) × Appends old new (closing_lines ended ++ take count (left_lines held))) × Rose faults faults'
+
+-- and what is answered then
+abbrev pub AnswersLines : Served → LinesEnd → Type 0
+AnswersLines served.Stopped lines = lines ≡ AllLines
+AnswersLines served.HubFault lines = (lines ≡ AllLines) ⊎ (lines ≡ LeftOpen)
+AnswersLines served.WriteFault lines = (lines ≡ LastOfWork) ⊎ (lines ≡ LeftOpen)
+AnswersLines served.Budget lines = (lines ≡ AllLines) ⊎ (lines ≡ LeftOpen)
+AnswersLines served.OutOfMemory lines = lines ≡ AllLines
+
+-- a line was written before the hub was asked again: behind the closing of the session whose line could not be written, only
+-- the sessions that were left open were closed
+abbrev pub IsNotAskedAgain : {J : Type 0} → LinesEnd → List Closing → List (Entry J) → List HubCall → Type 0
+IsNotAskedAgain {J} lines ended held calls =
+    lines ≡ LastOfWork → (earlier : List HubCall) × IsJustClosed ended earlier × (calls ≡ earlier ++ closing_calls (held_numbers held))
 
 -- the sessions that were left open: by its rules none has an outcome, no call of theirs failed, and each is settled, but for one
 -- where the budget is spent. `next` may stop or fail at any wait and changes no session by that, so this holds at each wait
@@ -127,24 +170,37 @@ pub record Accounts (set : Setting) (result : Served) (count : ℕ) (past : List
   pub tally : Tally begun set spent count past m
   pub spends : SpendsBy result spent set.events
 
+-- where the server ends, as the hub tells it; the sessions were closed in the order of their lines
+pub record Ending (J : Type 0) (rules : J → Rules) (set : Setting) (result : Served) (lines : LinesEnd) (held : List (Entry J)) (ended : List Closing) (busy : ℕ) (begun m : Meaning) : Type 0 where
+  pub stands : Stands J rules set no_more held ended busy (length held) m
+  pub event : EndsOn result m
+  pub left : IsLeft J rules set result held m
+  pub accounts : Accounts set result (length held) ended begun m
+  pub order : IsClosedInOrder begun.calls m.calls (ended_numbers ended ++ held_numbers held)
+  pub not_asked : IsNotAskedAgain lines ended held m.calls
+
 -- what the server leaves: the sessions that were left open, those that have ended in order, and the lines of both; each
 -- announced session is one of them, closed, and is what the line says
-abbrev pub Serves : (J : Type 0) → (J → Rules) → (Meaning → Type 0) → (Meaning → Type 0) → Option (List ℕ) → Option (List ℕ) → ℕ → ℕ → Setting → Served → Type 0
-Serves J rules told told' written written' faults faults' set result =
-    (held : List (Entry J)) × (ended : List Closing) × (busy : ℕ)
-    × ServedWrites result written written' faults faults' (closing_lines ended ++ left_lines held)
-    × KeepsFrom told told' IsFresh (λ m n. Stands J rules set no_more held ended busy (length held) n × EndsOn result n × IsLeft J rules set result held n × Accounts set result (length held) ended m n)
+pub record Serves (J : Type 0) (rules : J → Rules) (set : Setting) (a b : Outside) (result : Served) : Type 0 where
+  pub held : List (Entry J)
+  pub ended : List Closing
+  pub busy : ℕ
+  pub lines : LinesEnd
+  pub writes : WritesLines lines a.written b.written a.faults b.faults ended held
+  pub answers : AnswersLines result lines
+  pub counted : AreCounted a.counts b.counts ended
+  pub keeps : KeepsFrom a.told b.told IsFresh (Ending J rules set result lines held ended busy)
 
--- what is answered for what came of all events and of the last lines
-abbrev pub served_by : Attended → Wrote → Served
-served_by attended.Stopped wrote.All = served.Stopped
-served_by attended.Stopped wrote.Failed = served.WriteFault
-served_by attended.HubFault w = served.HubFault
-served_by attended.WriteFault w = served.WriteFault
-served_by (attended.Budget at) w = served.Budget
+-- what is answered for how the work ended and what came of the last lines
+abbrev pub served_by : End → Wrote → Served
+served_by ends.Stopped wrote.All = served.Stopped
+served_by ends.Stopped wrote.Failed = served.WriteFault
+served_by ends.HubFault w = served.HubFault
+served_by ends.WriteFault w = served.WriteFault
+served_by (ends.Budget at) w = served.Budget
 
-abbrev pub first_wrote : Attended → Wrote
-first_wrote attended.Stopped = wrote.All
-first_wrote attended.HubFault = wrote.All
-first_wrote attended.WriteFault = wrote.Failed
-first_wrote (attended.Budget at) = wrote.All
+abbrev pub first_wrote : End → Wrote
+first_wrote ends.Stopped = wrote.All
+first_wrote ends.HubFault = wrote.All
+first_wrote ends.WriteFault = wrote.Failed
+first_wrote (ends.Budget at) = wrote.All

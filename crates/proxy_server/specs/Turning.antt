@@ -1,22 +1,25 @@
 -- A turn of a session.
-use Rattle.std.specs.Prelude.{◌≡◌, ◌≢◌, ℕ, ◌+◌, ◌≤◌, ◌⊎◌, List, [], ◌++◌, length, Bool, true, false, if◌then◌else◌, Option, None, Some, is_some, Result, Ok, Err}
-use Rattle.gate_hub.specs.Meaning.{Told, Link, Meaning, link_of, IsOpen}
-use Rattle.gate_hub.specs.Hubs.{Changes}
+use Rattle.std.specs.Prelude.{◌≡◌, ◌≢◌, ℕ, ◌+◌, ◌≤◌, ◌⊎◌, ◌||◌, List, [], ◌∷◌, ◌++◌, length, min, nat_eq, Bool, true, false, if◌then◌else◌, Option, None, Some, is_some, Result, Ok, Err}
+use Rattle.gate_hub.specs.Meaning.{Told, Link, HubCall, Read, Wrote, Meaning, link_of, IsOpen}
 use Rattle.gate_hub.specs.declared.hub.Side.{Side}
 use Rattle.gate_hub.specs.declared.hub.Side.TheVariants as side
+use Rattle.gate_hub.specs.declared.hub.LinkGot.{LinkGot}
 use Rattle.gate_hub.specs.declared.hub.LinkGot.TheVariants as got
+use Rattle.gate_hub.specs.declared.hub.LinkPut.{LinkPut}
 use Rattle.gate_hub.specs.declared.hub.LinkPut.TheVariants as put
 use Rattle.framed_transport.specs.Front.{front, is_part}
 use Rattle.session_core.specs.Rules.{Rules}
 use Rattle.session_core.specs.Standing.{Standing, History}
-use Rattle.session_core.specs.Steps.{IsStill}
+use Rattle.session_core.specs.Steps.{IsStill, is_none}
+use Rattle.session_core.specs.Ends.{is_own}
 use Rattle.session_core.specs.Session.{Seen, due_to, room_of}
 use Rattle.session_core.specs.declared.outcome.Outcome.{Outcome}
 use Rattle.session_core.specs.declared.outcome.Outcome.TheVariants as outcome
+use Rattle.proxy_server.specs.Calling.{piece_length, piece_behind, ArePieces, EndsFailing, Wanted, ToWrite, ToRead}
 use Rattle.proxy_server.specs.Matching.{history_of}
 use Rattle.proxy_server.specs.declared.waiting.Waits.{Waits}
-use Rattle.proxy_server.specs.declared.ending.Turn.{Turn}
-use Rattle.proxy_server.specs.declared.ending.Turn.TheVariants as turn
+use Rattle.proxy_server.specs.declared.turn_end.Turn.{Turn}
+use Rattle.proxy_server.specs.declared.turn_end.Turn.TheVariants as turn
 
 -- ---- what a turn does
 
@@ -71,30 +74,46 @@ pub record IsSettled (J : Type 0) (rules : J → Rules) (session : Seen J) (t : 
 abbrev pub OthersAreAsBefore : Side → Told → Told → Type 0
 OthersAreAsBefore x s t = (y : Side) → y ≢ x → HasFailed y t → HasFailed y s
 
--- a call on a side failed, and none on the other, or else the session ended
-pub data EndsBy (ending : Option Outcome) (o : Outcome) (s t : Told) : Type 0 where
-  ByLink : (x : Side) → o ≡ outcome.LinkFault x → HasFailed x t → OthersAreAsBefore x s t → EndsBy ending o s t
-  BySession : ending ≡ Some o → NoneFailed s t → EndsBy ending o s t
+-- the last call was one on this side that failed, and none on the other has failed; or else the session ended
+pub data EndsBy (k : ℕ) (ending : Option Outcome) (o : Outcome) (made : List HubCall) (s t : Told) : Type 0 where
+  ByLink : (x : Side) → o ≡ outcome.LinkFault x → EndsFailing k x made → HasFailed x t → OthersAreAsBefore x s t → EndsBy k ending o made s t
+  BySession : ending ≡ Some o → is_own o ≡ true → NoneFailed s t → EndsBy k ending o made s t
 
-abbrev pub TurnDoes : (J : Type 0) → (J → Rules) → Seen J → Turn → Told → Told → Type 0
-TurnDoes J rules session turn.Settled s t = AllGrow s t × NoneFailed s t × IsSettled J rules session t
-TurnDoes J rules session turn.More s t = AllGrow s t × NoneFailed s t × (amount s + 16 ≤ amount t) × (session.outcome ≡ None)
-TurnDoes J rules session (turn.Ended o) s t = AllGrow s t × EndsBy session.outcome o s t
+-- a turn that ends with `More` has made so many calls that moved bytes or brought an end
+abbrev pub long_turn : ℕ
+long_turn = 16
+
+abbrev pub TurnDoes : (J : Type 0) → (J → Rules) → ℕ → Seen J → Turn → List HubCall → Told → Told → Type 0
+TurnDoes J rules k session turn.Settled made s t = AllGrow s t × NoneFailed s t × IsSettled J rules session t
+TurnDoes J rules k session turn.More made s t = AllGrow s t × NoneFailed s t × (amount s + long_turn ≤ amount t) × (session.outcome ≡ None)
+TurnDoes J rules k session (turn.Ended o) made s t = AllGrow s t × EndsBy k session.outcome o made s t
+
+-- from one meaning to another these calls were made, each a piece of session k, which alone has changed
+pub record Moves (k : ℕ) (Step : List HubCall → Told → Told → Type 0) (a b : Meaning) : Type 0 where
+  pub made : List HubCall
+  pub calls : b.calls ≡ a.calls ++ made
+  pub pieces : ArePieces k made
+  pub session : Step made (a.session k) (b.session k)
+  pub others : (j : ℕ) → j ≢ k → b.session j ≡ a.session j
+  pub started : b.started ≡ a.started
+  pub last_event : b.last_event ≡ a.last_event
+  pub events : b.events ≡ a.events
 
 -- each meaning at which the session is open, and which it matches, leads to such a one
-abbrev pub Goes : (Meaning → Type 0) → (Meaning → Type 0) → (History → Type 0) → (History → Type 0) → ℕ → (Told → Told → Type 0) → Type 0
+abbrev pub Goes : (Meaning → Type 0) → (Meaning → Type 0) → (History → Type 0) → (History → Type 0) → ℕ → (List HubCall → Told → Told → Type 0) → Type 0
 Goes told told' matches matches' k Step =
-    (m : Meaning) → told m → IsOpen k m → matches (history_of (m.session k)) → ((n : Meaning) × told' n × matches' (history_of (n.session k)) × Changes k Step m n)
+    (m : Meaning) → told m → IsOpen k m → matches (history_of (m.session k)) → ((n : Meaning) × told' n × matches' (history_of (n.session k)) × Moves k Step m n)
 
 -- how the answer of a turn goes with the session's outcome, whatever is told
 pub data EndsAs (ending : Option Outcome) : Turn → Type 0 where
   Settles : ending ≡ None → EndsAs ending turn.Settled
   GoesOn : ending ≡ None → EndsAs ending turn.More
-  Fails : (x : Side) → EndsAs ending (turn.Ended (outcome.LinkFault x))
-  Ends : (o : Outcome) → ending ≡ Some o → EndsAs ending (turn.Ended o)
+  BreaksOff : (x : Side) → EndsAs ending (turn.Ended (outcome.LinkFault x))
+  Ends : (o : Outcome) → ending ≡ Some o → is_own o ≡ true → EndsAs ending (turn.Ended o)
 
--- ---- on the way
+-- ---- the first call of a turn
 
+-- no call of the turn has answered yet that it isn't ready
 abbrev pub no_waits : Waits
 no_waits = record { client_write = false; client_read = false; upstream_write = false; upstream_read = false }
 
@@ -105,6 +124,45 @@ write_waits w side.Upstream = w.upstream_write
 abbrev pub read_waits : Waits → Side → Bool
 read_waits w side.Client = w.client_read
 read_waits w side.Upstream = w.upstream_read
+
+-- what is due to a side is to be written to it, unless it waits
+abbrev pub wanted_write : Side → Waits → Standing → Option Wanted
+wanted_write x w s = if is_none (due_to x s) || write_waits w x then None else Some (ToWrite x (min (length (due_to x s)) piece_length))
+
+abbrev pub other : Side → Side
+other side.Client = side.Upstream
+other side.Upstream = side.Client
+
+-- the most that a call reads of a side, where these bytes are due to the other
+abbrev pub most_behind : List ℕ → ℕ
+most_behind due = if is_none due then piece_length else piece_behind
+
+abbrev pub room_in : {J : Type 0} → Seen J → Side → ℕ
+room_in s x = room_of s.limit s.standing (is_some s.outcome) x
+
+-- as much of a side is to be read as there is room for, and at most so much, unless it waits
+abbrev pub wanted_read : {J : Type 0} → ℕ → Side → Waits → Seen J → Option Wanted
+wanted_read most x w s = if nat_eq (room_in s x) 0 || read_waits w x then None else Some (ToRead x (min (room_in s x) most))
+
+abbrev pub or_else : Option Wanted → Option Wanted → Option Wanted
+or_else None next = next
+or_else (Some first) next = Some first
+
+-- first the client is written to, then the upstream; then the upstream is read, and the client last
+abbrev pub wanted : {J : Type 0} → Waits → Seen J → Option Wanted
+wanted w s =
+    or_else (wanted_write side.Client w s.standing)
+    (or_else (wanted_write side.Upstream w s.standing)
+    (or_else (wanted_read (most_behind s.standing.to_client) side.Upstream w s)
+    (wanted_read (most_behind s.standing.to_upstream) side.Client w s)))
+
+-- the first of these calls is the one that is wanted, or none was and none is made
+abbrev pub Begins : ℕ → Option Wanted → List HubCall → Type 0
+Begins k None made = made ≡ []
+Begins k (Some (ToWrite x n)) made = (answer : LinkPut) × (more : List HubCall) × (made ≡ Wrote k x n answer ∷ more)
+Begins k (Some (ToRead x n)) made = (answer : LinkGot) × (more : List HubCall) × (made ≡ Read k x n answer ∷ more)
+
+-- ---- on the way
 
 abbrev pub with_write : Side → Waits → Waits
 with_write side.Client w = record w { client_write = true }
@@ -119,23 +177,26 @@ pub record IsMarked (w : Waits) (t : Told) : Type 0 where
   pub writes : (x : Side) → write_waits w x ≡ true → (link_of t x).last_write ≡ Some put.NotReady
   pub reads : (x : Side) → read_waits w x ≡ true → (link_of t x).last_read ≡ Some got.NotReady
 
--- from one moment of a turn to a later one, with so many calls that moved something
-pub record Runs (moved : ℕ) (v w : Waits) (s t : Told) : Type 0 where
+-- from one moment of a turn to a later one, with so many calls that moved something, and this wanted first
+pub record Runs (k : ℕ) (first : Option Wanted) (moved : ℕ) (v w : Waits) (made : List HubCall) (s t : Told) : Type 0 where
+  pub begins : Begins k first made
   pub grows : AllGrow s t
   pub none_failed : NoneFailed s t
   pub amount_is : amount s + moved ≤ amount t
   pub marked : IsMarked v s → IsMarked w t
 
 -- the same up to a call that failed
-pub record Breaks (x : Side) (s t : Told) : Type 0 where
+pub record Breaks (k : ℕ) (first : Option Wanted) (x : Side) (made : List HubCall) (s t : Told) : Type 0 where
+  pub begins : Begins k first made
+  pub last : EndsFailing k x made
   pub grows : AllGrow s t
   pub failed : HasFailed x t
   pub others : OthersAreAsBefore x s t
 
 -- what reads and writes of a turn do
-abbrev pub CallDoes : Result ℕ Side → Waits → Waits → Told → Told → Type 0
-CallDoes (Ok n) v w s t = Runs n v w s t
-CallDoes (Err x) v w s t = Breaks x s t
+abbrev pub CallDoes : ℕ → Option Wanted → Result ℕ Side → Waits → Waits → List HubCall → Told → Told → Type 0
+CallDoes k first (Ok n) v w made s t = Runs k first n v w made s t
+CallDoes k first (Err x) v w made s t = Breaks k first x made s t
 
 -- nothing is due to the side, or it isn't ready; there is no room for it, or it isn't ready
 abbrev pub IsQuiet : ℕ → Standing → Option Outcome → Waits → Type 0

@@ -7,7 +7,8 @@ use Rattle.session_core.specs.Rules.{Rules}
 use Rattle.session_core.specs.declared.outcome.Outcome.{Outcome}
 use Rattle.session_core.specs.declared.outcome.Outcome.TheVariants as outcome
 use Rattle.proxy_server.specs.Turning.{HasFailed}
-use Rattle.proxy_server.specs.Serving.{Setting, Entry, Closing, Stands, IsOutcome, is_over, no_more}
+use Rattle.proxy_server.specs.Serving.{Setting, Entry, Closing, Stands, IsOutcome, is_over, no_more, IsClosedInOrder, ended_numbers}
+use Rattle.proxy_server.specs.Calling.{EndsFailing}
 use Rattle.proxy_server.specs.Spending.{HasSpent}
 use Rattle.proxy_server.specs.Filling.{IsFullWhere}
 
@@ -19,9 +20,10 @@ pub record Tally (begun : Meaning) (set : Setting) (spent count : ℕ) (past : L
   pub few : count ≤ set.sessions
   pub full : (i : ℕ) (c : Closing) → slice_get past i ≡ Some c → IsFullWhere set.sessions (take i past) c m
 
--- and the hub has neither stopped nor failed
+-- those were closed in this order, and the hub has neither stopped nor failed
 pub record IsAtWork (begun : Meaning) (set : Setting) (spent count : ℕ) (past : List Closing) (m : Meaning) : Type 0 where
   pub tally : Tally begun set spent count past m
+  pub order : IsClosedInOrder begun.calls m.calls (ended_numbers past)
   pub going : is_over m.last_event ≡ false
 
 -- at a wait every open session is settled
@@ -33,6 +35,7 @@ pub record Waits (J : Type 0) (rules : J → Rules) (set : Setting) (begun : Mea
 pub record HasWaited (J : Type 0) (rules : J → Rules) (set : Setting) (begun : Meaning) (spent : ℕ) (last : HubNext) (held : List (Entry J)) (past : List Closing) (m : Meaning) : Type 0 where
   pub stands : Stands J rules set no_more held past (length held) 0 m
   pub tally : Tally begun set spent (length held) past m
+  pub order : IsClosedInOrder begun.calls m.calls (ended_numbers past)
   pub last_event : m.last_event ≡ Some last
 
 -- the session at this place is to be turned: it goes on, and no call of it has failed
@@ -51,6 +54,7 @@ IsNamed J rules set begun spent k held past m =
 pub record HasEndedAt (J : Type 0) (rules : J → Rules) (set : Setting) (begun : Meaning) (spent at : ℕ) (o : Outcome) (held : List (Entry J)) (past : List Closing) (m : Meaning) : Type 0 where
   pub stands : Stands J rules set no_more held past at 0 m
   pub why : (e : Entry J) → slice_get held at ≡ Some e → IsOutcome set o (m.session e.number)
+  pub broke : (e : Entry J) (x : Side) → slice_get held at ≡ Some e → o ≡ outcome.LinkFault x → EndsFailing e.number x m.calls
   pub opened : o ≡ outcome.Full → ⊥
   pub work : IsAtWork begun set spent (length held) past m
 

@@ -6,19 +6,17 @@
 //! line for each session as soon as it ends.
 #![tactic(auto)]
 
-mod ending;
 mod judges;
-mod limits;
 mod lines;
-mod moving;
 mod server;
 mod serving;
 mod table;
+mod turn_end;
 mod turning;
 mod waiting;
 
-pub use ending::Turn;
 pub use judges::Judges;
-pub use limits::Limits;
+pub use server::Limits;
 pub use serving::serve;
+pub use turn_end::Turn;
 pub use turning::turn;

@@ -2,12 +2,11 @@
 ghost use Rattle.std.specs.Prelude.{◌≡◌, ◌⊎◌, ◌≤◌, [], IfSome};
 ghost use Rattle.gate_base.specs.Causes.{Rose};
 ghost use Rattle.gate_hub.specs.Hubs.{Later};
-ghost use Rattle.proxy_server.specs.Steps.{AreGood, Serves, setting_of, served_by, first_wrote};
+ghost use Rattle.proxy_server.specs.Steps.{AreGood, Serves, outside, setting_of, served_by, first_wrote};
 
 use crate::judges::Judges;
-use crate::limits::Limits;
 use crate::lines::LINE_ROOM;
-use crate::server::{Attended, Server};
+use crate::server::{End, Limits, Server};
 use gate_hub::{Hub, Served};
 use gate_io::{Out, Sink, Wrote};
 use session_core::Judge;
@@ -17,9 +16,9 @@ use std::alloc::Global;
 ///
 /// The hub was started and `next` was not called. `next` is called only when every open session is settled. A session that
 /// is announced while `limits.sessions` are open is closed as full, one whose memory is not found as having none; each other
-/// one is turned until it is settled or has ended. One line is written for each session as soon as it ends, and at the end
-/// one for each that is still open, by rising number. Nothing is written after a write that failed; where the hub had failed
-/// or the budget was spent before it, the answer stays so.
+/// one is turned until it is settled or has ended. One line is written for each session as soon as it is closed, before the
+/// hub is asked again, and at the end one for each that is still open, by rising number. Nothing is written after a write
+/// that failed; where the hub had failed or the budget was spent before it, the answer stays so.
 ///
 /// `Stopped`, `HubFault`: `next` answered so. `Budget`: its answers that named a session and the turns that ended with `More`
 /// have reached `limits.events`; the last session that was named may be unsettled. `WriteFault`: the output's count rose.
@@ -32,7 +31,8 @@ pub fn serve<J: Judge, P: Judges<J>, H: Hub, O: Sink>(
     output: &mut O,
 ) -> Served
     requires good { AreGood limits (P.longest judges.now) }
-    ensures serves { Serves J J.rules (H.tells hub.old) (H.tells hub.new) (O.written output.old) (O.written output.new) (O.faults output.old) (O.faults output.new) (setting_of (P.rules judges.now) limits) result }
+    ensures serves { let moment = outside H.tells H.counts O.written O.faults in
+        Serves J J.rules (setting_of (P.rules judges.now) limits) (moment hub.old output.old) (moment hub.new output.new) result }
     ensures later { Later (H.counts hub.old) (H.counts hub.new) }
     ensures output_later { O.faults output.old ≤ O.faults output.new }
     ensures hub_fault { result ≡ Served.HubFault → Rose (H.counts hub.old).faults (H.counts hub.new).faults }
@@ -41,22 +41,22 @@ pub fn serve<J: Judge, P: Judges<J>, H: Hub, O: Sink>(
     let Some(mut server) = open_server::<J>(alloc, limits) else {
         return Served::OutOfMemory;
     };
-    let attended = server.attend(alloc, judges, hub, output);
-    let wrote = server.leave(written_so_far(attended), hub, output);
-    served(attended, wrote)
+    let ending = server.attend(alloc, judges, hub, output);
+    let wrote = server.leave(written_so_far(ending), hub, output);
+    served(ending, wrote)
 }
 
 /// A server that holds no session.
 fn open_server<J: Judge>(alloc: Global, limits: Limits) -> Option<Server<J>>
-    ensures { IfSome result (λ s. (s.limits ≡ limits) × (s.held.items ≡ []) × (LINE_ROOM ≤ s.line.room) × (s.spent ≡ 0)) }
+    ensures { IfSome result (λ s. (s.limits ≡ limits) × (s.sessions.items ≡ []) × (LINE_ROOM ≤ s.line.room) × (s.spent ≡ 0)) }
 {
-    let Ok(held) = Vec::with_capacity(alloc, limits.sessions) else {
+    let Ok(sessions) = Vec::with_capacity(alloc, limits.sessions) else {
         return None;
     };
     match Out::open(alloc, LINE_ROOM) {
         Ok(line) => Some(Server {
             limits,
-            held,
+            sessions,
             line,
             spent: 0,
         }),
@@ -65,24 +65,24 @@ fn open_server<J: Judge>(alloc: Global, limits: Limits) -> Option<Server<J>>
 }
 
 /// Whether each line so far was written.
-fn written_so_far(attended: Attended) -> Wrote
-    ensures { result ≡ first_wrote attended }
+fn written_so_far(ending: End) -> Wrote
+    ensures { result ≡ first_wrote ending }
 {
-    match attended {
-        Attended::WriteFault => Wrote::Failed,
-        Attended::Stopped | Attended::HubFault | Attended::Budget(_) => Wrote::All,
+    match ending {
+        End::WriteFault => Wrote::Failed,
+        End::Stopped | End::HubFault | End::Budget(_) => Wrote::All,
     }
 }
 
 /// What is answered: a write that failed is told where nothing else was met before.
-fn served(attended: Attended, wrote: Wrote) -> Served
-    ensures { result ≡ served_by attended wrote }
+fn served(ending: End, wrote: Wrote) -> Served
+    ensures { result ≡ served_by ending wrote }
 {
-    match attended {
-        Attended::HubFault => Served::HubFault,
-        Attended::Budget(_) => Served::Budget,
-        Attended::WriteFault => Served::WriteFault,
-        Attended::Stopped => match wrote {
+    match ending {
+        End::HubFault => Served::HubFault,
+        End::Budget(_) => Served::Budget,
+        End::WriteFault => Served::WriteFault,
+        End::Stopped => match wrote {
             Wrote::All => Served::Stopped,
             Wrote::Failed => Served::WriteFault,
         },

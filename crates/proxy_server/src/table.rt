@@ -8,24 +8,24 @@ ghost use Rattle.proxy_server.specs.Turning.{Goes, TurnDoes, EndsAs};
 ghost use Rattle.proxy_server.specs.Serving.{Entry, IsRising};
 ghost use Rattle.proxy_server.specs.Steps.{AreGood};
 
-use crate::Turn;
 use crate::judges::Judges;
-use crate::limits::Limits;
+use crate::server::Limits;
+use crate::turn_end::Turn;
 use crate::turning::turn;
+use gate_hub::{Hub, Side};
 use gate_base::OutOfMemory;
-use gate_hub::Hub;
 use session_core::{Judge, Outcome, Session};
 use std::alloc::Global;
 use std::marker::Model;
 
 /// A session that was announced and has not ended, with its number at the hub.
 #[derive(Drop)]
-pub struct Open<J: Judge> {
+pub struct OpenSession<J: Judge> {
     number: u64,
     session: Session<J>,
 }
 
-impl<J: Judge> Model for Open<J> {
+impl<J: Judge> Model for OpenSession<J> {
     ghost use Rattle.proxy_server.specs.Serving.{Entry};
 
     ghost Value = { Entry J };
@@ -33,11 +33,11 @@ impl<J: Judge> Model for Open<J> {
     ghost view = { λ o. record { number = o.number; session = o.session } };
 }
 
-impl<J: Judge> Open<J> {
-    pub fn new(number: u64, session: Session<J>) -> Open<J>
+impl<J: Judge> OpenSession<J> {
+    pub fn new(number: u64, session: Session<J>) -> OpenSession<J>
         ensures { result ≡ record { number = number; session = session } }
     {
-        Open { number, session }
+        OpenSession { number, session }
     }
 
     pub fn number(&self) -> u64
@@ -48,11 +48,14 @@ impl<J: Judge> Open<J> {
 
     /// One turn of the session.
     pub fn turn<H: Hub>(&mut self, hub: &mut H) -> Turn
-        ensures turned { Goes (H.tells hub.old) (H.tells hub.new) (Matches J J.rules self.old.session) (Matches J J.rules self.new.session) self.old.number (TurnDoes J J.rules self.new.session result) }
+        ensures turned { Goes (H.tells hub.old) (H.tells hub.new) (Matches J J.rules self.old.session) (Matches J J.rules self.new.session) self.old.number
+            (TurnDoes J J.rules self.old.number self.new.session result) }
         ensures number { self.new.number ≡ self.old.number }
         ensures ending { EndsAs self.new.session.outcome result }
         ensures same { IsSame J self.old.session self.new.session }
         ensures later { Later (H.counts hub.old) (H.counts hub.new) }
+        ensures cause { (side : Side) → result ≡ Turn.Ended (Outcome.LinkFault side) →
+            Rose ((H.counts hub.old).link_faults self.old.number side) ((H.counts hub.new).link_faults self.old.number side) }
     {
         turn(&mut self.session, hub, self.number)
     }
@@ -74,7 +77,7 @@ pub fn open_session<J: Judge, P: Judges<J>>(
 }
 
 /// The place of session `number`.
-pub fn find<J: Judge>(held: &[Open<J>], number: u64) -> Option<usize>
+pub fn find<J: Judge>(held: &[OpenSession<J>], number: u64) -> Option<usize>
     ensures within { IfSome result (λ at. at < length held.now) }
     ensures found { IfSome result (λ at. (e : Entry J) × (slice_get held.now at ≡ Some e) × (e.number ≡ number)) }
     ensures none { result ≡ None → IsRising held.now → (i : ℕ) (e : Entry J) → slice_get held.now i ≡ Some e → e.number ≡ number → ⊥ }

@@ -1,13 +1,14 @@
 //! One turn of a session: rounds of writes and reads, until nothing moves.
-ghost use Rattle.std.specs.Prelude.{◌≡◌, ◌<◌, ◌≤◌, ◌⊎◌, [], length, true, is_some, Some, Ok, IfOk, IfErr};
+ghost use Rattle.std.specs.Prelude.{◌≡◌, ◌<◌, ◌≤◌, ◌⊎◌, [], length, take, true, is_some, None, Some, Ok, IfOk, IfErr};
 ghost use Rattle.gate_base.specs.Causes.{Rose};
 ghost use Rattle.gate_hub.specs.Hubs.{Later};
-ghost use Rattle.session_core.specs.Session.{due_to, room_of};
-ghost use Rattle.proxy_server.specs.Matching.{Matches, IsSame};
-ghost use Rattle.proxy_server.specs.Turning.{Goes, IsQuiet, TurnDoes, CallDoes, EndsAs, KeepsMarks, write_waits, read_waits};
+ghost use Rattle.session_core.specs.Standing.{History};
+ghost use Rattle.session_core.specs.Session.{due_to, room_of, and_sent, and_ended};
+ghost use Rattle.proxy_server.specs.Calling.{piece_length};
+ghost use Rattle.proxy_server.specs.Matching.{Matches, IsSame, and_received};
+ghost use Rattle.proxy_server.specs.Turning.{Goes, IsQuiet, TurnDoes, Begins, CallDoes, EndsAs, KeepsMarks, no_waits, wanted, wanted_write, wanted_read, most_behind, write_waits, read_waits};
 
-use crate::Turn;
-use crate::moving::{finish, give, pass_on};
+use crate::turn_end::Turn;
 use crate::waiting::Waits;
 use gate_hub::{Hub, LinkGot, LinkPut, Side};
 use session_core::{Judge, Outcome, Session};
@@ -25,15 +26,18 @@ const MOST_MOVES: u32 = 16;
 /// One turn of session k, which is open and matches what the hub tells of it.
 ///
 /// It goes in rounds: a write to the client, one to the upstream, a read of the upstream and one of the client, each of
-/// at most 4,096 bytes, a read of at most 3,072 while something is due to the other side. A write is left out where nothing is due, a read where there is no room or the side has ended,
-/// and either once it answered in this turn that it isn't ready. A call that fails ends the turn with
+/// at most 4,096 bytes. A write is left out where nothing is due, a read where there is no room or the side has ended,
+/// and either once it answered in this turn that it isn't ready. A call that fails is the last, and ends the turn with
 /// `Outcome::LinkFault`. It takes no memory.
 pub fn turn<H: Hub, J: Judge>(session: &mut Session<J>, hub: &mut H, k: u64) -> Turn
-    ensures turned { Goes (H.tells hub.old) (H.tells hub.new) (Matches J J.rules session.old) (Matches J J.rules session.new) k (TurnDoes J J.rules session.new result) }
+    ensures turned { Goes (H.tells hub.old) (H.tells hub.new) (Matches J J.rules session.old) (Matches J J.rules session.new) k
+        (λ made s t. (session.old.outcome ≡ None → Begins k (wanted no_waits session.old) made) ×
+        TurnDoes J J.rules k session.new result made s t) }
     ensures ending { EndsAs session.new.outcome result }
     ensures same { IsSame J session.old session.new }
     ensures later { Later (H.counts hub.old) (H.counts hub.new) }
-    ensures cause { (side : Side) → result ≡ Turn.Ended (Outcome.LinkFault side) → (session.new.outcome ≡ Some (Outcome.LinkFault side)) ⊎ Rose ((H.counts hub.old).link_faults k side) ((H.counts hub.new).link_faults k side) }
+    ensures cause { (side : Side) → result ≡ Turn.Ended (Outcome.LinkFault side) →
+        Rose ((H.counts hub.old).link_faults k side) ((H.counts hub.new).link_faults k side) }
 {
     let mut waits = Waits {
         client_write: false,
@@ -67,34 +71,35 @@ fn round<H: Hub, J: Judge>(
     waits: &mut Waits,
     piece: &mut [u8],
 ) -> Result<u32, Side>
-    requires { 0 < length piece.old }
-    ensures goes { Goes (H.tells hub.old) (H.tells hub.new) (Matches J J.rules session.old) (Matches J J.rules session.new) k (CallDoes result waits.old waits.new) }
+    requires { length piece.old ≡ piece_length }
+    ensures goes { Goes (H.tells hub.old) (H.tells hub.new) (Matches J J.rules session.old) (Matches J J.rules session.new) k
+        (CallDoes k (wanted waits.old session.old) result waits.old waits.new) }
+    ensures idle { wanted waits.old session.old ≡ None → (session.new ≡ session.old) × (waits.new ≡ waits.old) }
     ensures same { IsSame J session.old session.new }
     ensures later { Later (H.counts hub.old) (H.counts hub.new) }
     ensures cause { IfErr result (λ x. Rose ((H.counts hub.old).link_faults k x) ((H.counts hub.new).link_faults k x)) }
-    ensures quiet { result ≡ Ok 0 → (session.new ≡ session.old) × IsQuiet session.new.limit session.new.standing session.new.outcome waits.new }
+    ensures quiet { result ≡ Ok 0 →
+        (session.new ≡ session.old) × IsQuiet session.new.limit session.new.standing session.new.outcome waits.new }
     ensures few { IfOk result (λ n. n ≤ 4) }
     ensures piece { length piece.new ≡ length piece.old }
 {
     let written = write(session, hub, k, Side::Client, waits)?;
     let passed_on = write(session, hub, k, Side::Upstream, waits)?;
-    let most = most_behind(session.due(Side::Client), piece.len());
+    let most = most_read(session.due(Side::Client));
     let answered = read(session, hub, k, Side::Upstream, waits, &mut piece[..most])?;
-    let most = most_behind(session.due(Side::Upstream), piece.len());
+    let most = most_read(session.due(Side::Upstream));
     let taken = read(session, hub, k, Side::Client, waits, &mut piece[..most])?;
     Ok(written + passed_on + answered + taken)
 }
 
-/// How many bytes a call may read, where these are due to the other side.
-fn most_behind(due: &[u8], room: usize) -> usize
-    requires { 0 < room }
-    ensures some { 0 < result }
-    ensures within { result ≤ room }
+/// How many bytes a call may read of a side, where these are due to the other.
+fn most_read(due_to_other: &[u8]) -> usize
+    ensures { result ≡ most_behind due_to_other.now }
 {
-    if due.is_empty() {
-        room
+    if due_to_other.is_empty() {
+        PIECE
     } else {
-        room.min(PIECE_BEHIND)
+        PIECE_BEHIND
     }
 }
 
@@ -106,11 +111,14 @@ fn write<H: Hub, J: Judge>(
     side: Side,
     waits: &mut Waits,
 ) -> Result<u32, Side>
-    ensures goes { Goes (H.tells hub.old) (H.tells hub.new) (Matches J J.rules session.old) (Matches J J.rules session.new) k (CallDoes result waits.old waits.new) }
+    ensures goes { Goes (H.tells hub.old) (H.tells hub.new) (Matches J J.rules session.old) (Matches J J.rules session.new) k
+        (CallDoes k (wanted_write side waits.old session.old.standing) result waits.old waits.new) }
+    ensures idle { wanted_write side waits.old session.old.standing ≡ None → (session.new ≡ session.old) × (waits.new ≡ waits.old) }
     ensures same { IsSame J session.old session.new }
     ensures later { Later (H.counts hub.old) (H.counts hub.new) }
     ensures cause { IfErr result (λ x. Rose ((H.counts hub.old).link_faults k x) ((H.counts hub.new).link_faults k x)) }
-    ensures quiet { result ≡ Ok 0 → (session.new ≡ session.old) × ((due_to side session.new.standing ≡ []) ⊎ (write_waits waits.new side ≡ true)) }
+    ensures quiet { result ≡ Ok 0 →
+        (session.new ≡ session.old) × ((due_to side session.new.standing ≡ []) ⊎ (write_waits waits.new side ≡ true)) }
     ensures marks { KeepsMarks waits.old waits.new }
     ensures few { IfOk result (λ n. n ≤ 1) }
 {
@@ -141,12 +149,17 @@ fn read<H: Hub, J: Judge>(
     waits: &mut Waits,
     piece: &mut [u8],
 ) -> Result<u32, Side>
-    requires { 0 < length piece.old }
-    ensures goes { Goes (H.tells hub.old) (H.tells hub.new) (Matches J J.rules session.old) (Matches J J.rules session.new) k (CallDoes result waits.old waits.new) }
+    requires some { 0 < length piece.old }
+    requires few { length piece.old ≤ piece_length }
+    ensures goes { Goes (H.tells hub.old) (H.tells hub.new) (Matches J J.rules session.old) (Matches J J.rules session.new) k
+        (CallDoes k (wanted_read (length piece.old) side waits.old session.old) result waits.old waits.new) }
+    ensures idle { wanted_read (length piece.old) side waits.old session.old ≡ None →
+        (session.new ≡ session.old) × (waits.new ≡ waits.old) }
     ensures same { IsSame J session.old session.new }
     ensures later { Later (H.counts hub.old) (H.counts hub.new) }
     ensures cause { IfErr result (λ x. Rose ((H.counts hub.old).link_faults k x) ((H.counts hub.new).link_faults k x)) }
-    ensures quiet { result ≡ Ok 0 → (session.new ≡ session.old) × ((room_of session.new.limit session.new.standing (is_some session.new.outcome) side ≡ 0) ⊎ (read_waits waits.new side ≡ true)) }
+    ensures quiet { result ≡ Ok 0 →
+        (session.new ≡ session.old) × ((room_of session.new.limit session.new.standing (is_some session.new.outcome) side ≡ 0) ⊎ (read_waits waits.new side ≡ true)) }
     ensures marks { KeepsMarks waits.old waits.new }
     ensures few { IfOk result (λ n. n ≤ 1) }
     ensures piece { length piece.new ≡ length piece.old }
@@ -170,4 +183,34 @@ fn read<H: Hub, J: Judge>(
         }
         LinkGot::Failed => Err(side),
     }
+}
+
+/// Gives the session bytes of a side that it has room for.
+fn give<J: Judge>(session: &mut Session<J>, side: Side, bytes: &[u8])
+    requires room { length bytes.now ≤ room_of session.old.limit session.old.standing (is_some session.old.outcome) side }
+    ensures matches { (h : History) → Matches J J.rules session.old h → Matches J J.rules session.new (and_received side h bytes.now) }
+    ensures same { IsSame J session.old session.new }
+{
+    match side {
+        Side::Client => session.take_client(bytes),
+        Side::Upstream => session.take_upstream(bytes),
+    };
+}
+
+/// So many bytes that were due to a side were sent to it.
+fn pass_on<J: Judge>(session: &mut Session<J>, side: Side, count: usize)
+    requires due { count ≤ length (due_to side session.old.standing) }
+    ensures matches { (h : History) → Matches J J.rules session.old h →
+        Matches J J.rules session.new (and_sent side h (take count (due_to side session.old.standing))) }
+    ensures same { IsSame J session.old session.new }
+{
+    session.sent(side, count);
+}
+
+/// A side has ended.
+fn finish<J: Judge>(session: &mut Session<J>, side: Side)
+    ensures matches { (h : History) → Matches J J.rules session.old h → Matches J J.rules session.new (and_ended side h) }
+    ensures same { IsSame J session.old session.new }
+{
+    session.end(side);
 }

@@ -1,15 +1,15 @@
 //! One session, as the server above drives it.
-ghost use Rattle.std.specs.Prelude.{◌≡◌, ◌+◌, ◌*◌, ◌-◌, ◌^◌, ◌<◌, ◌≤◌, [], ◌++◌, length, take, ℕ, List, Option, IfOk, true, false, None, is_some};
+ghost use Rattle.std.specs.Prelude.{◌≡◌, ◌+◌, ◌*◌, ◌-◌, ◌^◌, ◌<◌, ◌≤◌, [], ◌++◌, length, take, ℕ, List, Option, IfOk, IfSome, true, false, None, is_some};
 ghost use Rattle.session_core.specs.Standing.{Standing, History, begun, nothing};
 ghost use Rattle.session_core.specs.Fits.{Fits};
-ghost use Rattle.session_core.specs.Ends.{IsAtRest, TakesNoMore, held_of};
+ghost use Rattle.session_core.specs.Ends.{IsAtRest, TakesNoMore, held_of, is_own};
 ghost use Rattle.session_core.specs.Session.{Seen, due_to, and_sent, and_ended, room_of};
 
 use crate::judge::Judge;
 use crate::outcome::Outcome;
 use crate::state::State;
-use gate_base::OutOfMemory;
 use gate_hub::Side;
+use gate_base::OutOfMemory;
 use std::alloc::Global;
 use std::marker::Model;
 
@@ -145,9 +145,10 @@ impl<J: Judge> Session<J> {
         }
     }
 
-    /// How the session ended, where it has.
+    /// How the session ended, where it has. `LinkFault`, `Full` and `NoMemory` are told by the server alone.
     pub fn outcome(&self) -> Option<Outcome>
-        ensures { result ≡ self.now.outcome }
+        ensures told { result ≡ self.now.outcome }
+        ensures own { IfSome result (λ outcome. is_own outcome ≡ true) }
     {
         self.state.outcome
     }

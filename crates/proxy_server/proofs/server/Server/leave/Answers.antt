@@ -17,7 +17,7 @@ leaving-init g c = record {
   within = omega arith;
   lines = λ all. subst (λ w. Writes w (g.O.Sink.written c.args.output.now) (g.O.Sink.written c.args.output.now) []) (sym all) (appends_none _);
   none = λ f. (f, refl);
-  keeps = λ set begun spent past busy last m tells s. (m, tells, s);
+  keeps = λ set begun spent past busy last calls m tells s. (m, tells, s);
   later = later_not _;
   output_later = omega arith;
   cause = λ f. inl f;
@@ -29,12 +29,12 @@ leaving-preserved g c =
     let written = g.O.Sink.written in
     let rules = g.J.Judge.rules in
     let i = c.leaving.invariant in
-    let held = c.args.self.now.held.items in
+    let held = c.args.self.now.sessions.items in
     let at = c.leaving.at in
     let same = ap (λ v. v.items) i.kept in
-    let all : c.len.result ≡ length c.leaving.self.held.items = search rules in
-    let within : at < length c.leaving.self.held.items = omega (arith, c.leaving-test.true, all) in
-    let e = get_some c.leaving.self.held.items at within in
+    let all : c.len.result ≡ length c.leaving.self.sessions.items = search rules in
+    let within : at < length c.leaving.self.sessions.items = omega (arith, c.leaving-test.true, all) in
+    let e = get_some c.leaving.self.sessions.items at within in
     let next : suc at ≡ at + 1 = omega arith in
     record {
       kept = c.leave_at-wrote.ensures.same.0 ∙ i.kept;
@@ -47,8 +47,8 @@ leaving-preserved g c =
           let n = i.none f in
           let l = c.leave_at-wrote.ensures.none n.0 in
           (l.0, l.1 ∙ n.1);
-      keeps = λ set begun spent past busy last. keeps_then (tells c.args.hub.now) (tells c.leaving.hub) (tells c.leave_at-wrote.new.hub) (Leaves _ rules set begun spent held past busy last 0) (Leaves _ rules set begun spent held past busy last at) (Leaves _ rules set begun spent held past busy last (at + 1)) (i.keeps set begun spent past busy last)
-          (subst (λ xs. Keeps (tells c.leaving.hub) (tells c.leave_at-wrote.new.hub) (Leaves _ rules set begun spent xs past busy last at) (Leaves _ rules set begun spent xs past busy last (at + 1))) same (c.leave_at-wrote.ensures.keeps set begun spent past busy last));
+      keeps = λ set begun spent past busy last calls. keeps_then (tells c.args.hub.now) (tells c.leaving.hub) (tells c.leave_at-wrote.new.hub) (Leaves _ rules set begun spent held past busy last calls 0) (Leaves _ rules set begun spent held past busy last calls at) (Leaves _ rules set begun spent held past busy last calls (at + 1)) (i.keeps set begun spent past busy last calls)
+          (subst (λ xs. Keeps (tells c.leaving.hub) (tells c.leave_at-wrote.new.hub) (Leaves _ rules set begun spent xs past busy last calls at) (Leaves _ rules set begun spent xs past busy last calls (at + 1))) same (c.leave_at-wrote.ensures.keeps set begun spent past busy last calls));
       later = later_on _ _ _ i.later c.leave_at-wrote.ensures.later;
       output_later = omega (arith, i.output_later, c.leave_at-wrote.ensures.output_later);
       cause = λ f. cause_on (c.args.first ≡ wrote.Failed) (c.leaving.wrote ≡ wrote.Failed) _ _ _ i.cause i.output_later c.leave_at-wrote.ensures.output_later (c.leave_at-wrote.ensures.cause f);
@@ -58,9 +58,9 @@ pub returns-clause-lines : goal.returns-clause-lines
 returns-clause-lines g c =
     let written = g.O.Sink.written in
     let i = c.leaving.invariant in
-    let held = c.args.self.now.held.items in
-    let whole : c.len.result ≡ length c.leaving.self.held.items = search rules in
-    let past : length c.leaving.self.held.items ≤ c.leaving.at = omega (arith, c.leaving-test.false, whole) in
+    let held = c.args.self.now.sessions.items in
+    let whole : c.len.result ≡ length c.leaving.self.sessions.items = search rules in
+    let past : length c.leaving.self.sessions.items ≤ c.leaving.at = omega (arith, c.leaving-test.false, whole) in
     λ all. subst (λ xs. Writes c.leaving.wrote (written c.args.output.now) (written c.leaving.output) (left_lines xs)) (take_all c.leaving.at held (omega (arith, past, ap (λ v. length v.items) i.kept))) (i.lines all)
 
 pub returns-clause-keeps : goal.returns-clause-keeps
@@ -68,8 +68,8 @@ returns-clause-keeps g c =
     let tells = g.H.Hub.tells in
     let rules = g.J.Judge.rules in
     let i = c.leaving.invariant in
-    let held = c.args.self.now.held.items in
-    let whole : c.len.result ≡ length c.leaving.self.held.items = search rules in
-    let past : length c.leaving.self.held.items ≤ c.leaving.at = omega (arith, c.leaving-test.false, whole) in
+    let held = c.args.self.now.sessions.items in
+    let whole : c.len.result ≡ length c.leaving.self.sessions.items = search rules in
+    let past : length c.leaving.self.sessions.items ≤ c.leaving.at = omega (arith, c.leaving-test.false, whole) in
     let end : c.leaving.at ≡ length held = omega (arith, past, i.within, ap (λ v. length v.items) i.kept) in
-    λ set begun spent past busy last. subst (λ k. Keeps (tells c.args.hub.now) (tells c.leaving.hub) (Leaves _ rules set begun spent held past busy last 0) (Leaves _ rules set begun spent held past busy last k)) end (i.keeps set begun spent past busy last)
+    λ set begun spent past busy last calls. subst (λ k. Keeps (tells c.args.hub.now) (tells c.leaving.hub) (Leaves _ rules set begun spent held past busy last calls 0) (Leaves _ rules set begun spent held past busy last calls k)) end (i.keeps set begun spent past busy last calls)

@@ -1,6 +1,6 @@
 use Rattle.std.proofs.Common.{◌≡◌, ℕ, List, Option, ◌-◌, ◌≤◌, ◌⊎◌, length, take}
 use Rattle.gate_base.specs.Causes.{Rose}
-use Rattle.gate_hub.specs.Meaning.{Meaning}
+use Rattle.gate_hub.specs.Meaning.{HubCall, Meaning}
 use Rattle.gate_hub.specs.Hubs.{Later}
 use Rattle.gate_hub.specs.declared.hub.HubNext.{HubNext}
 use Rattle.gate_io.specs.declared.writing.Wrote.TheVariants as wrote
@@ -14,18 +14,18 @@ invariant-leaving g l =
     let hub = g.H.Hub in
     let sink = g.O.Sink in
     let rules = g.J.Judge.rules in
-    let held = l.fn.self.held.items in
+    let held = l.fn.self.sessions.items in
     record {
-      kept : l.self.held ≡ l.fn.self.held;
+      kept : l.self.sessions ≡ l.fn.self.sessions;
       room : l.self.line.room ≡ l.fn.self.line.room;
       within : l.at ≤ length held;
       lines : l.fn.first ≡ wrote.All → Writes l.wrote (sink.written l.fn.output) (sink.written l.output) (left_lines (take l.at held));
       none : l.fn.first ≡ wrote.Failed → (l.wrote ≡ wrote.Failed) × (l.output ≡ l.fn.output);
-      keeps : (set : Setting) (begun : Meaning) (spent : ℕ) (past : List Closing) (busy : ℕ) (last : Option HubNext) → Keeps (hub.tells l.fn.hub) (hub.tells l.hub) (Leaves _ rules set begun spent held past busy last 0) (Leaves _ rules set begun spent held past busy last l.at);
+      keeps : (set : Setting) (begun : Meaning) (spent : ℕ) (past : List Closing) (busy : ℕ) (last : Option HubNext) (calls : List HubCall) → Keeps (hub.tells l.fn.hub) (hub.tells l.hub) (Leaves _ rules set begun spent held past busy last calls 0) (Leaves _ rules set begun spent held past busy last calls l.at);
       later : Later (hub.counts l.fn.hub) (hub.counts l.hub);
       output_later : sink.faults l.fn.output ≤ sink.faults l.output;
       cause : l.wrote ≡ wrote.Failed → (l.fn.first ≡ wrote.Failed) ⊎ Rose (sink.faults l.fn.output) (sink.faults l.output);
     }
 
 abbrev pub decreases-leaving : goal.decreases-leaving
-decreases-leaving g l = length l.self.held.items - l.at
+decreases-leaving g l = length l.self.sessions.items - l.at

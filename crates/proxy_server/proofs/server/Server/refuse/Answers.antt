@@ -1,17 +1,27 @@
-use Rattle.std.proofs.Common.{◌≡◌, ◌⊎◌, ◌<◌, ◌≤◌, ◌∷◌, [], length, refl, subst, sym, List, ℕ}
+use Rattle.std.proofs.Common.{◌∷◌, [], length, refl, subst, sym, ℕ}
 use Rattle.session_core.specs.declared.outcome.Outcome.TheVariants as outcome
-use Rattle.proxy_server.specs.Steps.{WentWrites}
-use Rattle.proxy_server.proofs.Calls.{refused, went_writes, one_line}
+use Rattle.proxy_server.specs.Steps.{IsRefusedAs}
+use Rattle.proxy_server.proofs.Ordering.{counted_one}
+use Rattle.proxy_server.proofs.Calls.{refused, refused_alone, line_writes, line_ends, write_fault_by}
 use Rattle.proxy_server.proofs.server.Server.refuse.Goals as goal
+
+pub returns-clause-ends : goal.returns-clause-ends
+returns-clause-ends g c = line_ends c.tell.result c.after_line.result _ _ c.after_line.ensures.all c.after_line.ensures.failed
+
+pub returns-clause-cause : goal.returns-clause-cause
+returns-clause-cause g c = write_fault_by c.tell.result c.after_line.result _ _ c.after_line.ensures.all c.tell.ensures.cause
 
 pub returns-clause-goes : goal.returns-clause-goes
 returns-clause-goes g c =
     let k = c.args.number in
     let o = c.args.outcome in
-    let held = c.args.self.now.held.items in
-    λ set same. (
-      (k, o) ∷ [],
-      subst (λ (xs : List ℕ). WentWrites c.after_line.result (g.O.Sink.written c.args.output.now) (g.O.Sink.written c.tell.new.output) xs) (sym (one_line k o)) (went_writes c.tell.result c.after_line.result _ _ _ c.after_line.ensures.all c.after_line.ensures.failed c.tell.ensures.line),
-      (λ begun ended. refused _ g.J.Judge.rules set begun c.args.self.now.spent held held ended k o c.tell.result c.after_line.result _ _ c.after_line.ensures.all c.after_line.ensures.failed
-          (subst (λ (n : ℕ). ((o ≡ outcome.Full) × (n ≤ length held)) ⊎ ((o ≡ outcome.NoMemory) × (length held < n))) (sym same) c.requires.outcome) refl c.close.ensures.leads),
-    )
+    let held = c.args.self.now.sessions.items in
+    let counts = g.H.Hub.counts in
+    λ set same.
+    let why = subst (λ (n : ℕ). IsRefusedAs o (length held) n) (sym same) c.requires.outcome in
+    record {
+      more = (k, o) ∷ [];
+      writes = line_writes c.tell.result c.after_line.result k o _ _ c.after_line.ensures.all c.after_line.ensures.failed c.tell.ensures.line;
+      counted = counted_one (counts c.args.hub.now) (counts c.close.new.self) k o (λ x is. absurd (refused_alone (length held) set.sessions o x why is));
+      keeps = λ begun past. refused _ g.J.Judge.rules set begun c.args.self.now.spent held past k o c.tell.result c.after_line.result _ _ c.after_line.ensures.all c.after_line.ensures.failed why c.close.ensures.leads;
+    }

@@ -13,11 +13,11 @@ invariant-turns g l =
     record {
       limits : l.self.limits ≡ l.fn.self.limits;
       room : l.self.line.room ≡ l.fn.self.line.room;
-      within : l.fn.at < length l.self.held.items;
+      within : l.fn.at < length l.self.sessions.items;
       output : l.output ≡ l.fn.output;
       spent : l.fn.self.spent ≤ l.self.spent;
       budget : l.self.spent ≤ l.fn.self.limits.events;
-      keeps : (set : Setting) (begun : Meaning) (past : List Closing) → Keeps (hub.tells l.fn.hub) (hub.tells l.hub) (IsBusy _ rules set begun l.fn.self.spent l.fn.at l.fn.self.held.items past) (IsBusy _ rules set begun l.self.spent l.fn.at l.self.held.items past);
+      keeps : (set : Setting) (begun : Meaning) (past : List Closing) → Keeps (hub.tells l.fn.hub) (hub.tells l.hub) (IsBusy _ rules set begun l.fn.self.spent l.fn.at l.fn.self.sessions.items past) (IsBusy _ rules set begun l.self.spent l.fn.at l.self.sessions.items past);
       later : Later (hub.counts l.fn.hub) (hub.counts l.hub);
     }
 
