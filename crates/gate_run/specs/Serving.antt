@@ -16,7 +16,7 @@ use Rattle.session_core.specs.Session.{Seen}
 use Rattle.session_core.specs.declared.outcome.Outcome.{Outcome}
 use Rattle.proxy_server.specs.Serving.{IsHeld, HasClosed, is_over, Setting as Sessions}
 use Rattle.proxy_server.specs.Turning.{IsSettled}
-use Rattle.proxy_server.specs.Steps.{Serves}
+use Rattle.proxy_server.specs.Steps.{Outside, Serves}
 use Rattle.gate_words.specs.declared.serving.Serving.{Serving}
 use Rattle.gate_io.specs.Fronts.{AppendsFront}
 use Rattle.gate_run.specs.Outcome.{Streams}
@@ -47,11 +47,15 @@ EndsBy served.WriteFault before now a b code = (code ≡ 5) × (b.reported ≡ a
 EndsBy served.Budget before now a b code = (code ≡ 8) × Reports (codes "budget spent\n") a b
 EndsBy served.OutOfMemory before now a b code = (code ≡ 9) × Reports (codes "no memory\n") a b
 
+-- what a server finds, or leaves: what the hub tells and its counts, and the output
+abbrev pub served_from : (Meaning → Type 0) → Counts → Streams → Outside
+served_from told counts x = record { told = told; counts = counts; written = x.written; faults = x.output_faults }
+
 -- the hub was started with what the words say, and from there it and the output are as a server of this setting leaves
 -- them; or it could not be started, and nothing was written
 pub data ServesAll {H : Type 0} (tells : H → Meaning → Type 0) (counts : H → Counts) (s : Serving) (d : Declarations) (service : Option ServiceId) (h h' : H) (a b : Streams) (code : ℕ) : Type 0 where
   Began : (mid : H) (result : Served) → b.left ≡ a.left → Later (counts h) (counts mid) → Leads (tells h) (tells mid) NotStarted (StartLeads (started_by s) began.Done)
-      → Serves Setting rules_of (tells mid) (tells h') a.written b.written a.output_faults b.output_faults (settings s d service) result
+      → Serves Setting rules_of (settings s d service) (served_from (tells mid) (counts mid) a) (served_from (tells h') (counts h') b) result
       → EndsBy result (counts mid).faults (counts h').faults a b code → ServesAll tells counts s d service h h' a b code
   NotBegun : Leads (tells h) (tells h') NotStarted (StartLeads (started_by s) began.Failed) → Rose (counts h).faults (counts h').faults → SaysLast (codes "hub fault\n") 7 a b code
       → ServesAll tells counts s d service h h' a b code
