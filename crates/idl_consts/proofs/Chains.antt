@@ -2,7 +2,7 @@
 use Rattle.std.proofs.Common.{◌≡◌, ◌∙◌, refl, ap, sym, arith, ℕ, List, [], ◌∷◌, ◌++◌, map, length, Option, Some, None, true, false, ◌<◌, ◌+◌, drop, drop-cons, get_or, add-one}
 use Rattle.std.specs.Prelude.{is_some}
 use Rattle.std.proofs.lemmas.Grind.{common_steps}
-use Rattle.idl_parser.specs.Item.{ValueItem}
+use Rattle.idl_document.specs.Item.{ValueItem}
 use Rattle.idl_names.specs.Files.{FileTree}
 use Rattle.idl_consts.specs.declared.pieces.Piece.{Piece}
 use Rattle.idl_consts.specs.declared.row.ConstRow.{ConstRow}

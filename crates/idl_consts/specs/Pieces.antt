@@ -1,6 +1,6 @@
 -- What the code holds of a value and of its course.
 use Rattle.std.specs.Prelude.{ℕ, List, [], ◌∷◌, map, reverse, Option, Some, None, Result, Ok, Err, ◌≡◌}
-use Rattle.idl_parser.specs.Item.{ValueItem, whole, double, literal, named, list_begin, list_end, map_begin, map_end}
+use Rattle.idl_document.specs.Item.{ValueItem, whole, double, literal, named, list_begin, list_end, map_begin, map_end}
 use Rattle.idl_names.specs.Files.{FileTree}
 use Rattle.idl_consts.specs.declared.pieces.Piece.{Piece}
 use Rattle.idl_consts.specs.declared.pieces.Piece.TheVariants as pieces

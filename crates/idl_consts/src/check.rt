@@ -1,9 +1,7 @@
 //! The values of all files, each judged against its type.
 ghost use Rattle.std.specs.Prelude.{◌≡◌, ◌<◌, ◌^◌, IfOk, length, option_map, option_copied, Option};
-ghost use Rattle.idl_parser.specs.Declarations.{definition_tree, definition_trees, function_trees};
-ghost use Rattle.idl_parser.specs.Fields.{field_trees};
-ghost use Rattle.idl_parser.specs.Items.{items_of_value};
-ghost use Rattle.idl_parser.specs.Trees.{type_tree};
+ghost use Rattle.idl_document.specs.Trees.{definition_tree, definition_trees, function_trees, field_trees, type_tree};
+ghost use Rattle.idl_document.specs.Items.{items_of_value};
 ghost use Rattle.idl_names.specs.Files.{file_trees};
 ghost use Rattle.idl_consts.specs.Course.{course};
 ghost use Rattle.idl_consts.specs.Following.{IsFirst};
@@ -19,9 +17,9 @@ use crate::row::{ConstError, ConstFault, ConstRow};
 use crate::survey::{Stand, survey_value};
 use crate::types::TypeRef;
 use crate::view::View;
-use gate_io::{OutOfMemory, Text};
+use gate_base::{OutOfMemory, Text};
 use idl_names::{Documents, FileDoc, Names};
-use idl_parser::{Definition, FieldDecl, Function, TypeExpr, ValueExpr};
+use idl_document::{Definition, FieldDecl, Function, TypeExpr, ValueExpr};
 use std::alloc::Global;
 
 /// An offset in a file in bytes, and why the value there is refused.

@@ -12,7 +12,7 @@ use crate::row::ConstRow;
 use crate::types::Shape;
 use crate::view::View;
 use idl_names::{Scope, Spot};
-use idl_parser::BaseWord;
+use idl_document::BaseWord;
 
 /// Whether a value fits, is refused, or is a name that stands for a constant's value.
 #[derive(Clone, Copy, Debug, PartialEq, Eq)]

@@ -1,11 +1,11 @@
 //! The pieces of a value one after another.
 ghost use Rattle.std.specs.Prelude.{◌≡◌, ◌++◌, OnOk, map};
-ghost use Rattle.idl_parser.specs.Items.{items_of_value, items_of_values, items_of_pairs};
+ghost use Rattle.idl_document.specs.Items.{items_of_value, items_of_values, items_of_pairs};
 ghost use Rattle.idl_consts.specs.declared.pieces.Piece.{Piece};
 ghost use Rattle.idl_consts.specs.Pieces.{item_of};
 
-use gate_io::OutOfMemory;
-use idl_parser::{Pair, ValueExpr, ValueForm};
+use gate_base::OutOfMemory;
+use idl_document::{Pair, ValueExpr, ValueForm};
 
 /// One piece of a value with the offset of its first byte. The pieces of a list are those of its values, the pieces of a
 /// map those of each key and its value in turn.

@@ -1,6 +1,6 @@
 //! The survey of one value: the names in it that stand for constants, up to the first thing that is refused.
 ghost use Rattle.std.specs.Prelude.{◌≡◌, List, IfOk, [], ◌∷◌};
-ghost use Rattle.idl_parser.specs.Items.{items_of_value};
+ghost use Rattle.idl_document.specs.Items.{items_of_value};
 ghost use Rattle.idl_names.specs.Files.{FileTree};
 ghost use Rattle.idl_consts.specs.Course.{Context, answered, opened_list, opened_map, value_move, key_move, inner_move, item_move, offset_of, course};
 ghost use Rattle.idl_consts.specs.Meant.{meant_at, meant_by};
@@ -13,9 +13,9 @@ use crate::pieces::{Piece, append_pieces};
 use crate::row::ConstRow;
 use crate::types::{Shape, TypeRef, resolve};
 use crate::view::View;
-use gate_io::OutOfMemory;
+use gate_base::OutOfMemory;
 use idl_names::Spot;
-use idl_parser::ValueExpr;
+use idl_document::ValueExpr;
 use std::alloc::Global;
 
 /// A name that stands for a constant where a value of a type is asked for.

@@ -1,14 +1,13 @@
 //! What a written type means, one step at a time.
 ghost use Rattle.std.specs.Prelude.{◌≡◌, ◌+◌, List, option_copied, option_map};
-ghost use Rattle.idl_parser.specs.Declarations.{definition_tree};
-ghost use Rattle.idl_parser.specs.Trees.{type_tree};
+ghost use Rattle.idl_document.specs.Trees.{definition_tree, type_tree};
 ghost use Rattle.idl_names.specs.Files.{FileTree};
 ghost use Rattle.idl_consts.specs.Meant.{definition_of, type_by, named_type, meant_at, meant_by, meant_next, left_below, defined_type};
 ghost use Rattle.idl_consts.specs.Views.{files_of};
 
 use crate::view::View;
 use idl_names::{Scope, Spot};
-use idl_parser::{BaseWord, Definition, TypeExpr, TypeForm};
+use idl_document::{BaseWord, Definition, TypeExpr, TypeForm};
 
 /// A type, the place of the file in which it is written, and how many typedefs may be followed.
 #[derive(Clone, Copy)]

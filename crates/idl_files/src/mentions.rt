@@ -3,8 +3,8 @@ ghost use Rattle.std.specs.Prelude.{◌≡◌, map, IfOk};
 ghost use Rattle.idl_files.specs.Walk.{mention_of};
 
 use crate::names::included_name;
-use gate_io::{OutOfMemory, Text};
-use idl_parser::Name;
+use gate_base::{OutOfMemory, Text};
+use idl_document::Name;
 use std::alloc::Global;
 
 /// An include: the offset of its path, and the name of the file that it means.

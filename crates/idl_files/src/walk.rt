@@ -1,6 +1,7 @@
 //! The walk over files, depth first.
 ghost use Rattle.std.specs.Prelude.{◌≡◌, ◌<◌, ◌≤◌, ◌^◌, ◌∷◌, ◌-◌, ℕ, [], List, Option, Some, None, length, map, IfOk, OnOk, true, false};
-ghost use Rattle.idl_parser.specs.Documents.{document_tree, parsed};
+ghost use Rattle.idl_parser.specs.Documents.{parsed};
+ghost use Rattle.idl_document.specs.Trees.{document_tree};
 ghost use Rattle.idl_names.specs.Files.{file_trees};
 ghost use Rattle.idl_names.specs.Meaning.{HasFewDefinitions};
 ghost use Rattle.idl_files.specs.Answers.{AllBelow, AllWhole, Extends, Gives, HasCause, IsNoFileFault};
@@ -10,9 +11,11 @@ ghost use Rattle.idl_files.specs.Walk.{document_by, document_of, included, is_fu
 use crate::fault::{LoadError, refused};
 use crate::list::{FileList, MOST_FILES};
 use crate::mentions::{Mention, mentions};
-use gate_io::{Fetched, Files, Text};
+use gate_base::Text;
+use gate_io::{Fetched, Files};
 use idl_names::Documents;
-use idl_parser::{Document, ParseError, Seq, parse};
+use idl_document::{Document, Seq};
+use idl_parser::{ParseError, parse};
 use idl_rules::IdlRow;
 use std::alloc::Global;
 

@@ -1,7 +1,6 @@
 //! What definitions lead to.
 ghost use Rattle.std.specs.Prelude.{◌≡◌, [], IfOk, OnOk};
-ghost use Rattle.idl_parser.specs.Declarations.{definition_tree};
-ghost use Rattle.idl_parser.specs.Trees.{type_tree};
+ghost use Rattle.idl_document.specs.Trees.{definition_tree, type_tree};
 ghost use Rattle.idl_names.specs.Cycles.{IsReached, base_spots, definition_spots, next_spots, type_spots};
 ghost use Rattle.idl_names.specs.Files.{file_trees};
 ghost use Rattle.idl_names.specs.Marks.{IsBeyond, fresh_spots};
@@ -12,8 +11,8 @@ use crate::marks::Marks;
 use crate::names::Names;
 use crate::spot_set::SpotSet;
 use crate::targets::definition_at;
-use gate_io::OutOfMemory;
-use idl_parser::{Definition, Name, TypeExpr, TypeForm};
+use gate_base::OutOfMemory;
+use idl_document::{Definition, Name, TypeExpr, TypeForm};
 use idl_rules::Scope;
 use std::alloc::Global;
 

@@ -1,6 +1,6 @@
 //! The files of an IDL with an index of their names.
 ghost use Rattle.std.specs.Prelude.{◌≡◌, ◌+◌, ◌<◌, ◌^◌, length, IfOk};
-ghost use Rattle.idl_parser.specs.Declarations.{definition_tree};
+ghost use Rattle.idl_document.specs.Trees.{definition_tree};
 ghost use Rattle.idl_names.specs.Files.{file_tree, file_trees};
 ghost use Rattle.idl_names.specs.Index.{AreIndexed, AreIndexed-prop, IsIndex, include_at, include_in, place_in};
 ghost use Rattle.idl_names.specs.Meaning.{HasFewDefinitions, declared_in, included, meaning, name_in};
@@ -12,8 +12,8 @@ use crate::documents::{Documents, FileDoc, Spot};
 use crate::meaning::{file_at, name_in};
 use crate::paths::{base_name, last_place};
 use crate::places::Places;
-use gate_io::OutOfMemory;
-use idl_parser::{Definition, Name};
+use gate_base::OutOfMemory;
+use idl_document::{Definition, Name};
 use idl_rules::Scope;
 use std::alloc::Global;
 

@@ -1,8 +1,6 @@
 //! What the names of a file may not be.
 ghost use Rattle.std.specs.Prelude.{◌≡◌, ◌<◌, ◌^◌, length, if◌then◌else◌, option_map};
-ghost use Rattle.idl_parser.specs.Declarations.{definition_tree, definition_trees, function_tree, function_trees};
-ghost use Rattle.idl_parser.specs.Fields.{field_trees};
-ghost use Rattle.idl_parser.specs.Trees.{type_tree};
+ghost use Rattle.idl_document.specs.Trees.{definition_tree, definition_trees, function_tree, function_trees, field_trees, type_tree};
 ghost use Rattle.idl_rules.specs.Order.{lesser, least_of};
 ghost use Rattle.idl_names.specs.Files.{file_trees};
 ghost use Rattle.idl_names.specs.Refusals.{base_refusals, cycle_refusals, definition_refusals, definitions_refusals, fields_refusals, function_refusals, functions_refusals, is_known, is_other, is_refused, is_round, leads_round, name_refusals, returned_refusals, throws_refusals, thrown_refusals, type_refusals, word_refusals};
@@ -14,7 +12,7 @@ use crate::documents::Spot;
 use crate::meaning::file_at;
 use crate::names::Names;
 use crate::targets::{Target, resolve_type};
-use idl_parser::{Definition, FieldDecl, Function, Kin, Name, TypeExpr, TypeForm};
+use idl_document::{Definition, FieldDecl, Function, Kin, Name, TypeExpr, TypeForm};
 use idl_rules::{IdlRow, Least, Scope};
 
 /// Notes a name that this scope has not: as unknown, where no scope has it.

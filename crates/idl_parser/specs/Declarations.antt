@@ -1,23 +1,23 @@
 -- Enums, services and the other declarations, in a list of tokens.
 use Rattle.std.specs.Prelude.{ℕ, ℤ, ◌+◌, if◌then◌else◌, List, [], drop, map, Option, Some, None, option_map, Ok}
-use Rattle.idl_parser.specs.declared.document.Definition.{Definition}
-use Rattle.idl_parser.specs.declared.document.Definition.TheVariants as definitions
-use Rattle.idl_parser.specs.declared.document.Function.{Function}
-use Rattle.idl_parser.specs.declared.document.Kin.{Kin}
-use Rattle.idl_parser.specs.declared.document.Kin.TheVariants as kins
-use Rattle.idl_parser.specs.declared.document.Member.{Member}
-use Rattle.idl_parser.specs.declared.document.Name.{Name}
+use Rattle.idl_document.specs.declared.document.Definition.{Definition}
+use Rattle.idl_document.specs.declared.document.Definition.TheVariants as definitions
+use Rattle.idl_document.specs.declared.document.Function.{Function}
+use Rattle.idl_document.specs.declared.document.Kin.{Kin}
+use Rattle.idl_document.specs.declared.document.Kin.TheVariants as kins
+use Rattle.idl_document.specs.declared.document.Member.{Member}
+use Rattle.idl_document.specs.declared.document.Name.{Name}
 use Rattle.idl_parser.specs.declared.tokens.Lexeme.{Lexeme}
 use Rattle.idl_parser.specs.declared.tokens.Lexeme.TheVariants as lexemes
 use Rattle.idl_parser.specs.declared.words.Keyword.TheVariants as keywords
-use Rattle.idl_parser.specs.Fields.{FieldTree, field_trees, fields_in, name_at, path_at, tail_at}
-use Rattle.idl_parser.specs.Item.{ValueItem}
-use Rattle.idl_parser.specs.Items.{items_of_value}
+use Rattle.idl_parser.specs.Fields.{fields_in, name_at, path_at, tail_at}
+use Rattle.idl_document.specs.Trees.{FieldTree, field_trees, TypeTree, type_tree}
+use Rattle.idl_document.specs.Item.{ValueItem}
+use Rattle.idl_document.specs.Items.{items_of_value}
 use Rattle.idl_parser.specs.Lexemes.{Scan, lexeme_of, offset_of, syntax_at, onward, mark_at, stands, sep_len}
 use Rattle.idl_parser.specs.Notes.{notes_at, not_closed}
 use Rattle.idl_parser.specs.Run.{run, listed}
 use Rattle.idl_parser.specs.Seen.{Seen}
-use Rattle.idl_parser.specs.Trees.{TypeTree, type_tree}
 use Rattle.idl_parser.specs.Types.{type_at}
 use Rattle.idl_parser.specs.Values.{value_at}
 

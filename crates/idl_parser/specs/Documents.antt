@@ -1,8 +1,8 @@
 -- The document of a text, or its first fault.
 use Rattle.std.specs.Prelude.{◌≡◌, ℕ, ◌+◌, List, [], ◌∷◌, length, drop, if◌then◌else◌, Bool, true, false, Option, Some, None, Result, Ok, Err}
 use Rattle.idl_lexer.specs.Tokens.{Read, tokens_of}
-use Rattle.idl_parser.specs.declared.document.Document.{Document}
-use Rattle.idl_parser.specs.declared.document.Name.{Name}
+use Rattle.idl_document.specs.declared.document.Document.{Document}
+use Rattle.idl_document.specs.declared.document.Name.{Name}
 use Rattle.idl_parser.specs.declared.fault.Fault.TheVariants as faults
 use Rattle.idl_parser.specs.declared.fault.ParseError.{ParseError}
 use Rattle.idl_parser.specs.declared.fault.ParseError.TheVariants as errors
@@ -10,7 +10,8 @@ use Rattle.idl_parser.specs.declared.tokens.Lexeme.{Lexeme}
 use Rattle.idl_parser.specs.declared.tokens.Lexeme.TheVariants as lexemes
 use Rattle.idl_parser.specs.declared.words.Keyword.TheVariants as keywords
 use Rattle.idl_parser.specs.Cpp.{literal_at, id_at}
-use Rattle.idl_parser.specs.Declarations.{DefinitionTree, definition_trees, one_definition}
+use Rattle.idl_parser.specs.Declarations.{one_definition}
+use Rattle.idl_document.specs.Trees.{DefinitionTree, definition_trees}
 use Rattle.idl_parser.specs.Lexemes.{Scan, lexeme_of, offset_of, word_of, syntax_at, onward, is_left, stands, sep_len}
 use Rattle.idl_parser.specs.Notes.{notes_at}
 use Rattle.idl_parser.specs.Run.{run}

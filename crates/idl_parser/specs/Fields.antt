@@ -1,20 +1,20 @@
 -- Names that are declared, and fields, in a list of tokens.
 use Rattle.std.specs.Prelude.{ℕ, ℤ, ◌+◌, ◌==◌, if◌then◌else◌, List, drop, map, Option, Some, None, option_map, Ok, Bool}
 use Rattle.std.specs.List.{list_any}
-use Rattle.idl_parser.specs.declared.document.Asked.{Asked}
-use Rattle.idl_parser.specs.declared.document.Asked.TheVariants as asks
-use Rattle.idl_parser.specs.declared.document.FieldDecl.{FieldDecl}
-use Rattle.idl_parser.specs.declared.document.Name.{Name}
+use Rattle.idl_document.specs.declared.document.Asked.{Asked}
+use Rattle.idl_document.specs.declared.document.Asked.TheVariants as asks
+use Rattle.idl_document.specs.declared.document.FieldDecl.{FieldDecl}
+use Rattle.idl_document.specs.declared.document.Name.{Name}
 use Rattle.idl_parser.specs.declared.tokens.Lexeme.{Lexeme}
 use Rattle.idl_parser.specs.declared.tokens.Lexeme.TheVariants as lexemes
 use Rattle.idl_parser.specs.declared.words.Keyword.TheVariants as keywords
-use Rattle.idl_parser.specs.Item.{ValueItem}
-use Rattle.idl_parser.specs.Items.{items_of_value}
+use Rattle.idl_document.specs.Item.{ValueItem}
+use Rattle.idl_document.specs.Items.{items_of_value}
 use Rattle.idl_parser.specs.Lexemes.{Scan, lexeme_of, offset_of, word_of, syntax_at, onward, mark_at, stands, sep_len}
 use Rattle.idl_parser.specs.Notes.{notes_at, not_closed}
 use Rattle.idl_parser.specs.Run.{run, listed}
 use Rattle.idl_parser.specs.Seen.{Seen}
-use Rattle.idl_parser.specs.Trees.{TypeTree, type_tree}
+use Rattle.idl_document.specs.Trees.{TypeTree, type_tree}
 use Rattle.idl_parser.specs.Types.{type_at}
 use Rattle.idl_parser.specs.Values.{value_at}
 

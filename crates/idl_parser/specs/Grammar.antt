@@ -1,22 +1,20 @@
 -- The Apache Thrift IDL grammar, as relations between what is meant and the tokens that spell it. Each alternative of the grammar is a constructor.
 use Rattle.std.specs.Prelude.{◌≡◌, ℕ, ℤ, List, [], ◌∷◌, ◌++◌, Option, Some, None, false}
-use Rattle.idl_parser.specs.declared.document.Asked.{Asked}
-use Rattle.idl_parser.specs.declared.document.Asked.TheVariants as asks
-use Rattle.idl_parser.specs.declared.document.BaseWord.{BaseWord}
-use Rattle.idl_parser.specs.declared.document.Kin.{Kin}
-use Rattle.idl_parser.specs.declared.document.Kin.TheVariants as kins
-use Rattle.idl_parser.specs.declared.document.Member.{Member}
-use Rattle.idl_parser.specs.declared.document.Name.{Name}
+use Rattle.idl_document.specs.declared.document.Asked.{Asked}
+use Rattle.idl_document.specs.declared.document.Asked.TheVariants as asks
+use Rattle.idl_document.specs.declared.document.BaseWord.{BaseWord}
+use Rattle.idl_document.specs.declared.document.Kin.{Kin}
+use Rattle.idl_document.specs.declared.document.Kin.TheVariants as kins
+use Rattle.idl_document.specs.declared.document.Member.{Member}
+use Rattle.idl_document.specs.declared.document.Name.{Name}
 use Rattle.idl_parser.specs.declared.tokens.Lexeme.{Lexeme}
 use Rattle.idl_parser.specs.declared.tokens.Lexeme.TheVariants as lexemes
 use Rattle.idl_parser.specs.declared.words.Keyword.{Keyword}
 use Rattle.idl_parser.specs.declared.words.Keyword.TheVariants as keywords
-use Rattle.idl_parser.specs.Declarations.{FunctionTree, DefinitionTree, const_of, typedef_of, enum_of, struct_of, service_of}
-use Rattle.idl_parser.specs.Documents.{DocumentTree}
-use Rattle.idl_parser.specs.Fields.{FieldTree, has_dot}
-use Rattle.idl_parser.specs.Item.{ValueItem, whole, double, literal, named, list_begin, list_end, map_begin, map_end}
+use Rattle.idl_document.specs.Trees.{FunctionTree, DefinitionTree, const_of, typedef_of, enum_of, struct_of, service_of, DocumentTree, FieldTree, TypeTree, base_at, named_at, map_at, set_at, list_at}
+use Rattle.idl_parser.specs.Fields.{has_dot}
+use Rattle.idl_document.specs.Item.{ValueItem, whole, double, literal, named, list_begin, list_end, map_begin, map_end}
 use Rattle.idl_parser.specs.Seen.{Seen}
-use Rattle.idl_parser.specs.Trees.{TypeTree, base_at, named_at, map_at, set_at, list_at}
 
 -- one token that says this
 pub data Is : Lexeme → List Seen → Type 0 where

@@ -8,7 +8,7 @@ use Rattle.idl_parser.specs.Lexemes.{Scan, lexeme_of, offset_of, word_of, syntax
 use Rattle.idl_parser.specs.Notes.{notes_at}
 use Rattle.idl_parser.specs.Cpp.{cpp_at}
 use Rattle.idl_parser.specs.Seen.{Seen}
-use Rattle.idl_parser.specs.Trees.{TypeTree, base_at, named_at, map_at, set_at, list_at}
+use Rattle.idl_document.specs.Trees.{TypeTree, base_at, named_at, map_at, set_at, list_at}
 
 abbrev pub Inner : Type 0
 Inner = List Seen → Scan TypeTree

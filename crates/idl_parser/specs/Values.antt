@@ -3,7 +3,7 @@ use Rattle.std.specs.Prelude.{ℕ, zero, suc, ◌+◌, ◌-◌, ◌==◌, if◌t
 use Rattle.idl_parser.specs.declared.fault.Fault.TheVariants as faults
 use Rattle.idl_parser.specs.declared.tokens.Lexeme.{Lexeme}
 use Rattle.idl_parser.specs.declared.tokens.Lexeme.TheVariants as lexemes
-use Rattle.idl_parser.specs.Item.{ValueItem, whole, double, literal, named, list_begin, list_end, map_begin, map_end}
+use Rattle.idl_document.specs.Item.{ValueItem, whole, double, literal, named, list_begin, list_end, map_begin, map_end}
 use Rattle.idl_parser.specs.Lexemes.{Scan, lexeme_of, offset_of, word_of, syntax_at, onward, mark_at, sep_len}
 use Rattle.idl_parser.specs.Notes.{not_closed}
 use Rattle.idl_parser.specs.Run.{run}

@@ -1,8 +1,8 @@
 -- The keywords of the IDL, by their bytes.
 use Rattle.std.specs.Prelude.{ℕ, List, Option, Some, None, Bool, if◌then◌else◌, nat_eq, codes}
 use Rattle.std.specs.Cmp.Lexicographic.{pointwise}
-use Rattle.idl_parser.specs.declared.document.BaseWord.{BaseWord}
-use Rattle.idl_parser.specs.declared.document.BaseWord.TheVariants as bases
+use Rattle.idl_document.specs.declared.document.BaseWord.{BaseWord}
+use Rattle.idl_document.specs.declared.document.BaseWord.TheVariants as bases
 use Rattle.idl_parser.specs.declared.words.Keyword.{Keyword}
 use Rattle.idl_parser.specs.declared.words.Keyword.TheVariants as keywords
 

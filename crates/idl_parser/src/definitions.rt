@@ -1,6 +1,7 @@
 //! Declarations.
 ghost use Rattle.std.specs.Prelude.{◌≡◌, ◌≤◌, ◌<◌, length};
-ghost use Rattle.idl_parser.specs.Declarations.{extends_at, const_at, typedef_at, enum_at, struct_at, service_at, declared_at, definition_at, definition_tree, definition_trees, one_definition};
+ghost use Rattle.idl_parser.specs.Declarations.{extends_at, const_at, typedef_at, enum_at, struct_at, service_at, declared_at, definition_at, one_definition};
+ghost use Rattle.idl_document.specs.Trees.{definition_tree, definition_trees};
 ghost use Rattle.idl_parser.specs.Lexemes.{is_left, Gives, IsWithin, IsUpTo, itself};
 ghost use Rattle.idl_parser.specs.Run.{run};
 

@@ -1,11 +1,11 @@
 //! Fields.
 ghost use Rattle.std.specs.Prelude.{◌≡◌, ◌≤◌, length, option_map, Some};
-ghost use Rattle.idl_parser.specs.Fields.{given_at, asked_at, typed_at, preset_at, field_tree, field_trees, field_at, fields_in, one_field};
-ghost use Rattle.idl_parser.specs.Items.{items_of_value};
+ghost use Rattle.idl_parser.specs.Fields.{given_at, asked_at, typed_at, preset_at, field_at, fields_in, one_field};
+ghost use Rattle.idl_document.specs.Trees.{field_tree, field_trees, type_tree};
+ghost use Rattle.idl_document.specs.Items.{items_of_value};
 ghost use Rattle.idl_parser.specs.Lexemes.{Gives, IsWithin, IsUpTo, itself};
 ghost use Rattle.idl_parser.specs.Notes.{not_closed};
 ghost use Rattle.idl_parser.specs.Run.{run};
-ghost use Rattle.idl_parser.specs.Trees.{type_tree};
 
 use crate::document::{Asked, FieldDecl, Name, TypeExpr};
 use crate::fault::Stop;

@@ -1,11 +1,10 @@
 //! The methods of services.
 ghost use Rattle.std.specs.Prelude.{◌≡◌, ◌≤◌, length, option_map};
-ghost use Rattle.idl_parser.specs.Declarations.{oneway_at, returns_at, throws_at, function_at, function_tree, function_trees, functions_in, one_function};
-ghost use Rattle.idl_parser.specs.Fields.{field_trees};
+ghost use Rattle.idl_parser.specs.Declarations.{oneway_at, returns_at, throws_at, function_at, functions_in, one_function};
+ghost use Rattle.idl_document.specs.Trees.{function_tree, function_trees, field_trees, type_tree};
 ghost use Rattle.idl_parser.specs.Lexemes.{Gives, IsWithin, IsUpTo, itself};
 ghost use Rattle.idl_parser.specs.Notes.{not_closed};
 ghost use Rattle.idl_parser.specs.Run.{run};
-ghost use Rattle.idl_parser.specs.Trees.{type_tree};
 
 use crate::document::{FieldDecl, Function, Name, TypeExpr};
 use crate::fault::Stop;

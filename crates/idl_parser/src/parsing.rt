@@ -1,6 +1,7 @@
 //! The document of a whole text.
 ghost use Rattle.std.specs.Prelude.{◌≡◌, ◌≤◌, length, IfOk};
-ghost use Rattle.idl_parser.specs.Documents.{document_at, document_tree, parsed, Parses};
+ghost use Rattle.idl_parser.specs.Documents.{document_at, parsed, Parses};
+ghost use Rattle.idl_document.specs.Trees.{document_tree};
 ghost use Rattle.idl_parser.specs.Lexemes.{Gives, IsUpTo};
 
 use crate::definitions::definitions;

@@ -1,7 +1,7 @@
 //! Types.
 ghost use Rattle.std.specs.Prelude.{◌≡◌, ◌≤◌, ◌<◌, ◌-◌, length};
 ghost use Rattle.idl_parser.specs.Lexemes.{Gives, IsWithin};
-ghost use Rattle.idl_parser.specs.Trees.{type_tree, set_at, list_at};
+ghost use Rattle.idl_document.specs.Trees.{type_tree, set_at, list_at};
 ghost use Rattle.idl_parser.specs.Types.{type_at, type_step, form_at, map_of, one_of, list_of};
 
 use crate::document::{TypeExpr, TypeForm};
@@ -10,7 +10,7 @@ use crate::marks::mark_at;
 use crate::skipped::{cpp_at, notes_at};
 use crate::tokens::{Lexeme, Tokens};
 use crate::words::Keyword;
-use gate_io::Text;
+use gate_base::Text;
 use std::alloc::Global;
 
 /// A type at the front of the tokens, with so many levels left below it.

@@ -1,6 +1,6 @@
 //! Constant values.
 ghost use Rattle.std.specs.Prelude.{◌≡◌, ◌≤◌, ◌<◌, ◌-◌, length};
-ghost use Rattle.idl_parser.specs.Items.{items_of_value, items_of_pair};
+ghost use Rattle.idl_document.specs.Items.{items_of_value, items_of_pair};
 ghost use Rattle.idl_parser.specs.Lexemes.{Gives, IsWithin, IsUpTo, itself};
 ghost use Rattle.idl_parser.specs.Notes.{not_closed};
 ghost use Rattle.idl_parser.specs.Run.{run};
@@ -10,7 +10,7 @@ use crate::fault::{Fault, Stop};
 use crate::marks::{mark_at, sep_len};
 use crate::tokens::{Lexeme, Tokens};
 use crate::value::{Pair, PairList, ValueExpr, ValueForm, ValueList};
-use gate_io::Text;
+use gate_base::Text;
 use std::alloc::Global;
 
 /// A value at the front of the tokens, with so many levels left below it.

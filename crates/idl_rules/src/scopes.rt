@@ -1,14 +1,14 @@
 //! The three scopes of a file.
 ghost use Rattle.std.specs.Prelude.{◌≡◌, OnOk, option_copied};
-ghost use Rattle.idl_parser.specs.Declarations.{definition_tree, definition_trees};
+ghost use Rattle.idl_document.specs.Trees.{definition_tree, definition_trees};
 ghost use Rattle.idl_rules.specs.Order.{lesser, least_of};
 ghost use Rattle.idl_rules.specs.Rules.{name_in, listed_name, scope_refusals};
 
 use crate::least::Least;
 use crate::row::IdlRow;
 use crate::seen::NameSet;
-use gate_io::OutOfMemory;
-use idl_parser::{Definition, Name};
+use gate_base::OutOfMemory;
+use idl_document::{Definition, Name};
 use std::alloc::Global;
 
 /// A scope of a file: in each a name is declared once.

@@ -1,9 +1,9 @@
 -- Typedefs, one step at a time.
 use Rattle.std.proofs.Common.{◌≡◌, ℕ, zero, suc, ◌-◌, ◌<◌, List, refl, ap, sym, ◌∙◌, arith, Result, Ok, Err}
 use Rattle.std.specs.Prelude.{IfOk}
-use Rattle.idl_parser.specs.declared.document.TypeForm.{TypeForm}
-use Rattle.idl_parser.specs.declared.document.TypeForm.TheVariants as forms
-use Rattle.idl_parser.specs.Trees.{TypeTree, named_at, form_tree}
+use Rattle.idl_document.specs.declared.document.TypeForm.{TypeForm}
+use Rattle.idl_document.specs.declared.document.TypeForm.TheVariants as forms
+use Rattle.idl_document.specs.Trees.{TypeTree, named_at, form_tree}
 use Rattle.type_tables.specs.declared.declared.Ty.{Ty}
 use Rattle.type_tables.specs.declared.declared.Ty.TheVariants as types
 use Rattle.idl_names.specs.Files.{FileTree}

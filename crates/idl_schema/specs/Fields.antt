@@ -1,11 +1,10 @@
 -- The fields of a struct, of the arguments of a method or of what it throws.
 use Rattle.std.specs.Prelude.{ℕ, ◌+◌, List, [], ◌∷◌, ◌++◌, Option, Some, None, codes, pos}
-use Rattle.idl_parser.specs.declared.document.Asked.{Asked}
-use Rattle.idl_parser.specs.declared.document.Asked.TheVariants as asks
-use Rattle.idl_parser.specs.declared.document.Kin.{Kin}
-use Rattle.idl_parser.specs.declared.document.Kin.TheVariants as kins
-use Rattle.idl_parser.specs.Fields.{FieldTree}
-use Rattle.idl_parser.specs.Trees.{TypeTree}
+use Rattle.idl_document.specs.declared.document.Asked.{Asked}
+use Rattle.idl_document.specs.declared.document.Asked.TheVariants as asks
+use Rattle.idl_document.specs.declared.document.Kin.{Kin}
+use Rattle.idl_document.specs.declared.document.Kin.TheVariants as kins
+use Rattle.idl_document.specs.Trees.{FieldTree, TypeTree}
 use Rattle.idl_rules.specs.Ids.{id_of, counted}
 use Rattle.type_tables.specs.declared.declared.FieldInfo.{FieldInfo}
 use Rattle.type_tables.specs.declared.declared.Form.{Form}

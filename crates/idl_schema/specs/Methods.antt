@@ -1,7 +1,6 @@
 -- The methods of a service, and the structs that their arguments and results travel as.
 use Rattle.std.specs.Prelude.{ℕ, ◌+◌, List, [], ◌∷◌, ◌++◌, is_some}
-use Rattle.idl_parser.specs.Declarations.{FunctionTree}
-use Rattle.idl_parser.specs.Trees.{TypeTree}
+use Rattle.idl_document.specs.Trees.{FunctionTree, TypeTree}
 use Rattle.type_tables.specs.declared.declared.Form.TheVariants as forms
 use Rattle.type_tables.specs.declared.declared.MethodInfo.{MethodInfo}
 use Rattle.type_tables.specs.declared.declared.StructId.{StructId}

@@ -1,9 +1,8 @@
 -- What a type of the text means.
 use Rattle.std.specs.Prelude.{ℕ, zero, suc, ◌+◌, List, [], ◌∷◌, ◌++◌, Option, Some, None}
-use Rattle.idl_parser.specs.declared.document.BaseWord.{BaseWord}
-use Rattle.idl_parser.specs.declared.document.BaseWord.TheVariants as words
-use Rattle.idl_parser.specs.Declarations.{DefinitionTree, typedef_of, enum_of, struct_of}
-use Rattle.idl_parser.specs.Trees.{TypeTree, base_at, named_at, map_at, set_at, list_at, type_tree}
+use Rattle.idl_document.specs.declared.document.BaseWord.{BaseWord}
+use Rattle.idl_document.specs.declared.document.BaseWord.TheVariants as words
+use Rattle.idl_document.specs.Trees.{DefinitionTree, typedef_of, enum_of, struct_of, TypeTree, base_at, named_at, map_at, set_at, list_at, type_tree}
 use Rattle.type_tables.specs.declared.declared.Ty.{Ty}
 use Rattle.type_tables.specs.declared.declared.Ty.TheVariants as types
 use Rattle.type_tables.specs.declared.declared.TyId.{TyId}

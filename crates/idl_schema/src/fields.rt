@@ -1,7 +1,6 @@
 //! The fields of a struct, of the arguments of a method or of what it throws.
 ghost use Rattle.std.specs.Prelude.{◌≡◌, ◌++◌, ◌∷◌, [], ◌<◌, ◌^◌, IfOk, OnOk, length, pos, codes};
-ghost use Rattle.idl_parser.specs.Fields.{field_tree, field_trees};
-ghost use Rattle.idl_parser.specs.Trees.{type_tree};
+ghost use Rattle.idl_document.specs.Trees.{field_tree, field_trees, type_tree};
 ghost use Rattle.idl_rules.specs.Ids.{id_of};
 ghost use Rattle.idl_schema.specs.Adding.{with_types};
 ghost use Rattle.idl_schema.specs.Fields.{need_of, fields_from, fields_types, success, returns_types};
@@ -11,8 +10,8 @@ ghost use Rattle.idl_schema.specs.Types.{ty_in};
 
 use crate::parts::{add_parts, next_part};
 use crate::sight::Sight;
-use gate_io::{OutOfMemory, Text};
-use idl_parser::{Asked, FieldDecl, TypeExpr};
+use gate_base::{OutOfMemory, Text};
+use idl_document::{Asked, FieldDecl, TypeExpr};
 use idl_rules::{count_on, field_id};
 use std::alloc::Global;
 use type_tables::{FieldInfo, FieldList, Need, SchemaBuilder, Ty};

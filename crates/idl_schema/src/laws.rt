@@ -1,6 +1,6 @@
 //! What the types of a schema are, in the words of what names mean.
 ghost use Rattle.std.specs.Prelude.{◌≡◌, ℕ, List, Some};
-ghost use Rattle.idl_parser.specs.Trees.{TypeTree};
+ghost use Rattle.idl_document.specs.Trees.{TypeTree};
 ghost use Rattle.idl_names.specs.Files.{FileTree};
 ghost use Rattle.idl_names.specs.Targets.{TargetTree, target_of};
 ghost use Rattle.idl_schema.specs.Meant.{IsMeant};

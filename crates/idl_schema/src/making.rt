@@ -1,6 +1,6 @@
 //! The schema of the files of an IDL.
 ghost use Rattle.std.specs.Prelude.{◌≡◌, ◌<◌, ◌^◌, IfOk, OnOk, length, map};
-ghost use Rattle.idl_parser.specs.Declarations.{definition_tree, definition_trees, function_trees};
+ghost use Rattle.idl_document.specs.Trees.{definition_tree, definition_trees, function_trees};
 ghost use Rattle.idl_rules.specs.Values.{member_values};
 ghost use Rattle.idl_names.specs.Files.{file_trees};
 ghost use Rattle.idl_names.specs.Meaning.{HasFewDefinitions};
@@ -16,9 +16,9 @@ use crate::methods::{add_methods, add_struct, add_structs};
 use crate::numbers::small;
 use crate::parts::add_parts;
 use crate::sight::Sight;
-use gate_io::{OutOfMemory, Text};
+use gate_base::{OutOfMemory, Text};
 use idl_names::{Documents, FileDoc, Names};
-use idl_parser::{Definition, Function, Kin, Member, Name};
+use idl_document::{Definition, Function, Kin, Member, Name};
 use idl_rules::{member_value, number_after};
 use std::alloc::Global;
 use type_tables::{FieldList, Form, Schema, SchemaBuilder};

@@ -1,6 +1,6 @@
 //! The methods of a service, and the structs that their arguments and results travel as.
 ghost use Rattle.std.specs.Prelude.{◌≡◌, ◌<◌, ◌∷◌, [], OnOk, length};
-ghost use Rattle.idl_parser.specs.Declarations.{function_tree, function_trees};
+ghost use Rattle.idl_document.specs.Trees.{function_tree, function_trees};
 ghost use Rattle.type_tables.specs.Declarations.{with_fields, with_method};
 ghost use Rattle.idl_schema.specs.Adding.{with_structs, with_methods};
 ghost use Rattle.idl_schema.specs.Methods.{args_struct, result_struct, result_types, methods_structs, methods_types, methods_from, method_info};
@@ -11,8 +11,8 @@ ghost use Rattle.idl_schema.specs.Types.{ty_in};
 use crate::fields::{add_fields, add_success};
 use crate::numbers::sum;
 use crate::sight::Sight;
-use gate_io::{OutOfMemory, Text};
-use idl_parser::Function;
+use gate_base::{OutOfMemory, Text};
+use idl_document::Function;
 use std::alloc::Global;
 use type_tables::{FieldList, Form, MethodInfo, SchemaBuilder, ServiceId, StructId};
 

@@ -1,6 +1,6 @@
 //! The types that are parts of others.
 ghost use Rattle.std.specs.Prelude.{◌≡◌, IfOk, OnOk, length};
-ghost use Rattle.idl_parser.specs.Trees.{type_tree};
+ghost use Rattle.idl_document.specs.Trees.{type_tree};
 ghost use Rattle.type_tables.specs.Declarations.{with_type, with_fields};
 ghost use Rattle.idl_schema.specs.Adding.{with_types};
 ghost use Rattle.idl_schema.specs.Sights.{files_of};
@@ -8,8 +8,8 @@ ghost use Rattle.idl_schema.specs.Types.{part_types, pair_types, element_types, 
 
 use crate::numbers::{parts, small, sum};
 use crate::sight::Sight;
-use gate_io::OutOfMemory;
-use idl_parser::{TypeExpr, TypeForm};
+use gate_base::OutOfMemory;
+use idl_document::{TypeExpr, TypeForm};
 use type_tables::{SchemaBuilder, Ty};
 
 /// The number of the next type that is a part of another.

@@ -1,7 +1,6 @@
 //! What names and types mean in the files of an IDL.
 ghost use Rattle.std.specs.Prelude.{◌≡◌, ◌≤◌, ◌++◌, ◌∷◌, [], IfOk, Some, option_map, option_copied};
-ghost use Rattle.idl_parser.specs.Declarations.{definition_tree};
-ghost use Rattle.idl_parser.specs.Trees.{type_tree};
+ghost use Rattle.idl_document.specs.Trees.{definition_tree, type_tree};
 ghost use Rattle.idl_names.specs.Files.{file_trees};
 ghost use Rattle.idl_typedefs.specs.Hops.{Follows, Follows-prop};
 ghost use Rattle.idl_schema.specs.Numbers.{first_of, number_in, numbers_of};
@@ -10,9 +9,9 @@ ghost use Rattle.idl_schema.specs.Types.{base_ty, plain_ty, target_of, target, t
 
 use crate::numbers::{First, numbers_of, sum};
 use crate::types::{Ahead, Expression, Meant};
-use gate_io::{OutOfMemory, Text};
+use gate_base::{OutOfMemory, Text};
 use idl_names::{Names, Scope, Spot, base_name, definition_at};
-use idl_parser::{BaseWord, Definition, Name, Seq, TypeExpr, TypeForm};
+use idl_document::{BaseWord, Definition, Name, Seq, TypeExpr, TypeForm};
 use idl_typedefs::{Landing, Typedefs};
 use std::alloc::Global;
 use type_tables::{EnumId, ServiceId, StructId, Ty, TyId};

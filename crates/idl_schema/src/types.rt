@@ -1,5 +1,5 @@
 //! What a name of a type means.
-use idl_parser::TypeExpr;
+use idl_document::TypeExpr;
 use type_tables::Ty;
 
 /// A type as it stands in a text: the place of its file, the number of its first part, and the type.

@@ -1,8 +1,7 @@
 -- Typedefs that are written as nothing but a name, and what they lead to.
 use Rattle.std.specs.Prelude.{◌≡◌, ℕ, zero, suc, ◌+◌, List, Option, Some, None, option_and_then, slice_get}
 use Rattle.std.proofs.Props.{props}
-use Rattle.idl_parser.specs.Declarations.{DefinitionTree, typedef_of}
-use Rattle.idl_parser.specs.Trees.{TypeTree, named_at}
+use Rattle.idl_document.specs.Trees.{DefinitionTree, typedef_of, TypeTree, named_at}
 use Rattle.idl_rules.specs.declared.scopes.Scope.TheVariants as scopes
 use Rattle.idl_names.specs.declared.documents.Spot.{Spot}
 use Rattle.idl_names.specs.Files.{FileTree}

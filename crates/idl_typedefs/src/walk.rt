@@ -1,13 +1,12 @@
 //! The names of typedefs followed one by one.
 ghost use Rattle.std.specs.Prelude.{◌≡◌, ◌+◌, IfSome, option_copied, option_map};
-ghost use Rattle.idl_parser.specs.Declarations.{definition_tree};
-ghost use Rattle.idl_parser.specs.Trees.{type_tree};
+ghost use Rattle.idl_document.specs.Trees.{definition_tree, type_tree};
 ghost use Rattle.idl_names.specs.Files.{file_trees};
 ghost use Rattle.idl_typedefs.specs.Hops.{Follows, IsHop, alias_in, alias_of, next};
 
 use crate::typedefs::{Hop, Typedefs};
 use idl_names::{Names, Scope, Spot, definition_at};
-use idl_parser::{Definition, TypeExpr, TypeForm};
+use idl_document::{Definition, TypeExpr, TypeForm};
 
 /// What the name means that is a typedef's whole type.
 #[tactic(auto, unfolding(crate::specs::Hops::next))]

@@ -1,6 +1,6 @@
 //! A struct whose fields are declared in no order of ids.
 use super::*;
-use gate_io::Text;
+use gate_base::Text;
 use std::alloc::Global;
 use std::test::*;
 

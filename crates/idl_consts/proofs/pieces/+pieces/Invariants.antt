@@ -1,5 +1,5 @@
 use Rattle.std.proofs.Common.{◌≡◌, ◌+◌, ◌*◌, ◌≤◌, ◌++◌, drop, map, length}
-use Rattle.idl_parser.specs.Items.{items_of_value, items_of_values, items_of_pairs}
+use Rattle.idl_document.specs.Items.{items_of_value, items_of_values, items_of_pairs}
 use Rattle.idl_consts.specs.Pieces.{item_of}
 use Rattle.idl_consts.proofs.pieces.+pieces.Given as goal
 

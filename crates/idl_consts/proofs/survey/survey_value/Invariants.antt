@@ -1,5 +1,5 @@
 use Rattle.std.proofs.Common.{◌≡◌, drop, map, [], ◌∷◌}
-use Rattle.idl_parser.specs.Items.{items_of_value}
+use Rattle.idl_document.specs.Items.{items_of_value}
 use Rattle.idl_consts.specs.Course.{course_from, elements}
 use Rattle.idl_consts.specs.Meant.{meant_at}
 use Rattle.idl_consts.specs.Pieces.{item_of, contexts, chained}

@@ -1,5 +1,5 @@
 use Rattle.std.proofs.Common.{◌∙◌, ◌+◌, ◌≤◌, ap, arith, Option}
-use Rattle.idl_parser.specs.Declarations.{DefinitionTree}
+use Rattle.idl_document.specs.Trees.{DefinitionTree}
 use Rattle.idl_consts.specs.Meant.{defined_type, named_type}
 use Rattle.idl_consts.specs.Views.{files_of}
 use Rattle.idl_consts.proofs.Landing.{landed, below_more}

@@ -1,5 +1,5 @@
 use Rattle.std.proofs.Common.{take}
-use Rattle.idl_parser.specs.Declarations.{definition_tree}
+use Rattle.idl_document.specs.Trees.{definition_tree}
 use Rattle.idl_names.specs.Meaning.{name_in}
 use Rattle.idl_names.specs.Places.{TellsFirst}
 use Rattle.idl_names.proofs.names.declared.Given as goal

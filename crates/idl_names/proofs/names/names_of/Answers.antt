@@ -1,4 +1,4 @@
-use Rattle.idl_parser.specs.Declarations.{definition_tree}
+use Rattle.idl_document.specs.Trees.{definition_tree}
 use Rattle.idl_rules.specs.declared.scopes.Scope.TheVariants as scopes
 use Rattle.idl_names.specs.Meaning.{name_in}
 use Rattle.idl_names.specs.Paths.{base_name}

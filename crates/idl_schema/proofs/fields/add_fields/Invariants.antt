@@ -1,5 +1,5 @@
 use Rattle.std.proofs.Common.{◌≡◌, ◌≤◌, ◌++◌, length, drop}
-use Rattle.idl_parser.specs.Fields.{field_trees}
+use Rattle.idl_document.specs.Trees.{field_trees}
 use Rattle.idl_schema.specs.Adding.{with_types}
 use Rattle.idl_schema.specs.Fields.{fields_from, fields_types}
 use Rattle.idl_schema.specs.Sights.{files_of}

@@ -1,6 +1,6 @@
 use Rattle.std.proofs.Common.{◌+◌, ◌∙◌, ap, sym, drop, List}
-use Rattle.idl_parser.specs.declared.document.Definition.{Definition}
-use Rattle.idl_parser.specs.Declarations.{definition_tree, definition_trees}
+use Rattle.idl_document.specs.declared.document.Definition.{Definition}
+use Rattle.idl_document.specs.Trees.{definition_tree, definition_trees}
 use Rattle.idl_schema.specs.Adding.{firsts}
 use Rattle.idl_schema.specs.Shares.{shares, with_share}
 use Rattle.idl_schema.specs.Sights.{files_of}

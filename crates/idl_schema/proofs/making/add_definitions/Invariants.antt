@@ -1,5 +1,5 @@
 use Rattle.std.proofs.Common.{◌≡◌, drop}
-use Rattle.idl_parser.specs.Declarations.{definition_trees}
+use Rattle.idl_document.specs.Trees.{definition_trees}
 use Rattle.idl_schema.specs.Adding.{firsts}
 use Rattle.idl_schema.specs.Shares.{shares, with_share}
 use Rattle.idl_schema.specs.Sights.{files_of}

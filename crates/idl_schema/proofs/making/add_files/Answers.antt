@@ -1,7 +1,7 @@
 use Rattle.std.proofs.Common.{◌+◌, ◌∙◌, ap, sym, drop, List, ℕ}
 use Rattle.idl_names.specs.declared.documents.FileDoc.{FileDoc}
 use Rattle.idl_names.specs.Files.{file_tree, file_trees}
-use Rattle.idl_parser.specs.Declarations.{definition_trees}
+use Rattle.idl_document.specs.Trees.{definition_trees}
 use Rattle.idl_schema.specs.Adding.{firsts}
 use Rattle.idl_schema.specs.Shares.{shares, files_shares, with_share}
 use Rattle.idl_schema.specs.Sights.{files_of}

@@ -1,6 +1,6 @@
 use Rattle.std.proofs.Common.{◌∙◌}
 use Rattle.std.proofs.lemmas.Result.{on_ok_weaker}
-use Rattle.idl_parser.specs.Declarations.{function_trees}
+use Rattle.idl_document.specs.Trees.{function_trees}
 use Rattle.idl_schema.specs.Methods.{methods_from, methods_structs, methods_types}
 use Rattle.idl_schema.specs.Shares.{base_of}
 use Rattle.idl_schema.specs.Sights.{files_of}

@@ -1,6 +1,6 @@
 use Rattle.std.proofs.Common.{◌+◌, ◌∙◌, ap, sym, drop, length, List}
-use Rattle.idl_parser.specs.declared.document.Function.{Function}
-use Rattle.idl_parser.specs.Declarations.{function_tree, function_trees}
+use Rattle.idl_document.specs.declared.document.Function.{Function}
+use Rattle.idl_document.specs.Trees.{function_tree, function_trees}
 use Rattle.idl_schema.specs.Adding.{with_structs}
 use Rattle.idl_schema.specs.Methods.{methods_structs, methods_types}
 use Rattle.idl_schema.specs.Sights.{files_of}

@@ -1,6 +1,6 @@
 use Rattle.std.proofs.Common.{◌≡◌, length}
 use Rattle.std.proofs.lemmas.Result.{on_ok_weaker}
-use Rattle.idl_parser.specs.Trees.{type_tree}
+use Rattle.idl_document.specs.Trees.{type_tree}
 use Rattle.idl_schema.specs.Adding.{with_types}
 use Rattle.idl_schema.specs.Sights.{files_of}
 use Rattle.idl_schema.specs.Types.{ty_in, part_types}

@@ -1,7 +1,7 @@
 use Rattle.std.proofs.Common.{◌∙◌, ap, sym, length, List, arith}
 use Rattle.std.proofs.lemmas.List.{length-map}
-use Rattle.idl_parser.specs.declared.document.Definition.{Definition}
-use Rattle.idl_parser.specs.Declarations.{definition_tree}
+use Rattle.idl_document.specs.declared.document.Definition.{Definition}
+use Rattle.idl_document.specs.Trees.{definition_tree}
 use Rattle.idl_names.specs.Files.{file_tree, file_trees}
 use Rattle.idl_names.proofs.Counting.{few_here}
 use Rattle.idl_names.proofs.Looking.{made_at}

@@ -2,7 +2,7 @@ use Rattle.std.proofs.Common.{◌≡◌, ◌<◌, ◌∙◌, ap, sym, arith, ℕ
 use Rattle.idl_names.specs.Targets.{definition_count}
 use Rattle.idl_schema.specs.Sights.{files_of}
 use Rattle.idl_schema.specs.Types.{target, target_of, ty_by, ty_in, followed}
-use Rattle.idl_parser.specs.Trees.{type_tree}
+use Rattle.idl_document.specs.Trees.{type_tree}
 use Rattle.idl_schema.proofs.Following.{found_here, goes_on, plain_here, plain_result}
 use Rattle.idl_schema.proofs.sight.Sight.ty.Goals as goal
 

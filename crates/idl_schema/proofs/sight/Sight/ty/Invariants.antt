@@ -1,5 +1,5 @@
 use Rattle.std.proofs.Common.{◌≡◌}
-use Rattle.idl_parser.specs.Trees.{type_tree}
+use Rattle.idl_document.specs.Trees.{type_tree}
 use Rattle.idl_schema.specs.Sights.{files_of}
 use Rattle.idl_schema.specs.Types.{followed, ty_in}
 use Rattle.idl_schema.proofs.sight.Sight.ty.Given as goal
