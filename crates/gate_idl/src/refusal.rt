@@ -16,7 +16,7 @@ const LINE_ROOM: usize = 64;
 const MOST_NAME: usize = 1 << 40;
 
 /// What is refused: a declaration, or the value of a constant or a preset.
-#[derive(Clone, Copy, Debug, PartialEq, Eq)]
+#[derive(Clone, Copy)]
 pub enum Row {
     Declared(IdlRow),
     Value(ConstRow),

@@ -15,7 +15,7 @@ use idl_names::{Scope, Spot};
 use idl_document::BaseWord;
 
 /// Whether a value fits, is refused, or is a name that stands for a constant's value.
-#[derive(Clone, Copy, Debug, PartialEq, Eq)]
+#[derive(Clone, Copy)]
 pub enum Answer {
     Fits,
     Refused(ConstRow),

@@ -14,7 +14,7 @@ pub struct FileDoc {
 pub type Documents = Seq<FileDoc>;
 
 /// Where a definition stands: the place of its file among all files, and its own among that file's definitions.
-#[derive(Clone, Copy, Debug, PartialEq, Eq, Hash)]
+#[derive(Clone, Copy, PartialEq, Eq, Hash)]
 pub struct Spot {
     pub file: u32,
     pub definition: u32,

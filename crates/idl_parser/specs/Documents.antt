@@ -11,7 +11,7 @@ use Rattle.idl_parser.specs.declared.tokens.Lexeme.TheVariants as lexemes
 use Rattle.idl_parser.specs.declared.words.Keyword.TheVariants as keywords
 use Rattle.idl_parser.specs.Cpp.{literal_at, id_at}
 use Rattle.idl_parser.specs.Declarations.{one_definition}
-use Rattle.idl_document.specs.Trees.{DefinitionTree, definition_trees}
+use Rattle.idl_document.specs.Trees.{DocumentTree, document_tree}
 use Rattle.idl_parser.specs.Lexemes.{Scan, lexeme_of, offset_of, word_of, syntax_at, onward, is_left, stands, sep_len}
 use Rattle.idl_parser.specs.Notes.{notes_at}
 use Rattle.idl_parser.specs.Run.{run}
@@ -62,14 +62,6 @@ is_header_by lexeme = false
 -- whether a header begins here
 unfoldable pub is_header : List Seen → Bool
 is_header tokens = is_header_by (lexeme_of tokens)
-
--- what a text is, without where it lies in memory
-pub record DocumentTree : Type 0 where
-  pub includes : List Name
-  pub definitions : List DefinitionTree
-
-abbrev pub document_tree : Document → DocumentTree
-document_tree d = record { includes = d.includes; definitions = definition_trees d.definitions }
 
 unfoldable pub document_at : ℕ → List Seen → Scan DocumentTree
 document_at edge tokens =

@@ -16,13 +16,19 @@ Inner = List Seen → Scan (List ValueItem)
 unfoldable pub element_of : Inner → List Seen → Scan (List ValueItem)
 element_of inner tokens = onward 0 (inner tokens) λ value n. Ok (value, n + sep_len (drop n tokens))
 
+-- a key, and the colon behind it
+unfoldable pub key_at : Inner → ℕ → List Seen → Scan (List ValueItem)
+key_at inner edge tokens =
+    onward 0 (inner tokens) λ key n.
+    onward n (mark_at 58 edge (drop n tokens)) λ u n.
+    Ok (key, n)
+
 -- a key with its value, and a separator where one stands
 unfoldable pub pair_of : Inner → ℕ → List Seen → Scan (List ValueItem)
 pair_of inner edge tokens =
-    onward 0 (inner tokens) λ key n.
-    onward n (mark_at 58 edge (drop n tokens)) λ u n.
-    onward n (inner (drop n tokens)) λ value n.
-    Ok (key ++ value, n + sep_len (drop n tokens))
+    onward 0 (key_at inner edge tokens) λ key n.
+    onward n (element_of inner (drop n tokens)) λ value n.
+    Ok (key ++ value, n)
 
 -- behind the mark that opens a list
 unfoldable pub list_of : Inner → ℕ → List Seen → Scan (List ValueItem)

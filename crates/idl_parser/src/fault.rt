@@ -15,14 +15,14 @@ pub enum ParseError {
 }
 
 /// Why the tokens are no document.
-#[derive(Clone, Copy, Debug, PartialEq, Eq)]
+#[derive(Clone, Copy)]
 pub enum Fault {
     Syntax(usize),
     Nested(usize),
 }
 
 /// Why nothing was read.
-#[derive(Clone, Copy, Debug, PartialEq, Eq)]
+#[derive(Clone, Copy)]
 pub enum Stop {
     Fault(Fault),
     OutOfMemory,

@@ -4,14 +4,13 @@ ghost use Rattle.idl_parser.specs.Documents.{include_at, scope_at, namespace_at,
 ghost use Rattle.idl_parser.specs.Lexemes.{Gives, IsWithin, IsUpTo, itself};
 ghost use Rattle.idl_parser.specs.Run.{run};
 
-use crate::document::Name;
 use crate::fault::{Fault, Stop};
 use crate::marks::sep_len;
-use crate::seq::Seq;
 use crate::skipped::{id_at, literal_at, notes_at};
 use crate::tokens::{Lexeme, Tokens};
 use crate::words::Keyword;
 use gate_base::Text;
+use idl_document::{Name, Seq};
 use std::alloc::Global;
 
 /// The paths of the includes, as long as headers stand.

@@ -5,15 +5,14 @@ ghost use Rattle.idl_parser.specs.Lexemes.{Gives, IsWithin, IsUpTo, itself};
 ghost use Rattle.idl_parser.specs.Notes.{not_closed};
 ghost use Rattle.idl_parser.specs.Run.{run};
 
-use crate::document::{Member, Name};
 use crate::fault::{Fault, Stop};
 use crate::marks::mark_at;
-use crate::names::{name_at, tail_at};
-use crate::seq::Seq;
+use crate::names::{body_end_at, name_at, tail_at};
 use crate::tokens::{Lexeme, Tokens};
+use idl_document::{Member, Name, Seq};
 use std::alloc::Global;
 
-/// Members in curly brackets.
+/// Members in curly brackets, and notes.
 #[tactic(auto, unfolding(crate::specs::Declarations::members_in))]
 pub(crate) fn members_in(alloc: Global, tokens: &Tokens<'_>) -> Result<(Seq<Member>, usize), Stop>
     ensures within { IsWithin (length tokens.now.list) result }
@@ -22,7 +21,7 @@ pub(crate) fn members_in(alloc: Global, tokens: &Tokens<'_>) -> Result<(Seq<Memb
     let (_, n) = mark_at(tokens, b'{')?;
     let (list, used) = run_members(alloc, &tokens.rest(n))?;
     let n = n + used;
-    let n = n + mark_at(&tokens.rest(n), b'}')?.1;
+    let n = n + body_end_at(&tokens.rest(n))?.1;
     Ok((list, n))
 }
 

@@ -5,10 +5,10 @@ ghost use Rattle.idl_document.specs.Trees.{document_tree};
 ghost use Rattle.idl_parser.specs.Lexemes.{Gives, IsUpTo};
 
 use crate::definitions::definitions;
-use crate::document::Document;
 use crate::fault::{Fault, ParseError, Stop};
 use crate::headers::headers;
 use crate::tokens::Tokens;
+use idl_document::Document;
 use idl_lexer::{LexError, lex};
 use std::alloc::Global;
 

@@ -12,7 +12,7 @@ use idl_document::FieldDecl;
 use std::alloc::Global;
 
 /// The id that a field has: where it is told, its number, and whether this is one that a field may have.
-#[derive(Clone, Copy, Debug)]
+#[derive(Clone, Copy)]
 pub struct FieldId {
     pub at: usize,
     pub id: i64,

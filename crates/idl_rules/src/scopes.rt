@@ -12,7 +12,7 @@ use idl_document::{Definition, Name};
 use std::alloc::Global;
 
 /// A scope of a file: in each a name is declared once.
-#[derive(Clone, Copy, Debug, PartialEq, Eq)]
+#[derive(Clone, Copy)]
 pub enum Scope {
     /// Typedefs, enums, structs, unions and exceptions.
     Types,

@@ -10,7 +10,7 @@ use idl_document::{Definition, FieldDecl, Function, Seq, TypeExpr, TypeForm};
 use std::alloc::Global;
 
 /// The first numbers that a definition takes.
-#[derive(Clone, Copy, Debug)]
+#[derive(Clone, Copy)]
 pub(crate) struct First {
     pub(crate) structs: u32,
     pub(crate) enums: u32,

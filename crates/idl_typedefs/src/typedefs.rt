@@ -18,7 +18,7 @@ pub(crate) struct Hop {
 }
 
 /// A definition, and how many typedefs may be followed from there.
-#[derive(Clone, Copy, Debug, PartialEq, Eq)]
+#[derive(Clone, Copy)]
 pub struct Landing {
     pub spot: Spot,
     pub left: usize,

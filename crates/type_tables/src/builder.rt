@@ -1,7 +1,7 @@
 //! What builds a schema: each thing is added with the number that it then has.
 ghost use Rattle.std.specs.Prelude.{◌≡◌, ◌↔◌, IsTrue, ◌<◌, ◌+◌, ◌^◌, IfOk, OnOk, OnErr, length};
 ghost use Rattle.type_tables.specs.Adding.{Adds};
-ghost use Rattle.type_tables.specs.Declarations.{with_type, with_enum, with_struct, with_fields, with_field, with_service, with_method, with_files};
+ghost use Rattle.type_tables.specs.Declarations.{nothing, with_type, with_enum, with_struct, with_fields, with_field, with_service, with_method, with_files};
 ghost use Rattle.type_tables.specs.Fields.{place_of};
 ghost use Rattle.type_tables.specs.Known.{built_in, IsClosed, IsAcyclic};
 ghost use Rattle.type_tables.specs.Names.{name_place};
@@ -44,15 +44,7 @@ impl SchemaBuilder {
         ensures { IfOk result (λ b. b ≡ built_in) }
     {
         let mut tables = Tables::new(alloc);
-        let failure = tables.add_struct(alloc, Form::Exception)?;
-        let message = field(1, Text::new(alloc, b"message")?, Ty::Text);
-        if tables.add_field(failure, message).is_err() {
-            return Err(OutOfMemory);
-        }
-        let kind = field(2, Text::new(alloc, b"type")?, Ty::I32);
-        if tables.add_field(failure, kind).is_err() {
-            return Err(OutOfMemory);
-        }
+        declare_failure(alloc, &mut tables)?;
         Ok(SchemaBuilder { alloc, tables })
     }
 
@@ -182,6 +174,23 @@ impl SchemaBuilder {
     {
         Schema::of(self.tables, files)
     }
+}
+
+// Declares the built-in TApplicationException, where nothing is declared.
+fn declare_failure(alloc: Global, tables: &mut Tables) -> Result<(), OutOfMemory>
+    requires { tables.old ≡ nothing }
+    ensures { OnOk result (tables.new ≡ built_in) }
+{
+    let failure = tables.add_struct(alloc, Form::Exception)?;
+    let message = field(1, Text::new(alloc, b"message")?, Ty::Text);
+    if tables.add_field(failure, message).is_err() {
+        return Err(OutOfMemory);
+    }
+    let kind = field(2, Text::new(alloc, b"type")?, Ty::I32);
+    if tables.add_field(failure, kind).is_err() {
+        return Err(OutOfMemory);
+    }
+    Ok(())
 }
 
 fn field(id: i16, name: Text, ty: Ty) -> FieldInfo
