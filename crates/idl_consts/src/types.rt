@@ -95,18 +95,18 @@ fn named<'d>(view: &View<'_, 'd>, file: u32, name: &[u8], left: usize) -> Step<'
         return Step::Done(Shape::Unknown);
     }
     match view.names.look_up(file, Scope::Types, name) {
-        Some(spot) => landed(view, spot, left - 1),
+        Some(spot) => resolved(view, spot, left - 1),
         None => Step::Done(Shape::Unknown),
     }
 }
 
 /// What a definition is, behind the typedefs that are names alone.
-fn landed<'d>(view: &View<'_, 'd>, spot: Spot, left: usize) -> Step<'d>
+fn resolved<'d>(view: &View<'_, 'd>, spot: Spot, left: usize) -> Step<'d>
     ensures meant { meant_next (files_of view.now) result ≡ defined_type (named_type (files_of view.now) left) spot (definition_of (files_of view.now) spot) }
     ensures fewer { left_below (left + 1) result }
 {
-    let landing = view.typedefs.land(spot, left);
-    defined(landing.spot, definition(view, landing.spot), landing.left)
+    let resolved_alias = view.typedefs.resolve_chain(spot, left);
+    defined(resolved_alias.spot, definition(view, resolved_alias.spot), resolved_alias.left)
 }
 
 fn defined<'d>(spot: Spot, definition: Option<&'d Definition>, left: usize) -> Step<'d>

@@ -123,7 +123,7 @@ fn is_other(target: Option<Target<'_>>) -> bool
 
 // Only an exception is thrown.
 fn is_refused(names: &Names<'_>, cycles: &Cycles, file: u32, ty: &TypeExpr) -> bool
-    ensures { result ≡ is_refused (is_round (file_trees names.now.files.now) cycles.now file (type_tree ty.now)) (is_other (target_of (file_trees names.now.files.now) file (type_tree ty.now))) }
+    ensures { let d = file_trees names.now.files.now in let t = type_tree ty.now in result ≡ is_refused (is_round d cycles.now file t) (is_other (target_of d file t)) }
 {
     if is_round(names, cycles, file, ty) {
         false
@@ -221,7 +221,7 @@ fn check_definition(
     definition: &Definition,
     least: &mut Least,
 )
-    ensures { least.new ≡ lesser least.old (least_of (definition_refusals (file_trees names.now.files.now) cycles.now spot (definition_tree definition.now))) }
+    ensures { let d = file_trees names.now.files.now in least.new ≡ lesser least.old (least_of (definition_refusals d cycles.now spot (definition_tree definition.now))) }
 {
     match definition {
         Definition::Const(_, ty, _) => check_type(names, spot.file, ty, least),
@@ -252,7 +252,7 @@ fn check_definitions(
     least: &mut Least,
 )
     requires { length definitions.now < 2 ^ 32 }
-    ensures { least.new ≡ lesser least.old (least_of (definitions_refusals (file_trees names.now.files.now) cycles.now file 0 (definition_trees definitions.now))) }
+    ensures { let d = file_trees names.now.files.now in least.new ≡ lesser least.old (least_of (definitions_refusals d cycles.now file 0 (definition_trees definitions.now))) }
 {
     for (place, definition) in definitions.iter().enumerate() {
         let spot = Spot {

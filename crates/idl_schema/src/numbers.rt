@@ -127,7 +127,7 @@ fn numbers_in(
     first: First,
     definitions: &[Definition],
 ) -> Result<(Seq<First>, First), OutOfMemory>
-    ensures { IfOk result (λ r. (r.0 ≡ numbers_in first (definition_trees definitions.now)) × (r.1 ≡ after_all first (definition_trees definitions.now))) }
+    ensures { let trees = definition_trees definitions.now in IfOk result (λ r. (r.0 ≡ numbers_in first trees) × (r.1 ≡ after_all first trees)) }
 {
     let mut n = first;
     let mut list = Seq::new(alloc);

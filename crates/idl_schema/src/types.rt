@@ -12,14 +12,14 @@ pub(crate) struct Expression<'d> {
 
 /// A type, or what stands in a typedef.
 #[derive(Clone, Copy)]
-pub(crate) enum Meant<'d> {
+pub(crate) enum TypeOrAlias<'d> {
     Found(Ty),
-    Further(Expression<'d>),
+    Alias(Expression<'d>),
 }
 
 /// What a name means, and how many typedefs may be followed from there.
 #[derive(Clone, Copy)]
-pub(crate) struct Ahead<'d> {
-    pub(crate) meant: Meant<'d>,
+pub(crate) struct Resolution<'d> {
+    pub(crate) meant: TypeOrAlias<'d>,
     pub(crate) left: usize,
 }

@@ -1,7 +1,7 @@
 //! What builds a schema: each thing is added with the number that it then has.
 ghost use Rattle.std.specs.Prelude.{◌≡◌, ◌↔◌, IsTrue, ◌<◌, ◌+◌, ◌^◌, IfOk, OnOk, OnErr, length};
 ghost use Rattle.type_tables.specs.Adding.{Adds};
-ghost use Rattle.type_tables.specs.Declarations.{nothing, with_type, with_enum, with_struct, with_fields, with_field, with_service, with_method, with_files};
+ghost use Rattle.type_tables.specs.Declarations.{HasRoom, nothing, with_type, with_enum, with_struct, with_fields, with_field, with_service, with_method, with_files};
 ghost use Rattle.type_tables.specs.Fields.{place_of};
 ghost use Rattle.type_tables.specs.Known.{built_in, IsClosed, IsAcyclic};
 ghost use Rattle.type_tables.specs.Names.{name_place};
@@ -28,7 +28,7 @@ pub struct SchemaBuilder {
 }
 
 impl Model for SchemaBuilder {
-    ghost use Rattle.type_tables.specs.Declarations.{Declarations};
+    ghost use Rattle.type_tables.specs.Declarations.{HasRoom, Declarations};
     ghost use Rattle.type_tables.specs.Known.{IsBuilt};
 
     ghost Value = { Declarations };
@@ -129,7 +129,7 @@ impl SchemaBuilder {
         ensures enums { IsTrue result → length self.now.enums + 1 < 2 ^ 32 }
         ensures structs { IsTrue result → length self.now.structs + 1 < 2 ^ 32 }
         ensures services { IsTrue result → length self.now.services + 1 < 2 ^ 32 }
-        ensures full { length self.now.types + 1 < 2 ^ 32 → length self.now.enums + 1 < 2 ^ 32 → length self.now.structs + 1 < 2 ^ 32 → length self.now.services + 1 < 2 ^ 32 → IsTrue result }
+        ensures full { HasRoom self.now → IsTrue result }
     {
         self.tables.has_room()
     }

@@ -10,7 +10,7 @@ pub returns-in_default : goal.returns-in_default
 unfolding course
 returns-in_default c =
     let d = files_of c.args.view.now in
-    sym (none_open d c.args.file c.loop-piece.stands.items c.loop-piece.levels.items _ (grind (arith, common_steps, c.in_default.ensures.cases))) ∙ c.loop-piece.invariant
+    sym (none_open d c.args.file c.loop-piece.references.items c.loop-piece.levels.items _ (grind (arith, common_steps, c.in_default.ensures.cases))) ∙ c.loop-piece.invariant
 
 pub returns-then-is_some : goal.returns-then-is_some
 unfolding course
@@ -18,9 +18,9 @@ returns-then-is_some c =
     let d = files_of c.args.view.now in
     let i = c.loop-piece.piece-index in
     let pieces = c.as_slice-piece-items.result.now in
-    sym (takes_fault d c.turn_at-turn.result c.loop-piece.stands.items c.pop.new.self.items c.in_ok-fault.fault c.take.new.stands.items c.take.new.levels.items (sym c.if-is_some.ensures) (c.in_ok-fault.ensures d)
+    sym (takes_fault d c.turn_at-turn.result c.loop-piece.references.items c.pop.new.self.items c.in_ok-fault.fault c.take.new.references.items c.take.new.levels.items (sym c.if-is_some.ensures) (c.in_ok-fault.ensures d)
     (λ next. course_from d c.args.file next (map item_of (drop (i + 1) pieces))))
-    ∙ sym (one_piece d c.args.file c.loop-piece.stands.items c.loop-piece.levels.items c.pop.new.self.items c.in-Some.top (map item_of (drop i pieces)) (map item_of (drop (i + 1) pieces)) _ c.turn_at-turn.result
+    ∙ sym (one_piece d c.args.file c.loop-piece.references.items c.loop-piece.levels.items c.pop.new.self.items c.in-Some.top (map item_of (drop i pieces)) (map item_of (drop (i + 1) pieces)) _ c.turn_at-turn.result
     c.in-Some.ensures.items (next_piece pieces i _ c.loop-piece-test.true) (c.turn_at-turn.ensures (contexts d c.pop.new.self.items)))
     ∙ c.loop-piece.invariant
 
@@ -29,8 +29,8 @@ loop-piece-preserved c =
     let d = files_of c.args.view.now in
     let i = c.loop-piece.piece-index in
     let pieces = c.as_slice-piece-items.result.now in
-    sym (takes_none d c.turn_at-turn.result c.loop-piece.stands.items c.pop.new.self.items c.in_ok-fault.fault c.take.new.stands.items c.take.new.levels.items (sym c.if-is_some.ensures) (c.in_ok-fault.ensures d)
+    sym (takes_none d c.turn_at-turn.result c.loop-piece.references.items c.pop.new.self.items c.in_ok-fault.fault c.take.new.references.items c.take.new.levels.items (sym c.if-is_some.ensures) (c.in_ok-fault.ensures d)
     (λ next. course_from d c.args.file next (map item_of (drop (i + 1) pieces))))
-    ∙ sym (one_piece d c.args.file c.loop-piece.stands.items c.loop-piece.levels.items c.pop.new.self.items c.in-Some.top (map item_of (drop i pieces)) (map item_of (drop (i + 1) pieces)) _ c.turn_at-turn.result
+    ∙ sym (one_piece d c.args.file c.loop-piece.references.items c.loop-piece.levels.items c.pop.new.self.items c.in-Some.top (map item_of (drop i pieces)) (map item_of (drop (i + 1) pieces)) _ c.turn_at-turn.result
     c.in-Some.ensures.items (next_piece pieces i _ c.loop-piece-test.true) (c.turn_at-turn.ensures (contexts d c.pop.new.self.items)))
     ∙ c.loop-piece.invariant

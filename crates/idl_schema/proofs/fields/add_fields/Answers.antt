@@ -6,7 +6,7 @@ use Rattle.type_tables.specs.declared.declared.FieldInfo.{FieldInfo}
 use Rattle.type_tables.specs.declared.declared.Ty.{Ty}
 use Rattle.idl_schema.specs.Adding.{with_types}
 use Rattle.idl_schema.specs.Fields.{need_of, fields_from, fields_types}
-use Rattle.idl_schema.specs.Sights.{files_of}
+use Rattle.idl_schema.specs.Indexes.{files_of}
 use Rattle.idl_schema.specs.Types.{ty_in}
 use Rattle.idl_schema.proofs.Listing.{next, field_listed, field_typed}
 use Rattle.idl_schema.proofs.fields.add_fields.Goals as goal
@@ -17,7 +17,7 @@ within_counted before i None n h e = omega arith
 
 pub loop-field-preserved : goal.loop-field-preserved
 loop-field-preserved c =
-    let ty = ty_in (files_of c.args.sight.now) c.args.file in
+    let ty = ty_in (files_of c.args.index.now) c.args.file in
     let fs = c.args.fields.now in
     let i = c.loop-field.field-index in
     let f = c.field-item.result in

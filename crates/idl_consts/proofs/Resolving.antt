@@ -6,8 +6,8 @@ use Rattle.idl_rules.specs.declared.scopes.Scope.TheVariants as scopes
 use Rattle.idl_names.specs.declared.documents.Spot.{Spot}
 use Rattle.idl_names.specs.Files.{FileTree}
 use Rattle.idl_names.specs.Meaning.{meaning}
-use Rattle.idl_typedefs.specs.Hops.{LandsAt, alias_in, alias_of, next, reached}
-use Rattle.idl_typedefs.specs.declared.typedefs.Landing.{Landing}
+use Rattle.idl_typedefs.specs.AliasLinks.{ResolvesTo, alias_in, alias_of, next, reached}
+use Rattle.idl_typedefs.specs.declared.typedefs.ResolvedAlias.{ResolvedAlias}
 use Rattle.idl_consts.specs.Meant.{definition_of, defined_type, named_type, spot_type, left_below}
 use Rattle.idl_consts.specs.declared.types.Step.{Step}
 use Rattle.idl_consts.specs.declared.types.Step.TheVariants as steps
@@ -51,8 +51,8 @@ over_names d (suc k) n s l e = by (λ mid. over_names d k n mid l) (next d s) re
         let inner : reached d k mid ≡ Some l = ap (λ (x : Option Spot). option_and_then (reached d k) x) (sym is) ∙ e in
         ap (λ (j : ℕ). defined_type (named_type d j) s (definition_of d s)) more ∙ one_name d (k + n) s mid is ∙ further mid inner
 
-pub landed : (d : List FileTree) (left : ℕ) (s : Spot) (l : Landing) → LandsAt d s left l → defined_type (named_type d l.left) l.spot (definition_of d l.spot) ≡ defined_type (named_type d left) s (definition_of d s)
-landed d left s l lands = sym (over_names d lands.0 l.left s l.spot lands.1) ∙ ap (λ (j : ℕ). defined_type (named_type d j) s (definition_of d s)) lands.2
+pub resolved : (d : List FileTree) (left : ℕ) (s : Spot) (l : ResolvedAlias) → ResolvesTo d s left l → defined_type (named_type d l.left) l.spot (definition_of d l.spot) ≡ defined_type (named_type d left) s (definition_of d s)
+resolved d left s l lands = sym (over_names d lands.0 l.left s l.spot lands.1) ∙ ap (λ (j : ℕ). defined_type (named_type d j) s (definition_of d s)) lands.2
 
 pub below_more : (a b : ℕ) (s : Step) → a ≤ b → left_below a s → left_below b s
 below_more a b (steps.Done shape) few below = tt
