@@ -20,11 +20,17 @@ type_until closing inner edge tokens =
     onward n (mark_at closing edge (drop n tokens)) λ u n.
     Ok (ty, n)
 
+-- the word `map`, `set` or `list`, up to the opening mark
+unfoldable pub opening_at : ℕ → List Seen → Scan (Unit {0})
+opening_at edge tokens =
+    onward 1 (cpp_at edge (drop 1 tokens)) λ u n.
+    onward n (mark_at 60 edge (drop n tokens)) λ u n.
+    Ok (tt, n)
+
 -- behind the word `map`, for an inner type that is read so
 unfoldable pub map_of : Inner → ℕ → List Seen → Scan TypeTree
 map_of inner edge tokens =
-    onward 1 (cpp_at edge (drop 1 tokens)) λ u n.
-    onward n (mark_at 60 edge (drop n tokens)) λ u n.
+    onward 0 (opening_at edge tokens) λ u n.
     onward n (type_until 44 inner edge (drop n tokens)) λ key n.
     onward n (type_until 62 inner edge (drop n tokens)) λ value n.
     Ok (map_at (offset_of edge tokens) key value, n)
@@ -32,8 +38,7 @@ map_of inner edge tokens =
 -- behind the word `set` or `list`, up to the closing mark
 unfoldable pub element_of : Inner → ℕ → List Seen → Scan TypeTree
 element_of inner edge tokens =
-    onward 1 (cpp_at edge (drop 1 tokens)) λ u n.
-    onward n (mark_at 60 edge (drop n tokens)) λ u n.
+    onward 0 (opening_at edge tokens) λ u n.
     onward n (type_until 62 inner edge (drop n tokens)) λ element n.
     Ok (element, n)
 

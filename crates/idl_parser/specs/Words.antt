@@ -9,20 +9,33 @@ use Rattle.idl_parser.specs.declared.words.Keyword.TheVariants as keywords
 abbrev pub is : List ℕ → List ℕ → Bool
 is word other = pointwise nat_eq word other
 
--- the types that have no parts
-unfoldable pub base_of : List ℕ → Option BaseWord
-base_of word =
-    if is word (codes "bool") then Some bases.Bool
+-- the words of whole numbers
+unfoldable pub integer_of : List ℕ → Option BaseWord
+integer_of word =
+    if is word (codes "i8") then Some bases.I8
     else if is word (codes "byte") then Some bases.I8
-    else if is word (codes "i8") then Some bases.I8
     else if is word (codes "i16") then Some bases.I16
     else if is word (codes "i32") then Some bases.I32
     else if is word (codes "i64") then Some bases.I64
+    else None
+
+-- the words of all other types without parts
+unfoldable pub other_base_of : List ℕ → Option BaseWord
+other_base_of word =
+    if is word (codes "bool") then Some bases.Bool
     else if is word (codes "double") then Some bases.Double
     else if is word (codes "string") then Some bases.Text
     else if is word (codes "binary") then Some bases.Blob
     else if is word (codes "uuid") then Some bases.Uuid
     else None
+
+abbrev pub or_other : {X : Type 0} → Option X → Option X → Option X
+or_other None other = other
+or_other (Some x) other = Some x
+
+-- the types that have no parts
+unfoldable pub base_of : List ℕ → Option BaseWord
+base_of word = or_other (integer_of word) (other_base_of word)
 
 -- the words of types that have parts, and of no type
 unfoldable pub type_word_of : List ℕ → Option Keyword
@@ -68,10 +81,6 @@ abbrev pub or_base : Option BaseWord → Option Keyword → Option Keyword
 or_base None other = other
 or_base (Some base) other = Some (keywords.Base base)
 
-abbrev pub or_word : Option Keyword → Option Keyword → Option Keyword
-or_word None other = other
-or_word (Some keyword) other = Some keyword
-
 unfoldable pub keyword_of : List ℕ → Option Keyword
 keyword_of word =
-    or_base (base_of word) (or_word (type_word_of word) (or_word (member_word_of word) (or_word (header_word_of word) (definition_word_of word))))
+    or_base (base_of word) (or_other (type_word_of word) (or_other (member_word_of word) (or_other (header_word_of word) (definition_word_of word))))

@@ -4,7 +4,7 @@ use idl_lexer::{LexError, LexFault};
 use std::alloc::{AllocError, AllocFailed};
 
 /// Why a text was not parsed. A lexical fault goes before all others.
-#[derive(Clone, Copy, Debug, PartialEq, Eq)]
+#[derive(Clone, Copy)]
 pub enum ParseError {
     Lex(LexFault),
     /// The offset of the first token that continues no document, or the text's length where the tokens end too early.

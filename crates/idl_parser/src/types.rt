@@ -1,8 +1,8 @@
 //! Types.
 ghost use Rattle.std.specs.Prelude.{◌≡◌, ◌≤◌, ◌<◌, ◌-◌, length, IfOk};
-ghost use Rattle.idl_parser.specs.Lexemes.{Gives, IsWithin};
+ghost use Rattle.idl_parser.specs.Lexemes.{Gives, IsWithin, itself};
 ghost use Rattle.idl_document.specs.Trees.{type_tree, map_at};
-ghost use Rattle.idl_parser.specs.Types.{type_at, type_step, form_at, map_of, set_of, list_of, element_of, type_until};
+ghost use Rattle.idl_parser.specs.Types.{type_at, type_step, form_at, opening_at, map_of, set_of, list_of, element_of, type_until};
 
 use crate::fault::{Fault, Stop};
 use crate::marks::mark_at;
@@ -79,6 +79,18 @@ fn type_here(at: usize, form: TypeForm) -> TypeExpr
     TypeExpr { at, form }
 }
 
+// The word `map`, `set` or `list`, up to the opening mark.
+#[tactic(auto, unfolding(crate::specs::Types::opening_at))]
+fn opening_at(tokens: &Tokens<'_>) -> Result<((), usize), Stop>
+    requires { 0 < length tokens.now.list }
+    ensures within { IsWithin (length tokens.now.list) result }
+    ensures exact { Gives itself result (opening_at tokens.now.edge tokens.now.list) }
+{
+    let n = 1 + cpp_at(&tokens.rest(1))?.1;
+    let n = n + mark_at(&tokens.rest(n), b'<')?.1;
+    Ok(((), n))
+}
+
 // Behind the word `map`.
 #[cycle(types)]
 #[tactic(auto, unfolding(crate::specs::Types::map_of))]
@@ -88,8 +100,7 @@ fn map_of(alloc: Global, tokens: &Tokens<'_>, levels: usize) -> Result<(TypeExpr
     ensures within { IsWithin (length tokens.now.list) result }
     ensures exact { Gives type_tree result (map_of (type_at (levels - 1) tokens.now.edge) tokens.now.edge tokens.now.list) }
 {
-    let n = 1 + cpp_at(&tokens.rest(1))?.1;
-    let n = n + mark_at(&tokens.rest(n), b'<')?.1;
+    let (_, n) = opening_at(tokens)?;
     let (key, used) = type_until(alloc, &tokens.rest(n), levels, b',')?;
     let n = n + used;
     let (value, used) = type_until(alloc, &tokens.rest(n), levels, b'>')?;
@@ -146,8 +157,7 @@ fn element_of(alloc: Global, tokens: &Tokens<'_>, levels: usize) -> Result<(Type
     ensures within { IsWithin (length tokens.now.list) result }
     ensures exact { Gives type_tree result (element_of (type_at (levels - 1) tokens.now.edge) tokens.now.edge tokens.now.list) }
 {
-    let n = 1 + cpp_at(&tokens.rest(1))?.1;
-    let n = n + mark_at(&tokens.rest(n), b'<')?.1;
+    let (_, n) = opening_at(tokens)?;
     let (element, used) = type_until(alloc, &tokens.rest(n), levels, b'>')?;
     Ok((element, n + used))
 }

@@ -146,7 +146,7 @@ fn map_of(alloc: Global, tokens: &Tokens<'_>, levels: usize) -> Result<(ValueExp
 fn pairs(alloc: Global, tokens: &Tokens<'_>, levels: usize) -> Result<(PairList, usize), Stop>
     requires level { 0 < levels }
     ensures within { IsUpTo (length tokens.now.list) result }
-    ensures exact { Gives itself result (run (not_closed 125) (pair_of (value_at (levels - 1) tokens.now.edge) tokens.now.edge) tokens.now.edge tokens.now.list 0) }
+    ensures exact { let inner = value_at (levels - 1) tokens.now.edge in Gives itself result (run (not_closed 125) (pair_of inner tokens.now.edge) tokens.now.edge tokens.now.list 0) }
 {
     let mut list = PairList::new(alloc);
     let mut n = 0;

@@ -1,6 +1,6 @@
 //! The keywords of the IDL.
 ghost use Rattle.std.specs.Prelude.{◌≡◌};
-ghost use Rattle.idl_parser.specs.Words.{keyword_of, base_of, type_word_of, member_word_of, header_word_of, definition_word_of};
+ghost use Rattle.idl_parser.specs.Words.{keyword_of, base_of, integer_of, other_base_of, type_word_of, member_word_of, header_word_of, definition_word_of};
 
 use idl_document::BaseWord;
 
@@ -55,11 +55,20 @@ pub(crate) fn keyword_of(word: &[u8]) -> Option<Keyword>
 fn base_of(word: &[u8]) -> Option<BaseWord>
     ensures { result ≡ base_of word.now }
 {
-    if word == b"bool".as_slice() {
-        Some(BaseWord::Bool)
-    } else if word == b"byte".as_slice() {
+    if let Some(integer) = integer_of(word) {
+        return Some(integer);
+    }
+    other_base_of(word)
+}
+
+// The words of whole numbers.
+#[tactic(auto, unfolding(crate::specs::Words::integer_of))]
+fn integer_of(word: &[u8]) -> Option<BaseWord>
+    ensures { result ≡ integer_of word.now }
+{
+    if word == b"i8".as_slice() {
         Some(BaseWord::I8)
-    } else if word == b"i8".as_slice() {
+    } else if word == b"byte".as_slice() {
         Some(BaseWord::I8)
     } else if word == b"i16".as_slice() {
         Some(BaseWord::I16)
@@ -67,6 +76,18 @@ fn base_of(word: &[u8]) -> Option<BaseWord>
         Some(BaseWord::I32)
     } else if word == b"i64".as_slice() {
         Some(BaseWord::I64)
+    } else {
+        None
+    }
+}
+
+// The words of all other types without parts.
+#[tactic(auto, unfolding(crate::specs::Words::other_base_of))]
+fn other_base_of(word: &[u8]) -> Option<BaseWord>
+    ensures { result ≡ other_base_of word.now }
+{
+    if word == b"bool".as_slice() {
+        Some(BaseWord::Bool)
     } else if word == b"double".as_slice() {
         Some(BaseWord::Double)
     } else if word == b"string".as_slice() {
