@@ -6,6 +6,8 @@ use Rattle.idl_document.specs.declared.document.Name.{Name}
 use Rattle.idl_parser.specs.declared.fault.Fault.TheVariants as faults
 use Rattle.idl_parser.specs.declared.fault.ParseError.{ParseError}
 use Rattle.idl_parser.specs.declared.fault.ParseError.TheVariants as errors
+use Rattle.idl_parser.specs.declared.fault.Stop.{Stop}
+use Rattle.idl_parser.specs.declared.fault.Stop.TheVariants as stops
 use Rattle.idl_parser.specs.declared.tokens.Lexeme.{Lexeme}
 use Rattle.idl_parser.specs.declared.tokens.Lexeme.TheVariants as lexemes
 use Rattle.idl_parser.specs.declared.words.Keyword.TheVariants as keywords
@@ -76,6 +78,12 @@ abbrev pub as_parsed : Scan DocumentTree → Parsed
 as_parsed (Ok x) = Ok x.0
 as_parsed (Err (faults.Syntax at)) = Err (errors.Syntax at)
 as_parsed (Err (faults.Nested at)) = Err (errors.Nested at)
+
+-- what is told of why nothing was read
+abbrev pub told : Stop → ParseError
+told (stops.Fault (faults.Syntax at)) = errors.Syntax at
+told (stops.Fault (faults.Nested at)) = errors.Nested at
+told stops.OutOfMemory = errors.OutOfMemory
 
 -- a lexical fault goes before all others
 abbrev pub parsed_by : List ℕ → Read → Parsed

@@ -1,5 +1,6 @@
 //! The fields of a struct, of the arguments of a method or of what it throws.
-ghost use Rattle.std.specs.Prelude.{◌≡◌, ◌++◌, ◌∷◌, [], ◌<◌, ◌^◌, IfOk, IfSome, IsTrue, OnOk, is_some, length, pos, codes};
+ghost use Rattle.std.specs.Prelude.{◌≡◌, ◌++◌, ◌∷◌, [], ◌<◌, ◌^◌, IfOk, OnOk, SomeIff, FitsSigned, length, pos, codes};
+ghost use Rattle.std.specs.Int.{w16};
 ghost use Rattle.idl_document.specs.Trees.{field_tree, field_trees, type_tree};
 ghost use Rattle.idl_schema.specs.Fields.{field_of, need_of, fields_from, success, with_fields_types, with_returns_types};
 ghost use Rattle.idl_schema.specs.Numbers.{option_tree};
@@ -69,12 +70,14 @@ fn push(list: &mut FieldList, id: i64, name: Text, ty: Ty, need: Need) -> Result
     }
 }
 
-// An id of 16 bits.
+// An id that has 16 bits.
 fn short_id(id: i64) -> Option<i16>
-    ensures some { IfSome result (λ short. short ≡ id) }
-    ensures all { SFits w16 id → IsTrue (is_some result) }
+    ensures { SomeIff result (FitsSigned w16 id) id }
 {
-    i16::try_from(id).ok()
+    match i16::try_from(id) {
+        Ok(short) => Some(short),
+        Err(_) => None,
+    }
 }
 
 /// The field of a result, where there is one. The parts of its type are added.

@@ -1,5 +1,6 @@
 //! The schema of the files of an IDL.
-ghost use Rattle.std.specs.Prelude.{◌≡◌, ◌<◌, ◌^◌, IfOk, OnOk, length, map};
+ghost use Rattle.std.specs.Prelude.{◌≡◌, ◌<◌, ◌^◌, IfOk, OnOk, SomeIff, FitsSigned, length, map};
+ghost use Rattle.std.specs.Int.{w32};
 ghost use Rattle.idl_document.specs.Trees.{definition_tree, definition_trees, function_trees};
 ghost use Rattle.idl_rules.specs.Values.{member_values};
 ghost use Rattle.idl_names.specs.Files.{file_trees};
@@ -173,13 +174,23 @@ fn values(alloc: Global, members: &[Member]) -> Result<Vec<i32>, OutOfMemory>
     for member in members {
         let value = member_value(next, member);
         // A number with more than 32 bits is none that the rules allow.
-        let Ok(short) = i32::try_from(value) else {
+        let Some(short) = short_value(value) else {
             return Err(OutOfMemory);
         };
         values.push(short)?;
         next = number_after(value);
     }
     Ok(values)
+}
+
+// The number of an enum's member that has 32 bits.
+fn short_value(value: i64) -> Option<i32>
+    ensures { SomeIff result (FitsSigned w32 value) value }
+{
+    match i32::try_from(value) {
+        Ok(short) => Some(short),
+        Err(_) => None,
+    }
 }
 
 // The name of a service in the root file, where it has one.
