@@ -1,4 +1,4 @@
--- The course of a value: the names in it that reference for constants, in order, up to the first thing that is refused.
+-- The course of a value: the names in it that stand for constants, in order, up to the first thing that is refused.
 use Rattle.std.specs.Prelude.{ℕ, List, [], ◌∷◌, Result, Ok, Err}
 use Rattle.idl_document.specs.Item.{ValueItem, whole, double, literal, named, list_begin, list_end, map_begin, map_end}
 use Rattle.idl_names.specs.declared.documents.Spot.{Spot}

@@ -1,4 +1,4 @@
--- What may reference where a value of a type is asked for.
+-- What may stand where a value of a type is asked for.
 use Rattle.std.specs.Prelude.{ℕ, ℤ, pos, negsuc, ◌+◌, ◌+ℤ◌, ◌==◌, List, [], ◌∷◌, take, drop, Option, Some, None, Bool, true, false, ◌||◌, ◌&&◌, is_some, if◌then◌else◌, int_lt, nat_lt, nat_eq, codes}
 use Rattle.std.specs.Cmp.Lexicographic.{pointwise}
 use Rattle.idl_document.specs.declared.document.BaseWord.{BaseWord}

@@ -1,4 +1,4 @@
--- What a written type means: typedefs reference for their targets, and the names of enums and structs for these.
+-- What a written type means: typedefs stand for their targets, and the names of enums and structs for these.
 use Rattle.std.specs.Prelude.{ℕ, zero, suc, ◌<◌, List, Option, Some, None, slice_get, option_and_then}
 use Rattle.idl_document.specs.declared.document.BaseWord.{BaseWord}
 use Rattle.idl_document.specs.Trees.{DefinitionTree, typedef_of, enum_of, struct_of, TypeTree, base_at, named_at, map_at, set_at, list_at, type_tree}

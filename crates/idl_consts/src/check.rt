@@ -185,7 +185,7 @@ fn value_fault<'d>(
     names_fault(alloc, view, known, survey.references.as_slice(), survey.fault)
 }
 
-/// The first of the names through which something is refused, or the fault that references behind them.
+/// The first of the names through which something is refused, or the fault that stands behind them.
 fn names_fault<'d>(
     alloc: Global,
     view: &View<'_, 'd>,

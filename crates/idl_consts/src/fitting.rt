@@ -1,4 +1,4 @@
-//! What may reference where a value of a type is asked for.
+//! What may stand where a value of a type is asked for.
 ghost use Rattle.std.specs.Prelude.{◌≡◌, ℤ, List, if◌then◌else◌};
 ghost use Rattle.idl_names.specs.Files.{FileTree};
 ghost use Rattle.idl_consts.specs.Fitting.{in_range, integer_answer, number_answer, whole_answer, double_answer, literal_answer, is_hex, fits_letter, fits_template, is_uuid, is_truth, truth_answer, is_own_member, same_spot, member_answer, constant_answer, named_answer};
@@ -14,7 +14,7 @@ use crate::view::View;
 use idl_names::{Scope, Spot};
 use idl_document::BaseWord;
 
-/// Whether a value fits, is refused, or is a name that references for a constant's value.
+/// Whether a value fits, is refused, or is a name that stands for a constant's value.
 #[derive(Clone, Copy)]
 pub enum Answer {
     Fits,

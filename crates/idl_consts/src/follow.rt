@@ -39,7 +39,7 @@ pub struct Trail<'d> {
     pub top: Frame<'d>,
 }
 
-/// What references next in a value.
+/// What stands next in a value.
 #[derive(Clone, Copy)]
 pub enum Upcoming<'d> {
     Name(ConstRef<'d>),
@@ -47,7 +47,7 @@ pub enum Upcoming<'d> {
     Nothing,
 }
 
-/// The row of a name that references for a constant, or None where nothing is refused through it.
+/// The row of a name that stands for a constant, or None where nothing is refused through it.
 ///
 /// The names are followed in a loop, however long the chain is. `OutOfMemory` is the answer too where more names were
 /// followed than memory could hold.
@@ -80,7 +80,7 @@ fn begin<'d>(alloc: Global, view: &View<'_, 'd>, name: ConstRef<'d>) -> Result<T
     })
 }
 
-/// The value of the constant that a name references for.
+/// The value of the constant that a name stands for.
 fn open_frame<'d>(
     alloc: Global,
     view: &View<'_, 'd>,
@@ -141,7 +141,7 @@ fn go_on<'d>(
     }
 }
 
-/// Takes what references next from a frame.
+/// Takes what stands next from a frame.
 fn take_next<'d>(frame: &mut Frame<'d>) -> Upcoming<'d>
     ensures { (d : List FileTree) → IsNext d frame.old result frame.new }
 {
@@ -170,7 +170,7 @@ fn fault_next<'d>(fault: Option<(usize, ConstRow)>) -> Upcoming<'d>
     }
 }
 
-/// Meets a name that references in the innermost value: what is known of it, or else it is followed.
+/// Meets a name that stands in the innermost value: what is known of it, or else it is followed.
 fn meet_name<'d>(
     alloc: Global,
     view: &View<'_, 'd>,
@@ -196,7 +196,7 @@ fn met(row: Option<ConstRow>) -> Option<Option<ConstRow>>
     }
 }
 
-/// Follows a name that references in the innermost value.
+/// Follows a name that stands in the innermost value.
 fn follow_name<'d>(
     alloc: Global,
     view: &View<'_, 'd>,
@@ -292,7 +292,7 @@ fn leave(trail: &mut Trail<'_>) -> Option<Option<ConstRow>>
     }
 }
 
-/// Whether a name references for a constant whose value waits for it already, where the same type is asked for.
+/// Whether a name stands for a constant whose value waits for it already, where the same type is asked for.
 ///
 /// Only the value half way up is compared. Where names lead in a circle, it is found so before twice as many values wait as
 /// there are different ones among them; that it is found is not proved. If it were not, names would be followed until memory

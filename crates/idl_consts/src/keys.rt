@@ -72,7 +72,7 @@ fn field_named<'d>(fields: &'d [FieldDecl], word: &[u8]) -> Option<&'d TypeExpr>
     None
 }
 
-/// A name references for its constant's literal.
+/// A name stands for its constant's literal.
 #[tactic(auto, unfolding(crate::specs::Keys::key_by_name))]
 fn key_by_name<'d>(
     view: &View<'_, 'd>,
@@ -115,7 +115,7 @@ pub enum Written<'d> {
     Other,
 }
 
-/// The literal that the constant at a spot references for, through names too.
+/// The literal that the constant at a spot stands for, through names too.
 fn literal_at<'d>(view: &View<'_, 'd>, spot: Spot) -> Option<&'d [u8]>
     ensures { option_copied result ≡ literal_at (files_of view.now) (definition_count (files_of view.now)) spot }
 {
@@ -152,7 +152,7 @@ fn written_value(value: &ValueExpr) -> Written<'_>
     }
 }
 
-/// The constant that a name references for, where a name may still be followed.
+/// The constant that a name stands for, where a name may still be followed.
 fn constant_of(view: &View<'_, '_>, left: usize, file: u32, word: &[u8]) -> Option<Spot>
     ensures literal { let d = files_of view.now in spot_literal d (named_literal d (left - 1)) result ≡ named_literal d left file word.now }
     ensures some { IfSome result (λ s. 0 < left) }

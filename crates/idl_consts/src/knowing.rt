@@ -38,7 +38,7 @@ impl Known {
         })
     }
 
-    /// Where a spot references in the list.
+    /// Where a spot stands in the list.
     fn place(&self, spot: Spot) -> usize {
         match self.starts.as_slice().get(spot.file as usize) {
             Some(start) => start.saturating_add(spot.definition as usize),

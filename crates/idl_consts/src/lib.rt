@@ -1,7 +1,7 @@
 //! Whether the values of an IDL fit their types, after the Apache Thrift IDL: constants, and the presets of fields, of
 //! arguments and of what is thrown.
 //!
-//! The course of a value is the names in it that reference for constants, up to the first thing that is refused. A name references
+//! The course of a value is the names in it that stand for constants, up to the first thing that is refused. A name stands
 //! for its constant's value, judged for the type at the name's place; names that lead on for ever are a cycle. Names are
 //! followed in a loop, and what is found through a constant is kept, so that each is looked through once.
 #![tactic(auto)]

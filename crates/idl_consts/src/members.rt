@@ -59,7 +59,7 @@ fn after_number(number: i64) -> i64
     }
 }
 
-/// A member of any enum, and the enum: the enum's name references before the last dot.
+/// A member of any enum, and the enum: the enum's name stands before the last dot.
 #[tactic(auto, unfolding(crate::specs::Fitting::any_member))]
 pub fn any_member(view: &View<'_, '_>, file: u32, word: &[u8]) -> Option<(Spot, i64)>
     ensures { result ≡ any_member (files_of view.now) file word.now }

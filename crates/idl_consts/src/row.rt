@@ -7,7 +7,7 @@ use std::fmt;
 use std::fmt::{Debug, Formatter, Write};
 use thiserror::Error;
 
-/// Why a constant or a preset of an IDL is refused. At one offset the row that references first here is told.
+/// Why a constant or a preset of an IDL is refused. At one offset the row that stands first here is told.
 #[derive(Clone, Copy, Debug)]
 pub enum ConstRow {
     /// The value's form never fits the type.
@@ -18,7 +18,7 @@ pub enum ConstRow {
     UnknownConstant,
     /// A key names no field of the struct.
     UnknownField,
-    /// The value of the constant that a name references for leads back to itself.
+    /// The value of the constant that a name stands for leads back to itself.
     CycleOfConstants,
 }
 

@@ -21,7 +21,7 @@ pub fn same_ref(a: TypeRef<'_>, b: TypeRef<'_>) -> bool
     same_word(a.ty, b.ty) || (a.file == b.file && a.left == b.left && same_type(a.ty, b.ty))
 }
 
-/// Whether two types are one: by their words, or by what their typedefs reference for.
+/// Whether two types are one: by their words, or by what their typedefs stand for.
 ///
 /// A yes is sure. Types that are one may get a no, as where their parts are one by typedefs alone: only time rests on it.
 pub fn same_meaning(view: &View<'_, '_>, a: TypeRef<'_>, b: TypeRef<'_>) -> bool

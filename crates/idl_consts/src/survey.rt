@@ -1,4 +1,4 @@
-//! The survey of one value: the names in it that reference for constants, up to the first thing that is refused.
+//! The survey of one value: the names in it that stand for constants, up to the first thing that is refused.
 ghost use Rattle.std.specs.Prelude.{◌≡◌, List, IfOk, [], ◌∷◌};
 ghost use Rattle.idl_document.specs.Items.{items_of_value};
 ghost use Rattle.idl_names.specs.Files.{FileTree};
@@ -18,7 +18,7 @@ use idl_names::Spot;
 use idl_document::ValueExpr;
 use std::alloc::Global;
 
-/// A name that references for a constant where a value of a type is asked for.
+/// A name that stands for a constant where a value of a type is asked for.
 #[derive(Clone, Copy)]
 pub struct ConstRef<'d> {
     pub at: usize,

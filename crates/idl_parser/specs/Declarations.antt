@@ -15,6 +15,7 @@ use Rattle.idl_parser.specs.declared.words.Keyword.TheVariants as keywords
 use Rattle.idl_parser.specs.Fields.{body_end_at, fields_in, name_at, noted_name_at, path_at, tail_at}
 use Rattle.idl_parser.specs.Functions.{functions_in}
 use Rattle.idl_parser.specs.Lexemes.{Scan, lexeme_of, offset_of, syntax_at, onward, mark_at, stands, sep_len}
+use Rattle.idl_parser.specs.Marks.{curly_close, curly_open, equals_mark, most_levels}
 use Rattle.idl_parser.specs.Notes.{notes_at, not_closed}
 use Rattle.idl_parser.specs.Run.{run, listed}
 use Rattle.idl_parser.specs.Seen.{Seen}
@@ -30,7 +31,7 @@ unfoldable pub int_at : ℕ → List Seen → Scan ℤ
 int_at edge tokens = int_by (lexeme_of tokens) edge tokens
 
 unfoldable pub number_at : ℕ → List Seen → Scan (Option ℤ)
-number_at edge tokens = if stands 61 tokens then (onward 1 (int_at edge (drop 1 tokens)) λ z n. Ok (Some z, n)) else Ok (None, 0)
+number_at edge tokens = if stands equals_mark tokens then (onward 1 (int_at edge (drop 1 tokens)) λ z n. Ok (Some z, n)) else Ok (None, 0)
 
 unfoldable pub member_at : ℕ → List Seen → Scan Member
 member_at edge tokens =
@@ -45,8 +46,8 @@ one_member edge tokens = listed (member_at edge tokens)
 -- members in curly brackets, and notes
 unfoldable pub members_in : ℕ → List Seen → Scan (List Member)
 members_in edge tokens =
-    onward 0 (mark_at 123 edge tokens) λ u n.
-    onward n (run (not_closed 125) (one_member edge) edge (drop n tokens) 0) λ members n.
+    onward 0 (mark_at curly_open edge tokens) λ u n.
+    onward n (run (not_closed curly_close) (one_member edge) edge (drop n tokens) 0) λ members n.
     onward n (body_end_at edge (drop n tokens)) λ u n.
     Ok (members, n)
 
@@ -69,8 +70,8 @@ named_value_tree c = record { name = c.name; value = items_of_value c.value }
 -- `=` and a value
 unfoldable pub equal_value_at : ℕ → List Seen → Scan (List ValueItem)
 equal_value_at edge tokens =
-    onward 0 (mark_at 61 edge tokens) λ u n.
-    onward n (value_at 64 edge (drop n tokens)) λ value n.
+    onward 0 (mark_at equals_mark edge tokens) λ u n.
+    onward n (value_at most_levels edge (drop n tokens)) λ value n.
     Ok (value, n)
 
 unfoldable pub named_value_at : ℕ → List Seen → Scan NamedValueTree
@@ -81,13 +82,13 @@ named_value_at edge tokens =
 
 unfoldable pub const_at : ℕ → List Seen → Scan DefinitionTree
 const_at edge tokens =
-    onward 1 (type_at 64 edge (drop 1 tokens)) λ ty n.
+    onward 1 (type_at most_levels edge (drop 1 tokens)) λ ty n.
     onward n (named_value_at edge (drop n tokens)) λ named n.
     Ok (const_of named.name ty named.value, n)
 
 unfoldable pub typedef_at : ℕ → List Seen → Scan DefinitionTree
 typedef_at edge tokens =
-    onward 1 (type_at 64 edge (drop 1 tokens)) λ ty n.
+    onward 1 (type_at most_levels edge (drop 1 tokens)) λ ty n.
     onward n (noted_name_at edge (drop n tokens)) λ name n.
     Ok (typedef_of name ty, n)
 
@@ -100,7 +101,7 @@ enum_at edge tokens =
 -- fields in curly brackets, and notes
 unfoldable pub struct_body_at : ℕ → List Seen → Scan (List FieldTree)
 struct_body_at edge tokens =
-    onward 0 (fields_in 123 125 edge tokens) λ fields n.
+    onward 0 (fields_in curly_open curly_close edge tokens) λ fields n.
     onward n (notes_at edge (drop n tokens)) λ u n.
     Ok (fields, n)
 

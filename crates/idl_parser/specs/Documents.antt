@@ -15,6 +15,7 @@ use Rattle.idl_parser.specs.Cpp.{literal_at, id_at}
 use Rattle.idl_parser.specs.Declarations.{one_definition}
 use Rattle.idl_document.specs.Trees.{DocumentTree, document_tree}
 use Rattle.idl_parser.specs.Lexemes.{Scan, lexeme_of, offset_of, word_of, syntax_at, onward, is_left, stands, sep_len}
+use Rattle.idl_parser.specs.Marks.{star_mark}
 use Rattle.idl_parser.specs.Notes.{notes_at}
 use Rattle.idl_parser.specs.Run.{run}
 use Rattle.idl_parser.specs.Seeing.{seen_all}
@@ -30,20 +31,20 @@ include_at edge tokens = include_by (lexeme_of tokens) edge tokens
 
 -- a star, or a name
 unfoldable pub scope_at : ℕ → List Seen → Scan (Unit {0})
-scope_at edge tokens = if stands 42 tokens then Ok (tt, 1) else id_at edge tokens
+scope_at edge tokens = if stands star_mark tokens then Ok (tt, 1) else id_at edge tokens
 
 -- behind the word `namespace`
-unfoldable pub namespace_at : ℕ → List Seen → Scan (List Name)
+unfoldable pub namespace_at : ℕ → List Seen → Scan (Unit {0})
 namespace_at edge tokens =
     onward 1 (scope_at edge (drop 1 tokens)) λ u n.
     onward n (id_at edge (drop n tokens)) λ u n.
     onward n (notes_at edge (drop n tokens)) λ u n.
-    Ok ([], n)
+    Ok (tt, n)
 
 abbrev pub header_by : Lexeme → ℕ → List Seen → Scan (List Name)
 header_by (lexemes.Keyword keywords.Include) edge tokens = onward 1 (include_at edge (drop 1 tokens)) λ path n. Ok (path, n)
 header_by (lexemes.Keyword keywords.CppInclude) edge tokens = onward 1 (literal_at edge (drop 1 tokens)) λ u n. Ok ([], n)
-header_by (lexemes.Keyword keywords.Namespace) edge tokens = namespace_at edge tokens
+header_by (lexemes.Keyword keywords.Namespace) edge tokens = onward 0 (namespace_at edge tokens) λ u n. Ok ([], n)
 header_by lexeme edge tokens = syntax_at edge tokens
 
 unfoldable pub told_at : ℕ → List Seen → Scan (List Name)

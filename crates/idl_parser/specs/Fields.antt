@@ -11,6 +11,7 @@ use Rattle.idl_parser.specs.declared.words.Keyword.TheVariants as keywords
 use Rattle.idl_document.specs.Item.{ValueItem}
 use Rattle.idl_document.specs.Items.{items_of_value}
 use Rattle.idl_parser.specs.Lexemes.{Scan, lexeme_of, offset_of, word_of, syntax_at, onward, mark_at, stands, sep_len}
+use Rattle.idl_parser.specs.Marks.{ampersand_mark, colon_mark, curly_close, dot_byte, equals_mark, most_levels}
 use Rattle.idl_parser.specs.Notes.{notes_at, not_closed}
 use Rattle.idl_parser.specs.Run.{run, listed}
 use Rattle.idl_parser.specs.Seen.{Seen}
@@ -19,7 +20,7 @@ use Rattle.idl_parser.specs.Types.{type_at}
 use Rattle.idl_parser.specs.Values.{value_at}
 
 abbrev pub has_dot : List ℕ → Bool
-has_dot word = list_any (λ b. b == 46) word
+has_dot word = list_any (λ b. b == dot_byte) word
 
 abbrev pub name_by : Lexeme → ℕ → List Seen → Scan Name
 name_by lexemes.Name edge tokens =
@@ -46,7 +47,7 @@ unfoldable pub path_at : ℕ → List Seen → Scan Name
 path_at edge tokens = path_by (lexeme_of tokens) edge tokens
 
 abbrev pub given_by : Lexeme → ℕ → List Seen → Scan (Option (ℕ × ℤ))
-given_by (lexemes.Int z) edge tokens = onward 1 (mark_at 58 edge (drop 1 tokens)) λ u n. Ok (Some (offset_of edge tokens, z), n)
+given_by (lexemes.Int z) edge tokens = onward 1 (mark_at colon_mark edge (drop 1 tokens)) λ u n. Ok (Some (offset_of edge tokens, z), n)
 given_by lexeme edge tokens = Ok (None, 0)
 
 -- an id with its offset, where one is given
@@ -64,12 +65,12 @@ asked_at tokens = asked_by (lexeme_of tokens)
 -- a type, and a mark & where it stands
 unfoldable pub typed_at : ℕ → List Seen → Scan TypeTree
 typed_at edge tokens =
-    onward 0 (type_at 64 edge tokens) λ ty n.
-    Ok (ty, n + (if stands 38 (drop n tokens) then 1 else 0))
+    onward 0 (type_at most_levels edge tokens) λ ty n.
+    Ok (ty, n + (if stands ampersand_mark (drop n tokens) then 1 else 0))
 
 unfoldable pub preset_at : ℕ → List Seen → Scan (Option (List ValueItem))
 preset_at edge tokens =
-    if stands 61 tokens then (onward 1 (value_at 64 edge (drop 1 tokens)) λ value n. Ok (Some value, n)) else Ok (None, 0)
+    if stands equals_mark tokens then (onward 1 (value_at most_levels edge (drop 1 tokens)) λ value n. Ok (Some value, n)) else Ok (None, 0)
 
 -- notes and a separator, where they stand
 unfoldable pub tail_at : ℕ → List Seen → Scan (Unit {0})
@@ -78,7 +79,7 @@ tail_at edge tokens = onward 0 (notes_at edge tokens) λ u n. Ok (tt, n + sep_le
 -- the curly bracket that closes the body of a declaration, and notes
 unfoldable pub body_end_at : ℕ → List Seen → Scan (Unit {0})
 body_end_at edge tokens =
-    onward 0 (mark_at 125 edge tokens) λ u n.
+    onward 0 (mark_at curly_close edge tokens) λ u n.
     onward n (notes_at edge (drop n tokens)) λ u n.
     Ok (tt, n)
 

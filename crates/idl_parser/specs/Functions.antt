@@ -9,6 +9,7 @@ use Rattle.idl_parser.specs.declared.tokens.Lexeme.TheVariants as lexemes
 use Rattle.idl_parser.specs.declared.words.Keyword.TheVariants as keywords
 use Rattle.idl_parser.specs.Fields.{body_end_at, fields_in, name_at, tail_at}
 use Rattle.idl_parser.specs.Lexemes.{Scan, lexeme_of, offset_of, onward, mark_at}
+use Rattle.idl_parser.specs.Marks.{curly_close, curly_open, most_levels, round_close, round_open}
 use Rattle.idl_parser.specs.Notes.{not_closed}
 use Rattle.idl_parser.specs.Run.{run, listed}
 use Rattle.idl_parser.specs.Seen.{Seen}
@@ -24,14 +25,14 @@ oneway_at edge tokens = oneway_by (lexeme_of tokens) edge tokens
 
 abbrev pub returns_by : Lexeme → ℕ → List Seen → Scan (Option TypeTree)
 returns_by (lexemes.Keyword keywords.Void) edge tokens = Ok (None, 1)
-returns_by lexeme edge tokens = onward 0 (type_at 64 edge tokens) λ ty n. Ok (Some ty, n)
+returns_by lexeme edge tokens = onward 0 (type_at most_levels edge tokens) λ ty n. Ok (Some ty, n)
 
 -- a type, or `void`
 unfoldable pub returns_at : ℕ → List Seen → Scan (Option TypeTree)
 returns_at edge tokens = returns_by (lexeme_of tokens) edge tokens
 
 abbrev pub throws_by : Lexeme → ℕ → List Seen → Scan (List FieldTree)
-throws_by (lexemes.Keyword keywords.Throws) edge tokens = onward 1 (fields_in 40 41 edge (drop 1 tokens)) λ fields n. Ok (fields, n)
+throws_by (lexemes.Keyword keywords.Throws) edge tokens = onward 1 (fields_in round_open round_close edge (drop 1 tokens)) λ fields n. Ok (fields, n)
 throws_by lexeme edge tokens = Ok ([], 0)
 
 -- `throws` and fields in round brackets, where that word stands
@@ -55,7 +56,7 @@ field_lists_tree l = record { args = field_trees l.args; throws = field_trees l.
 
 unfoldable pub field_lists_at : ℕ → List Seen → Scan FieldListsTree
 field_lists_at edge tokens =
-    onward 0 (fields_in 40 41 edge tokens) λ args n.
+    onward 0 (fields_in round_open round_close edge tokens) λ args n.
     onward n (last_throws_at edge (drop n tokens)) λ throws n.
     Ok (record { args = args; throws = throws }, n)
 
@@ -86,7 +87,7 @@ one_function edge tokens = listed (function_at edge tokens)
 -- methods in curly brackets, and notes
 unfoldable pub functions_in : ℕ → List Seen → Scan (List FunctionTree)
 functions_in edge tokens =
-    onward 0 (mark_at 123 edge tokens) λ u n.
-    onward n (run (not_closed 125) (one_function edge) edge (drop n tokens) 0) λ functions n.
+    onward 0 (mark_at curly_open edge tokens) λ u n.
+    onward n (run (not_closed curly_close) (one_function edge) edge (drop n tokens) 0) λ functions n.
     onward n (body_end_at edge (drop n tokens)) λ u n.
     Ok (functions, n)

@@ -6,6 +6,7 @@ pub mod Fields
 pub mod Functions
 pub mod Grammar
 pub mod Lexemes
+pub mod Marks
 pub mod Notes
 pub mod Run
 pub mod Seeing

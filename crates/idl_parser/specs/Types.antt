@@ -5,6 +5,7 @@ use Rattle.idl_parser.specs.declared.tokens.Lexeme.{Lexeme}
 use Rattle.idl_parser.specs.declared.tokens.Lexeme.TheVariants as lexemes
 use Rattle.idl_parser.specs.declared.words.Keyword.TheVariants as keywords
 use Rattle.idl_parser.specs.Lexemes.{Scan, lexeme_of, offset_of, word_of, syntax_at, onward, mark_at}
+use Rattle.idl_parser.specs.Marks.{angle_close, angle_open, comma_mark}
 use Rattle.idl_parser.specs.Notes.{notes_at}
 use Rattle.idl_parser.specs.Cpp.{cpp_at}
 use Rattle.idl_parser.specs.Seen.{Seen}
@@ -24,22 +25,22 @@ type_until closing inner edge tokens =
 unfoldable pub opening_at : ℕ → List Seen → Scan (Unit {0})
 opening_at edge tokens =
     onward 1 (cpp_at edge (drop 1 tokens)) λ u n.
-    onward n (mark_at 60 edge (drop n tokens)) λ u n.
+    onward n (mark_at angle_open edge (drop n tokens)) λ u n.
     Ok (tt, n)
 
 -- behind the word `map`, for an inner type that is read so
 unfoldable pub map_of : Inner → ℕ → List Seen → Scan TypeTree
 map_of inner edge tokens =
     onward 0 (opening_at edge tokens) λ u n.
-    onward n (type_until 44 inner edge (drop n tokens)) λ key n.
-    onward n (type_until 62 inner edge (drop n tokens)) λ value n.
+    onward n (type_until comma_mark inner edge (drop n tokens)) λ key n.
+    onward n (type_until angle_close inner edge (drop n tokens)) λ value n.
     Ok (map_at (offset_of edge tokens) key value, n)
 
 -- behind the word `set` or `list`, up to the closing mark
 unfoldable pub element_of : Inner → ℕ → List Seen → Scan TypeTree
 element_of inner edge tokens =
     onward 0 (opening_at edge tokens) λ u n.
-    onward n (type_until 62 inner edge (drop n tokens)) λ element n.
+    onward n (type_until angle_close inner edge (drop n tokens)) λ element n.
     Ok (element, n)
 
 -- behind the word `set`

@@ -14,7 +14,7 @@ use crate::members::members_in;
 use crate::names::{name_at, noted_name_at, path_at};
 use crate::skipped::notes_at;
 use crate::tokens::{Lexeme, Tokens};
-use crate::types::type_at;
+use crate::types::{MOST_LEVELS, type_at};
 use crate::values::value_at;
 use crate::words::Keyword;
 use idl_document::{Definition, FieldDecl, Function, Kin, Name, Seq, ValueExpr};
@@ -92,7 +92,7 @@ fn const_at(alloc: Global, tokens: &Tokens<'_>) -> Result<(Definition, usize), S
     ensures within { IsWithin (length tokens.now.list) result }
     ensures exact { Gives definition_tree result (const_at tokens.now.edge tokens.now.list) }
 {
-    let (ty, used) = type_at(alloc, &tokens.rest(1), 64)?;
+    let (ty, used) = type_at(alloc, &tokens.rest(1), MOST_LEVELS)?;
     let n = 1 + used;
     let (named, used) = named_value_at(alloc, &tokens.rest(n))?;
     Ok((Definition::Const(named.name, ty, named.value), n + used))
@@ -122,7 +122,7 @@ fn equal_value_at(alloc: Global, tokens: &Tokens<'_>) -> Result<(ValueExpr, usiz
     ensures exact { Gives items_of_value result (equal_value_at tokens.now.edge tokens.now.list) }
 {
     let (_, n) = mark_at(tokens, b'=')?;
-    let (value, used) = value_at(alloc, &tokens.rest(n), 64)?;
+    let (value, used) = value_at(alloc, &tokens.rest(n), MOST_LEVELS)?;
     Ok((value, n + used))
 }
 
@@ -132,7 +132,7 @@ fn typedef_at(alloc: Global, tokens: &Tokens<'_>) -> Result<(Definition, usize),
     ensures within { IsWithin (length tokens.now.list) result }
     ensures exact { Gives definition_tree result (typedef_at tokens.now.edge tokens.now.list) }
 {
-    let (ty, used) = type_at(alloc, &tokens.rest(1), 64)?;
+    let (ty, used) = type_at(alloc, &tokens.rest(1), MOST_LEVELS)?;
     let n = 1 + used;
     let (name, used) = noted_name_at(alloc, &tokens.rest(n))?;
     Ok((Definition::Typedef(name, ty), n + used))

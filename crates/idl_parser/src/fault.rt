@@ -21,11 +21,21 @@ pub enum Fault {
     Nested(usize),
 }
 
-/// Why nothing was read.
+/// Why nothing was read, where memory is taken too.
 #[derive(Clone, Copy)]
 pub enum Stop {
     Fault(Fault),
     OutOfMemory,
+}
+
+impl From<Fault> for Stop {
+    ghost use Rattle.std.specs.Prelude.{◌≡◌};
+
+    ghost from_gives = { λ fault e. e ≡ Stop.Fault fault };
+
+    fn from(fault: Fault) -> Stop {
+        Stop::Fault(fault)
+    }
 }
 
 impl From<OutOfMemory> for Stop {

@@ -3,15 +3,15 @@ ghost use Rattle.std.specs.Prelude.{◌≡◌, ◌≤◌, length, option_map, So
 ghost use Rattle.idl_parser.specs.Fields.{given_at, asked_at, typed_at, preset_at, last_preset_at, named_preset_at, named_preset_tree, field_at, fields_in, one_field};
 ghost use Rattle.idl_document.specs.Trees.{field_tree, field_trees, type_tree};
 ghost use Rattle.idl_document.specs.Items.{items_of_value};
-ghost use Rattle.idl_parser.specs.Lexemes.{Gives, IsWithin, IsUpTo, itself};
+ghost use Rattle.idl_parser.specs.Lexemes.{Gives, IsWithin, IsUpTo};
 ghost use Rattle.idl_parser.specs.Notes.{not_closed};
 ghost use Rattle.idl_parser.specs.Run.{run};
 
-use crate::fault::Stop;
+use crate::fault::{Fault, Stop};
 use crate::marks::mark_at;
 use crate::names::{name_at, tail_at};
 use crate::tokens::{Lexeme, Tokens};
-use crate::types::type_at;
+use crate::types::{MOST_LEVELS, type_at};
 use crate::values::value_at;
 use crate::words::Keyword;
 use idl_document::{Asked, FieldDecl, Name, Seq, TypeExpr, ValueExpr};
@@ -69,9 +69,9 @@ fn given_here(at: usize, id: i64) -> Option<(usize, i64)>
 
 // An id with its offset, where one is given.
 #[tactic(auto, unfolding(crate::specs::Fields::given_at))]
-fn given_at(tokens: &Tokens<'_>) -> Result<(Option<(usize, i64)>, usize), Stop>
+fn given_at(tokens: &Tokens<'_>) -> Result<(Option<(usize, i64)>, usize), Fault>
     ensures within { IsUpTo (length tokens.now.list) result }
-    ensures exact { Gives itself result (given_at tokens.now.edge tokens.now.list) }
+    ensures exact { result ≡ given_at tokens.now.edge tokens.now.list }
 {
     match tokens.lexeme() {
         Lexeme::Int(id) => {
@@ -83,9 +83,9 @@ fn given_at(tokens: &Tokens<'_>) -> Result<(Option<(usize, i64)>, usize), Stop>
 }
 
 #[tactic(auto, unfolding(crate::specs::Fields::asked_at))]
-fn asked_at(tokens: &Tokens<'_>) -> Result<(Asked, usize), Stop>
+fn asked_at(tokens: &Tokens<'_>) -> Result<(Asked, usize), Fault>
     ensures within { IsUpTo (length tokens.now.list) result }
-    ensures exact { Gives itself result (asked_at tokens.now.list) }
+    ensures exact { result ≡ asked_at tokens.now.list }
 {
     match tokens.lexeme() {
         Lexeme::Keyword(Keyword::Required) => Ok((Asked::Required, 1)),
@@ -100,7 +100,7 @@ fn typed_at(alloc: Global, tokens: &Tokens<'_>) -> Result<(TypeExpr, usize), Sto
     ensures within { IsWithin (length tokens.now.list) result }
     ensures exact { Gives type_tree result (typed_at tokens.now.edge tokens.now.list) }
 {
-    let (ty, n) = type_at(alloc, tokens, 64)?;
+    let (ty, n) = type_at(alloc, tokens, MOST_LEVELS)?;
     if tokens.rest(n).stands(b'&') {
         return Ok((ty, n + 1));
     }
@@ -115,7 +115,7 @@ fn preset_at(alloc: Global, tokens: &Tokens<'_>) -> Result<(Option<ValueExpr>, u
     if !tokens.stands(b'=') {
         return Ok((None, 0));
     }
-    let (value, used) = value_at(alloc, &tokens.rest(1), 64)?;
+    let (value, used) = value_at(alloc, &tokens.rest(1), MOST_LEVELS)?;
     Ok((Some(value), 1 + used))
 }
 

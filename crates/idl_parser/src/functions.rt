@@ -2,16 +2,17 @@
 ghost use Rattle.std.specs.Prelude.{◌≡◌, ◌≤◌, length, option_map};
 ghost use Rattle.idl_parser.specs.Functions.{oneway_at, returns_at, throws_at, last_throws_at, field_lists_at, field_lists_tree, signature_at, signature_tree, function_at, functions_in, one_function};
 ghost use Rattle.idl_document.specs.Trees.{function_tree, function_trees, field_trees, type_tree};
-ghost use Rattle.idl_parser.specs.Lexemes.{Gives, IsWithin, IsUpTo, itself};
+ghost use Rattle.idl_parser.specs.Lexemes.{Gives, IsWithin, IsUpTo};
+ghost use Rattle.idl_parser.specs.Marks.{curly_close};
 ghost use Rattle.idl_parser.specs.Notes.{not_closed};
 ghost use Rattle.idl_parser.specs.Run.{run};
 
-use crate::fault::Stop;
+use crate::fault::{Fault, Stop};
 use crate::fields::fields_in;
 use crate::marks::mark_at;
 use crate::names::{body_end_at, name_at, tail_at};
 use crate::tokens::{Lexeme, Tokens};
-use crate::types::type_at;
+use crate::types::{MOST_LEVELS, type_at};
 use crate::words::Keyword;
 use idl_document::{FieldDecl, Function, Name, Seq, TypeExpr};
 use std::alloc::Global;
@@ -49,7 +50,7 @@ pub(crate) fn functions_in(
 // Methods as long as the service is not closed.
 fn run_functions(alloc: Global, tokens: &Tokens<'_>) -> Result<(Seq<Function>, usize), Stop>
     ensures within { IsUpTo (length tokens.now.list) result }
-    ensures exact { Gives function_trees result (run (not_closed 125) (one_function tokens.now.edge) tokens.now.edge tokens.now.list 0) }
+    ensures exact { Gives function_trees result (run (not_closed curly_close) (one_function tokens.now.edge) tokens.now.edge tokens.now.list 0) }
 {
     let mut list = Seq::new(alloc);
     let mut n = 0;
@@ -139,9 +140,9 @@ fn last_throws_at(alloc: Global, tokens: &Tokens<'_>) -> Result<(Seq<FieldDecl>,
 
 // The word `oneway` with its offset, where it stands.
 #[tactic(auto, unfolding(crate::specs::Functions::oneway_at))]
-fn oneway_at(tokens: &Tokens<'_>) -> Result<(Option<usize>, usize), Stop>
+fn oneway_at(tokens: &Tokens<'_>) -> Result<(Option<usize>, usize), Fault>
     ensures within { IsUpTo (length tokens.now.list) result }
-    ensures exact { Gives itself result (oneway_at tokens.now.edge tokens.now.list) }
+    ensures exact { result ≡ oneway_at tokens.now.edge tokens.now.list }
 {
     match tokens.lexeme() {
         Lexeme::Keyword(Keyword::Oneway) => Ok((Some(tokens.at()), 1)),
@@ -158,7 +159,7 @@ fn returns_at(alloc: Global, tokens: &Tokens<'_>) -> Result<(Option<TypeExpr>, u
     match tokens.lexeme() {
         Lexeme::Keyword(Keyword::Void) => Ok((None, 1)),
         _ => {
-            let (ty, n) = type_at(alloc, tokens, 64)?;
+            let (ty, n) = type_at(alloc, tokens, MOST_LEVELS)?;
             Ok((Some(ty), n))
         }
     }

@@ -2,6 +2,7 @@
 ghost use Rattle.std.specs.Prelude.{◌≡◌, ◌≤◌, length};
 ghost use Rattle.idl_parser.specs.Declarations.{int_at, number_at, member_at, members_in, one_member};
 ghost use Rattle.idl_parser.specs.Lexemes.{Gives, IsWithin, IsUpTo, itself};
+ghost use Rattle.idl_parser.specs.Marks.{curly_close};
 ghost use Rattle.idl_parser.specs.Notes.{not_closed};
 ghost use Rattle.idl_parser.specs.Run.{run};
 
@@ -28,7 +29,7 @@ pub(crate) fn members_in(alloc: Global, tokens: &Tokens<'_>) -> Result<(Seq<Memb
 // Members as long as the enum is not closed.
 fn run_members(alloc: Global, tokens: &Tokens<'_>) -> Result<(Seq<Member>, usize), Stop>
     ensures within { IsUpTo (length tokens.now.list) result }
-    ensures exact { Gives itself result (run (not_closed 125) (one_member tokens.now.edge) tokens.now.edge tokens.now.list 0) }
+    ensures exact { Gives itself result (run (not_closed curly_close) (one_member tokens.now.edge) tokens.now.edge tokens.now.list 0) }
 {
     let mut list = Seq::new(alloc);
     let mut n = 0;
@@ -67,9 +68,9 @@ fn member(name: Name, value: Option<i64>) -> Member
 
 // `=` and a whole number, where that mark stands.
 #[tactic(auto, unfolding(crate::specs::Declarations::number_at))]
-fn number_at(tokens: &Tokens<'_>) -> Result<(Option<i64>, usize), Stop>
+fn number_at(tokens: &Tokens<'_>) -> Result<(Option<i64>, usize), Fault>
     ensures within { IsUpTo (length tokens.now.list) result }
-    ensures exact { Gives itself result (number_at tokens.now.edge tokens.now.list) }
+    ensures exact { result ≡ number_at tokens.now.edge tokens.now.list }
 {
     if !tokens.stands(b'=') {
         return Ok((None, 0));
@@ -79,12 +80,12 @@ fn number_at(tokens: &Tokens<'_>) -> Result<(Option<i64>, usize), Stop>
 }
 
 #[tactic(auto, unfolding(crate::specs::Declarations::int_at))]
-fn int_at(tokens: &Tokens<'_>) -> Result<(i64, usize), Stop>
+fn int_at(tokens: &Tokens<'_>) -> Result<(i64, usize), Fault>
     ensures within { IsWithin (length tokens.now.list) result }
-    ensures exact { Gives itself result (int_at tokens.now.edge tokens.now.list) }
+    ensures exact { result ≡ int_at tokens.now.edge tokens.now.list }
 {
     match tokens.lexeme() {
         Lexeme::Int(value) => Ok((value, 1)),
-        _ => Err(Stop::Fault(Fault::Syntax(tokens.at()))),
+        _ => Err(Fault::Syntax(tokens.at())),
     }
 }

@@ -66,9 +66,9 @@ pub(crate) fn path_at(alloc: Global, tokens: &Tokens<'_>) -> Result<(Name, usize
 
 /// Notes and a separator, where they stand.
 #[tactic(auto, unfolding(crate::specs::Fields::tail_at))]
-pub(crate) fn tail_at(tokens: &Tokens<'_>) -> Result<((), usize), Stop>
+pub(crate) fn tail_at(tokens: &Tokens<'_>) -> Result<((), usize), Fault>
     ensures within { IsUpTo (length tokens.now.list) result }
-    ensures exact { Gives itself result (tail_at tokens.now.edge tokens.now.list) }
+    ensures exact { result ≡ tail_at tokens.now.edge tokens.now.list }
 {
     let (_, n) = notes_at(tokens)?;
     let more = sep_len(&tokens.rest(n));
@@ -77,9 +77,9 @@ pub(crate) fn tail_at(tokens: &Tokens<'_>) -> Result<((), usize), Stop>
 
 /// The curly bracket that closes the body of a declaration, and notes.
 #[tactic(auto, unfolding(crate::specs::Fields::body_end_at))]
-pub(crate) fn body_end_at(tokens: &Tokens<'_>) -> Result<((), usize), Stop>
+pub(crate) fn body_end_at(tokens: &Tokens<'_>) -> Result<((), usize), Fault>
     ensures within { IsWithin (length tokens.now.list) result }
-    ensures exact { Gives itself result (body_end_at tokens.now.edge tokens.now.list) }
+    ensures exact { result ≡ body_end_at tokens.now.edge tokens.now.list }
 {
     let (_, n) = mark_at(tokens, b'}')?;
     let n = n + notes_at(&tokens.rest(n))?.1;

@@ -1,6 +1,6 @@
 //! Types.
 ghost use Rattle.std.specs.Prelude.{◌≡◌, ◌≤◌, ◌<◌, ◌-◌, length, IfOk};
-ghost use Rattle.idl_parser.specs.Lexemes.{Gives, IsWithin, itself};
+ghost use Rattle.idl_parser.specs.Lexemes.{Gives, IsWithin};
 ghost use Rattle.idl_document.specs.Trees.{type_tree, map_at};
 ghost use Rattle.idl_parser.specs.Types.{type_at, type_step, form_at, opening_at, map_of, set_of, list_of, element_of, type_until};
 
@@ -12,6 +12,9 @@ use crate::words::Keyword;
 use gate_base::{OutOfMemory, Text};
 use idl_document::{TypeExpr, TypeForm};
 use std::alloc::Global;
+
+/// A type or a value nests no deeper.
+pub(crate) const MOST_LEVELS: usize = 64;
 
 /// A type at the front of the tokens, with so many levels left below it.
 #[cycle(types)]
@@ -81,10 +84,10 @@ fn type_here(at: usize, form: TypeForm) -> TypeExpr
 
 // The word `map`, `set` or `list`, up to the opening mark.
 #[tactic(auto, unfolding(crate::specs::Types::opening_at))]
-fn opening_at(tokens: &Tokens<'_>) -> Result<((), usize), Stop>
+fn opening_at(tokens: &Tokens<'_>) -> Result<((), usize), Fault>
     requires { 0 < length tokens.now.list }
     ensures within { IsWithin (length tokens.now.list) result }
-    ensures exact { Gives itself result (opening_at tokens.now.edge tokens.now.list) }
+    ensures exact { result ≡ opening_at tokens.now.edge tokens.now.list }
 {
     let n = 1 + cpp_at(&tokens.rest(1))?.1;
     let n = n + mark_at(&tokens.rest(n), b'<')?.1;

@@ -1,4 +1,4 @@
--- AliasLinks that are kept.
+-- Links that are kept.
 use Rattle.std.proofs.Common.{◌≡◌, ℕ, zero, suc, List, [], ◌∷◌, ◌++◌, Option, Some, None}
 use Rattle.std.specs.Prelude.{slice_get}
 use Rattle.idl_names.specs.Files.{FileTree}
