@@ -21,8 +21,7 @@ pub(crate) fn reached(alloc: Global, names: &Names<'_>, from: Spot) -> Result<Sp
     ensures { IfOk result (λ set. IsReached (file_trees names.now.files.now) from set) }
 {
     let marks = Marks::new(alloc);
-    let set = beyond(alloc, names, &marks, from)?;
-    Ok(set)
+    beyond(alloc, names, &marks, from)
 }
 
 /// The spots that a definition leads to, in one step or more, but for those behind known ones.

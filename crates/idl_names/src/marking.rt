@@ -24,9 +24,20 @@ pub(crate) fn marked(alloc: Global, names: &Names<'_>) -> Result<Marks, OutOfMem
 {
     let sources = Sources::find(alloc, names)?;
     let order = order(alloc, names, &sources)?;
+    marked_in_order(alloc, names, &sources, order.as_slice())
+}
+
+fn marked_in_order(
+    alloc: Global,
+    names: &Names<'_>,
+    sources: &Sources,
+    order: &[Spot],
+) -> Result<Marks, OutOfMemory>
+    ensures { IfOk result (λ marks. AreMarked (file_trees names.now.files.now) marks) }
+{
     let mut marks = Marks::new(alloc);
-    for spot in &order {
-        mark(alloc, names, &sources, *spot, &mut marks)?;
+    for spot in order {
+        mark(alloc, names, sources, *spot, &mut marks)?;
     }
     Ok(marks)
 }

@@ -60,7 +60,7 @@ fn finished(builder: SchemaBuilder, files: usize) -> Result<Schema, OutOfMemory>
     if !builder.is_closed() {
         return Err(OutOfMemory);
     }
-    if !builder.is_ending()? {
+    if !builder.is_acyclic()? {
         return Err(OutOfMemory);
     }
     Ok(builder.finish(files as u64))

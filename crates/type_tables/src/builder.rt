@@ -58,7 +58,7 @@ impl SchemaBuilder {
         self.tables.add_type(t)
     }
 
-    /// Adds a struct without fields.
+    /// Adds a struct without fields, and tells the number that it takes.
     pub fn slot(&mut self, form: Form) -> Result<StructId, OutOfMemory>
         requires { length self.old.structs + 1 < 2 ^ 32 }
         ensures number { IfOk result (λ id. id.0 ≡ length self.old.structs) }
@@ -158,8 +158,8 @@ impl SchemaBuilder {
     /// Whether no service leads back to itself.
     ///
     /// `OutOfMemory`: the memory for a number of each service was not found.
-    pub fn is_ending(&self) -> Result<bool, OutOfMemory>
-        ensures { IfOk result (λ ending. IsTrue ending → IsAcyclic self.now.services) }
+    pub fn is_acyclic(&self) -> Result<bool, OutOfMemory>
+        ensures { IfOk result (λ acyclic. IsTrue acyclic → IsAcyclic self.now.services) }
     {
         let services = self.tables.services.as_slice();
         let ranks = closing::ranks(self.alloc, services)?;
