@@ -1,6 +1,6 @@
 //! One frame: what is written or reported of it.
 ghost use Rattle.std.specs.Prelude.{◌≡◌, ◌+◌, ◌*◌, ◌^◌, ◌<◌, ◌≤◌, ◌++◌, Option, List, ℕ, IfOk, IfErr, length};
-ghost use Rattle.gate_io.specs.Causes.{Rose};
+ghost use Rattle.gate_base.specs.Causes.{Rose};
 ghost use Rattle.message_show.specs.Shown.{HasLine};
 ghost use Rattle.gate_io.specs.Fronts.{AppendsFront, Flushed};
 ghost use Rattle.gate_run.specs.Terms.{judged_by, shown_by};

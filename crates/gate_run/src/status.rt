@@ -1,7 +1,7 @@
 //! The status of a command, and its last line.
 ghost use Rattle.std.specs.Prelude.{◌≡◌, ◌⊎◌, ◌≤◌};
 ghost use Rattle.std.specs.Io.KnownBytes.{Appends};
-ghost use Rattle.gate_io.specs.Causes.{Rose};
+ghost use Rattle.gate_base.specs.Causes.{Rose};
 ghost use Rattle.gate_io.specs.Fronts.{AppendsFront};
 ghost use Rattle.gate_run.specs.Lines.{usage_text};
 

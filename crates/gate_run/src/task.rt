@@ -1,6 +1,6 @@
 //! By what a stream is gone through.
 ghost use Rattle.std.specs.Prelude.{◌≡◌, ◌+◌, ◌*◌, ◌^◌, ◌<◌, ◌≤◌, IfSome, length};
-ghost use Rattle.gate_io.specs.Causes.{Rose};
+ghost use Rattle.gate_base.specs.Causes.{Rose};
 ghost use Rattle.translate_core.specs.Judged.{IsJudged};
 ghost use Rattle.message_show.specs.Shown.{IsShown};
 ghost use Rattle.gate_run.specs.Terms.{terms, judged_by, shown_by};

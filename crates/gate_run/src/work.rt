@@ -1,7 +1,7 @@
 //! The work on a stream: the bytes that are held, the frames so far, and what waits to be written.
 ghost use Rattle.std.specs.Prelude.{◌≡◌, ◌+◌, ◌*◌, ◌⊎◌, ◌^◌, ◌<◌, ◌≤◌, [], ℕ, List, Option, length, IfOk, true, false};
 ghost use Rattle.std.specs.Io.KnownBytes.{Appends, IsAtEnd};
-ghost use Rattle.gate_io.specs.Causes.{Rose};
+ghost use Rattle.gate_base.specs.Causes.{Rose};
 ghost use Rattle.framed_transport.specs.Front.{front, Large};
 ghost use Rattle.gate_io.specs.Fronts.{AppendsFront, Flushed};
 ghost use Rattle.gate_run.specs.Progress.{Goes};
@@ -12,7 +12,8 @@ use crate::lines::{self, LINE_ROOM};
 use crate::page::Page;
 use crate::task::Task;
 use framed_transport::{FrameBuf, Next};
-use gate_io::{Got, Out, OutOfMemory, Sink, Source, Wrote, flush, write_all};
+use gate_base::OutOfMemory;
+use gate_io::{Got, Out, Sink, Source, Wrote, flush, write_all};
 use std::alloc::Global;
 
 /// At most so many bytes are read.

@@ -3,7 +3,7 @@ ghost use Rattle.std.specs.Prelude.{◌≡◌, ◌≤◌, IfOk, IfSome};
 ghost use Rattle.gate_words.specs.Options.{no_options, options_of, with_option, with_server_option, with_idl, with_service, with_limit, with_sessions, with_accept, with_events, with_calls, limit_of, is_server_alone, IsInRange};
 
 use crate::numeral::number_within;
-use gate_io::{OutOfMemory, Text, Word};
+use gate_base::{OutOfMemory, Text, Word};
 use std::alloc::Global;
 
 /// The least and the greatest frame limit, in bytes.

@@ -7,7 +7,7 @@ ghost use Rattle.gate_words.specs.Serving.{serve_of, serve_at, serve_with, serve
 use crate::address::is_address;
 use crate::command::{Command, DEFAULT_LIMIT, proto};
 use crate::options::{Declared, Options, read_options};
-use gate_io::{OutOfMemory, Text, Word};
+use gate_base::{OutOfMemory, Text, Word};
 use protocol_traits::Proto;
 use std::alloc::Global;
 

@@ -1,0 +1,2 @@
+-- When a fault may be answered.
+pub mod Causes

@@ -1,0 +1,6 @@
+-- Lemmas.
+pub mod Events
+pub mod Links
+pub mod Moved
+pub mod Named
+pub mod Sessions
