@@ -10,17 +10,7 @@ mod buffer;
 mod byte_streams;
 mod disk;
 mod files;
-<<<<<<< HEAD
 mod std_streams;
-=======
-mod hub;
-mod lists;
-mod memory;
-mod memory_hub;
-mod memory_link;
-mod outside;
-mod standard;
->>>>>>> 72f0f8927215bdcb9ee901dc906434d30dd799cd
 mod writing;
 
 pub use buffer::Out;

@@ -119,7 +119,7 @@ fn preset_at(alloc: Global, tokens: &Tokens<'_>) -> Result<(Option<ValueExpr>, u
     Ok((Some(value), 1 + used))
 }
 
-// The name of a field, its preset, and what may stand behind it.
+// The name of a field, and its preset.
 #[derive(Drop)]
 struct NamedPreset {
     name: Name,
