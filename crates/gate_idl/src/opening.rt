@@ -5,7 +5,7 @@ ghost use Rattle.idl_consts.specs.Told.{Answers};
 ghost use Rattle.idl_resolve.specs.Loads.{IsResolved};
 ghost use Rattle.gate_idl.specs.Opening.{Opens, Checks, HasCause, IsOpened, stop_by};
 
-use crate::refusal::{Refusal, ErrorCode};
+use crate::refusal::{ErrorCode, Refusal};
 use gate_io::Files;
 use idl_consts::{ConstError, check_documents};
 use idl_resolve::{LoadError, Loaded, load};

@@ -18,8 +18,8 @@ use crate::survey::{ConstRef, survey_value};
 use crate::types::TypeRef;
 use crate::view::View;
 use gate_base::{OutOfMemory, Text};
-use idl_names::{Documents, FileDoc, Names};
 use idl_document::{Definition, FieldDecl, Function, TypeExpr, ValueExpr};
+use idl_names::{Documents, FileDoc, Names};
 use std::alloc::Global;
 
 /// An offset in a file in bytes, and why the value there is refused.
@@ -182,7 +182,13 @@ fn value_fault<'d>(
         left: view.names.definition_count(),
     };
     let survey = survey_value(alloc, view, place, written, value)?;
-    names_fault(alloc, view, known, survey.references.as_slice(), survey.fault)
+    names_fault(
+        alloc,
+        view,
+        known,
+        survey.references.as_slice(),
+        survey.fault,
+    )
 }
 
 /// The first of the names through which something is refused, or the fault that stands behind them.

@@ -18,8 +18,8 @@ use crate::survey::{ConstRef, Survey, survey_value};
 use crate::types::{TypeRef, definition};
 use crate::view::View;
 use gate_base::OutOfMemory;
-use idl_names::Spot;
 use idl_document::Definition;
+use idl_names::Spot;
 use std::alloc::Global;
 use std::mem;
 
@@ -70,7 +70,11 @@ pub fn name_row<'d>(
     Err(OutOfMemory)
 }
 
-fn begin<'d>(alloc: Global, view: &View<'_, 'd>, name: ConstRef<'d>) -> Result<Trail<'d>, OutOfMemory>
+fn begin<'d>(
+    alloc: Global,
+    view: &View<'_, 'd>,
+    name: ConstRef<'d>,
+) -> Result<Trail<'d>, OutOfMemory>
     ensures { IfOk result (λ trail. IsTrail (files_of view.now) name.entry.constant (meant_at (files_of view.now) name.entry.ty) trail) }
 {
     let top = open_frame(alloc, view, name)?;

@@ -13,8 +13,8 @@ use crate::pieces::Piece;
 use crate::row::ConstRow;
 use crate::types::{TypeRef, definition};
 use crate::view::View;
-use idl_names::{Scope, Spot};
 use idl_document::{Definition, FieldDecl, TypeExpr, ValueExpr, ValueForm};
+use idl_names::{Scope, Spot};
 
 /// The type of the field that a key names, in the struct at a spot, or why it names none.
 pub fn key_answer<'d>(

@@ -12,8 +12,8 @@ use crate::same::{is_spot, same_meaning};
 use crate::types::{TypeRef, definition};
 use crate::view::View;
 use gate_base::OutOfMemory;
-use idl_names::{FileDoc, Spot};
 use idl_document::Definition;
+use idl_names::{FileDoc, Spot};
 use std::alloc::Global;
 
 /// Of each file the number of the definitions before it, and for each definition, if it is a constant, what is refused

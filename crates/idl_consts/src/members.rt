@@ -6,8 +6,8 @@ ghost use Rattle.idl_consts.specs.Views.{files_of};
 
 use crate::types::definition;
 use crate::view::View;
-use idl_names::{Scope, Spot, last_place};
 use idl_document::{Definition, Member};
+use idl_names::{Scope, Spot, last_place};
 
 /// The number of the member of this name, of the enum at a spot.
 #[tactic(auto, unfolding(crate::specs::Fitting::member_of))]

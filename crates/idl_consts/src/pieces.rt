@@ -1,5 +1,5 @@
 //! The pieces of a value one after another.
-ghost use Rattle.std.specs.Prelude.{◌≡◌, ◌++◌, OnOk, map};
+ghost use Rattle.std.specs.Prelude.{◌≡◌, ◌++◌, ◌∷◌, [], OnOk, map};
 ghost use Rattle.idl_document.specs.Items.{items_of_value, items_of_values, items_of_pairs};
 ghost use Rattle.idl_consts.specs.declared.pieces.Piece.{Piece};
 ghost use Rattle.idl_consts.specs.Pieces.{item_of};
@@ -27,6 +27,13 @@ fn whole<'d>(at: usize, number: i64) -> Piece<'d>
     Piece::Whole(at, number)
 }
 
+fn push<'d>(pieces: &mut Vec<Piece<'d>>, piece: Piece<'d>) -> Result<(), OutOfMemory>
+    ensures { OnOk result (pieces.new.items ≡ pieces.old.items ++ piece ∷ []) }
+{
+    pieces.push(piece)?;
+    Ok(())
+}
+
 /// Appends the pieces of a value. A value is nested no deeper than the parser lets it be.
 #[cycle(pieces)]
 pub fn append_pieces<'d>(
@@ -36,19 +43,19 @@ pub fn append_pieces<'d>(
     ensures { OnOk result (map item_of pieces.new.items ≡ map item_of pieces.old.items ++ items_of_value value.now) }
 {
     match &value.form {
-        ValueForm::Int(number) => pieces.push(whole(value.at, *number))?,
-        ValueForm::Double(text) => pieces.push(Piece::Double(value.at, text.as_slice()))?,
-        ValueForm::Literal(text) => pieces.push(Piece::Literal(value.at, text.as_slice()))?,
-        ValueForm::Named(word) => pieces.push(Piece::Named(value.at, word.as_slice()))?,
+        ValueForm::Int(number) => push(pieces, whole(value.at, *number))?,
+        ValueForm::Double(text) => push(pieces, Piece::Double(value.at, text.as_slice()))?,
+        ValueForm::Literal(text) => push(pieces, Piece::Literal(value.at, text.as_slice()))?,
+        ValueForm::Named(word) => push(pieces, Piece::Named(value.at, word.as_slice()))?,
         ValueForm::List(values) => {
-            pieces.push(Piece::ListBegin(value.at))?;
+            push(pieces, Piece::ListBegin(value.at))?;
             append_values(values.as_slice(), pieces)?;
-            pieces.push(Piece::ListEnd)?;
+            push(pieces, Piece::ListEnd)?;
         }
         ValueForm::Map(pairs) => {
-            pieces.push(Piece::MapBegin(value.at))?;
+            push(pieces, Piece::MapBegin(value.at))?;
             append_pairs(pairs.as_slice(), pieces)?;
-            pieces.push(Piece::MapEnd)?;
+            push(pieces, Piece::MapEnd)?;
         }
     }
     Ok(())

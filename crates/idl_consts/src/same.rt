@@ -9,8 +9,8 @@ ghost use Rattle.idl_consts.specs.Words.{words_of, AreOneWord, IsSameRef};
 use crate::fitting::same_spot;
 use crate::types::{Shape, TypeRef, resolve};
 use crate::view::View;
-use idl_names::Spot;
 use idl_document::{TypeExpr, TypeForm};
+use idl_names::Spot;
 
 /// Whether two types are one by their words: types of one file, or the same word of the language.
 pub fn same_ref(a: TypeRef<'_>, b: TypeRef<'_>) -> bool

@@ -1,10 +1,10 @@
 //! The survey of one value: the names in it that stand for constants, up to the first thing that is refused.
-ghost use Rattle.std.specs.Prelude.{◌≡◌, List, IfOk, [], ◌∷◌};
+ghost use Rattle.std.specs.Prelude.{◌≡◌, List, IfOk, [], ◌∷◌, map};
 ghost use Rattle.idl_document.specs.Items.{items_of_value};
 ghost use Rattle.idl_names.specs.Files.{FileTree};
-ghost use Rattle.idl_consts.specs.Course.{Context, answered, opened_list, opened_map, value_move, key_move, inner_move, item_move, offset_of, course};
+ghost use Rattle.idl_consts.specs.Course.{Context, course_from, answered, opened_list, opened_map, value_move, key_move, inner_move, item_move, offset_of, course};
 ghost use Rattle.idl_consts.specs.Meant.{meant_at, meant_by};
-ghost use Rattle.idl_consts.specs.Pieces.{item_of, context_of, move_of, course_of, key_meant, Takes};
+ghost use Rattle.idl_consts.specs.Pieces.{chained, contexts, ending, item_of, context_of, move_of, course_of, key_meant, Takes};
 ghost use Rattle.idl_consts.specs.Views.{files_of};
 
 use crate::fitting::{Answer, double_answer, literal_answer, named_answer, whole_answer};
@@ -14,8 +14,8 @@ use crate::row::ConstRow;
 use crate::types::{Shape, TypeRef, resolve};
 use crate::view::View;
 use gate_base::OutOfMemory;
-use idl_names::Spot;
 use idl_document::ValueExpr;
+use idl_names::Spot;
 use std::alloc::Global;
 
 /// A name that stands for a constant where a value of a type is asked for.
@@ -70,23 +70,31 @@ pub fn survey_value<'d>(
     let mut levels = Vec::new(alloc);
     levels.push(Open::Elements(ty))?;
     let mut references = Vec::new(alloc);
-    for piece in pieces.as_slice() {
+    let fault = survey_pieces(view, file, pieces.as_slice(), &mut levels, &mut references)?;
+    Ok(Survey { references, fault })
+}
+
+/// Surveys pieces where so much is open, behind these names.
+fn survey_pieces<'d>(
+    view: &View<'_, 'd>,
+    file: u32,
+    pieces: &[Piece<'d>],
+    levels: &mut Vec<Open<'d>>,
+    references: &mut Vec<ConstRef<'d>>,
+) -> Result<Option<(usize, ConstRow)>, OutOfMemory>
+    ensures { let d = files_of view.now in IfOk result (λ fault. chained d references.new.items (ending fault) ≡ chained d references.old.items (course_from d file (contexts d levels.old.items) (map item_of pieces.now))) }
+{
+    for piece in pieces {
         let Some(top) = levels.pop() else {
-            return Ok(Survey {
-                references,
-                fault: None,
-            });
+            return Ok(None);
         };
         let turn = turn_at(view, file, top, piece);
-        let fault = take(turn, &mut references, &mut levels)?;
+        let fault = take(turn, references, levels)?;
         if fault.is_some() {
-            return Ok(Survey { references, fault });
+            return Ok(fault);
         }
     }
-    Ok(Survey {
-        references,
-        fault: None,
-    })
+    Ok(None)
 }
 
 /// Takes a turn: what is refused by it, or else the names and what is open behind it.

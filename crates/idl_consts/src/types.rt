@@ -6,8 +6,8 @@ ghost use Rattle.idl_consts.specs.Meant.{definition_of, type_by, named_type, mea
 ghost use Rattle.idl_consts.specs.Views.{files_of};
 
 use crate::view::View;
-use idl_names::{Scope, Spot};
 use idl_document::{BaseWord, Definition, TypeExpr, TypeForm};
+use idl_names::{Scope, Spot};
 
 /// A type, the place of the file in which it is written, and how many typedefs may be followed.
 #[derive(Clone, Copy)]
@@ -106,7 +106,11 @@ fn resolved<'d>(view: &View<'_, 'd>, spot: Spot, left: usize) -> Step<'d>
     ensures fewer { left_below (left + 1) result }
 {
     let resolved_alias = view.typedefs.resolve_chain(spot, left);
-    defined(resolved_alias.spot, definition(view, resolved_alias.spot), resolved_alias.left)
+    defined(
+        resolved_alias.spot,
+        definition(view, resolved_alias.spot),
+        resolved_alias.left,
+    )
 }
 
 fn defined<'d>(spot: Spot, definition: Option<&'d Definition>, left: usize) -> Step<'d>

@@ -5,8 +5,8 @@ ghost use Rattle.idl_names.specs.Files.{file_trees};
 ghost use Rattle.idl_files.specs.Listing.{place_of, is_open_at, fresh, with_includes};
 
 use gate_base::{OutOfMemory, Text};
-use idl_names::{Documents, FileDoc};
 use idl_document::{Document, Seq};
+use idl_names::{Documents, FileDoc};
 use indexmap::IndexSet;
 use std::alloc::Global;
 use std::marker::Model;

@@ -64,12 +64,7 @@ fn mark(
 }
 
 // Marks a definition that does not lead to itself.
-fn mark_line(
-    alloc: Global,
-    spot: Spot,
-    set: &SpotSet,
-    marks: &mut Marks,
-) -> Result<(), OutOfMemory>
+fn mark_line(alloc: Global, spot: Spot, set: &SpotSet, marks: &mut Marks) -> Result<(), OutOfMemory>
     requires fresh { knows marks.old spot ≡ false }
     requires line { is_among spot set.now ≡ false }
     ensures { (files : List FileTree) → AreMarked files marks.old → IsBeyond files marks.old spot set.now → OnOk result (AreMarked files marks.new) }

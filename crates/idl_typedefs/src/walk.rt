@@ -5,8 +5,8 @@ ghost use Rattle.idl_names.specs.Files.{file_trees};
 ghost use Rattle.idl_typedefs.specs.AliasLinks.{Follows, IsAliasLink, alias_in, alias_of, next};
 
 use crate::typedefs::{AliasLink, Typedefs};
-use idl_names::{Names, Scope, Spot, definition_at};
 use idl_document::{Definition, TypeExpr, TypeForm};
+use idl_names::{Names, Scope, Spot, definition_at};
 
 /// What the name means that is a typedef's whole type.
 #[tactic(auto, unfolding(crate::specs::AliasLinks::next))]
