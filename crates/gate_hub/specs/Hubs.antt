@@ -1,7 +1,7 @@
 -- What the calls of a hub do to what it tells, and to its counts.
-use Rattle.std.specs.Prelude.{◌≡◌, ◌≢◌, ℕ, ◌<◌, ◌≤◌, List, ◌++◌, length, take, true, false, None, Some, IsSome, ⊤}
+use Rattle.std.specs.Prelude.{◌≡◌, ◌≢◌, ℕ, ◌<◌, ◌≤◌, List, [], ◌∷◌, ◌++◌, length, take, true, false, None, Some, IsSome, ⊤}
 use Rattle.gate_base.specs.Causes.{one_more}
-use Rattle.gate_hub.specs.Meaning.{Link, Told, Started, Meaning, new_session, reopened, IsOpen}
+use Rattle.gate_hub.specs.Meaning.{Link, Told, Started, HubCall, Asked, Read, Wrote, Closed, Meaning, new_session, reopened, IsOpen}
 use Rattle.gate_hub.specs.declared.hub.Side.{Side}
 use Rattle.gate_hub.specs.declared.hub.Side.TheVariants as side
 use Rattle.gate_hub.specs.declared.hub.Began.{Began}
@@ -29,13 +29,14 @@ pub record Later (a b : Counts) : Type 0 where
 abbrev pub Leads : (Meaning → Type 0) → (Meaning → Type 0) → (Meaning → Type 0) → (Meaning → Meaning → Type 0) → Type 0
 Leads old new Can Step = (a : Meaning) → old a → Can a → ((b : Meaning) × new b × Step a b)
 
--- session k alone has changed
-pub record Changes (k : ℕ) (Step : Told → Told → Type 0) (a b : Meaning) : Type 0 where
+-- by this call session k alone has changed
+pub record Changes (k : ℕ) (call : HubCall) (Step : Told → Told → Type 0) (a b : Meaning) : Type 0 where
   pub session : Step (a.session k) (b.session k)
   pub others : (j : ℕ) → j ≢ k → b.session j ≡ a.session j
   pub started : b.started ≡ a.started
   pub last_event : b.last_event ≡ a.last_event
   pub events : b.events ≡ a.events
+  pub calls : b.calls ≡ a.calls ++ call ∷ []
 
 -- a side that has ended answers each read that it has
 abbrev pub LinkReads : List ℕ → LinkGot → Link → Link → Type 0
@@ -57,6 +58,17 @@ AtSide side.Upstream Step a b = (link : Link) × Step a.upstream link × (b ≡ 
 abbrev pub Closes : Told → Told → Type 0
 Closes a b = b ≡ record a { closed = true }
 
+-- a read of a side of session k into a slice of so many bytes, which holds these now
+abbrev pub ReadLeads : ℕ → Side → ℕ → List ℕ → LinkGot → Meaning → Meaning → Type 0
+ReadLeads k side size into answer = Changes k (Read k side size answer) (AtSide side (LinkReads into answer))
+
+-- a write of these bytes to a side of session k
+abbrev pub WriteLeads : ℕ → Side → List ℕ → LinkPut → Meaning → Meaning → Type 0
+WriteLeads k side from answer = Changes k (Wrote k side (length from) answer) (AtSide side (LinkWrites from answer))
+
+abbrev pub CloseLeads : ℕ → Meaning → Meaning → Type 0
+CloseLeads k = Changes k (Closed k) Closes
+
 -- an event has come: it is the last answer, and is counted
 pub record Comes (k : ℕ) (event : HubNext) (after : Told) (a b : Meaning) : Type 0 where
   pub session : b.session k ≡ after
@@ -64,6 +76,7 @@ pub record Comes (k : ℕ) (event : HubNext) (after : Told) (a b : Meaning) : Ty
   pub started : b.started ≡ a.started
   pub last_event : b.last_event ≡ Some event
   pub events : b.events ≡ one_more a.events
+  pub calls : b.calls ≡ a.calls ++ Asked event ∷ []
 
 -- no event has come
 pub record Answers (event : HubNext) (a b : Meaning) : Type 0 where
@@ -71,6 +84,7 @@ pub record Answers (event : HubNext) (a b : Meaning) : Type 0 where
   pub started : b.started ≡ a.started
   pub last_event : b.last_event ≡ Some event
   pub events : b.events ≡ a.events
+  pub calls : b.calls ≡ a.calls ++ Asked event ∷ []
 
 -- a new session has a number above every earlier one; an event of a session names one that is open
 abbrev pub EventLeads : HubNext → Meaning → Meaning → Type 0
@@ -90,6 +104,10 @@ NotStarted a = (a.started ≡ None) × (a.last_event ≡ None)
 
 abbrev pub HasStarted : Meaning → Type 0
 HasStarted a = IsSome a.started
+
+-- what a `start` is given
+abbrev pub started_with : List ℕ → List ℕ → ℕ → ℕ → Started
+started_with listen upstream accept sessions = record { listen = listen; upstream = upstream; accept = accept; sessions = sessions }
 
 abbrev pub StartLeads : Started → Began → Meaning → Meaning → Type 0
 StartLeads started began.Done a b = b ≡ record a { started = Some started }

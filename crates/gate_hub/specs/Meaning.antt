@@ -29,13 +29,22 @@ pub record Started : Type 0 where
   pub accept : ℕ
   pub sessions : ℕ
 
--- the whole hub: each session by its number, what it was started with, the last answer of `next`, and the number of its
--- answers Opened and Ready, which stands still at 2^64 - 1
+-- a call with its answer: for the next event; to read a side of a session into a slice of so many bytes, or to write a slice
+-- of so many to it; to close a session
+pub data HubCall : Type 0 where
+  Asked : HubNext → HubCall
+  Read : ℕ → Side → ℕ → LinkGot → HubCall
+  Wrote : ℕ → Side → ℕ → LinkPut → HubCall
+  Closed : ℕ → HubCall
+
+-- the whole hub: each session by its number, what it was started with, the last answer of `next`, the number of its answers
+-- Opened and Ready, which stands still at 2^64 - 1, and each of its calls but `start`, in order
 pub record Meaning : Type 0 where
   pub session : ℕ → Told
   pub started : Option Started
   pub last_event : Option HubNext
   pub events : ℕ
+  pub calls : List HubCall
 
 abbrev pub new_link : Link
 new_link = record { received = []; sent = []; ended = false; last_read = None; last_write = None }

@@ -1,8 +1,10 @@
 //! The sessions of a server: events, reads and writes of their two sides, and the counts of what went wrong.
 ghost use Rattle.std.specs.Prelude.{◌≡◌, ◌<◌, ◌≤◌, ℕ, length};
+ghost use Rattle.gate_base.specs.Bytes.{AreBytes};
 ghost use Rattle.gate_base.specs.Causes.{Rose};
-ghost use Rattle.gate_hub.specs.Meaning.{Meaning, IsOpen};
-ghost use Rattle.gate_hub.specs.Hubs.{Counts, Leads, Later, Changes, AtSide, LinkReads, LinkWrites, Closes, NextLeads, NotStarted, HasStarted, StartLeads, GotWithin, TookWithin};
+ghost use Rattle.gate_hub.specs.Meaning.{Meaning, IsOpen, link_of};
+ghost use Rattle.gate_hub.specs.declared.hub.Side.{Side};
+ghost use Rattle.gate_hub.specs.Hubs.{Counts, Leads, Later, NotStarted, HasStarted, StartLeads, NextLeads, ReadLeads, WriteLeads, CloseLeads, GotWithin, TookWithin, started_with};
 
 use std::alloc::Global;
 
@@ -66,8 +68,11 @@ pub enum Served {
 /// `start` is called once, before `next`. `read`, `write` and `close` name a session that `next`
 /// has opened and that isn't closed.
 pub trait Hub {
-    /// The meanings that it tells. A call leads each of them, at which the call may be made, to one that is told after it; it
-    /// is answered at any other too, and then nothing is said of what is told.
+    /// The meanings that it tells: one, or none where it knows nothing of its sessions' bytes.
+    ///
+    /// Where a call may be made, each meaning that was told before it goes over into one that is told
+    /// after it, and the clause `leads` says how the two differ. Where it may not be made it is
+    /// answered all the same, and nothing is said of what is told.
     ghost tells: { Self → Meaning → Type 0 };
 
     /// Its counts, which never fall. Each stands still at 2^64 - 1.
@@ -85,7 +90,7 @@ pub trait Hub {
         accept: u64,
         sessions: usize,
     ) -> Began
-        ensures leads { Leads (tells self.old) (tells self.new) NotStarted (StartLeads (record { listen = listen.now; upstream = upstream.now; accept = accept; sessions = sessions }) result) }
+        ensures leads { Leads (tells self.old) (tells self.new) NotStarted (StartLeads (started_with listen.now upstream.now accept sessions) result) }
         ensures later { Later (counts self.old) (counts self.new) }
         ensures cause { result ≡ Began.Failed → Rose (counts self.old).faults (counts self.new).faults };
 
@@ -103,7 +108,7 @@ pub trait Hub {
     fn read(&mut self, k: u64, side: Side, into: &mut [u8]) -> LinkGot
         requires { 0 < length into.old }
         ensures within { GotWithin into.new result }
-        ensures leads { Leads (tells self.old) (tells self.new) (IsOpen k) (Changes k (AtSide side (LinkReads into.new result))) }
+        ensures leads { Leads (tells self.old) (tells self.new) (IsOpen k) (ReadLeads k side (length into.old) into.new result) }
         ensures later { Later (counts self.old) (counts self.new) }
         ensures cause { result ≡ LinkGot.Failed → Rose ((counts self.old).link_faults k side) ((counts self.new).link_faults k side) }
         ensures wait { result ≡ LinkGot.NotReady → Rose ((counts self.old).waits k side) ((counts self.new).waits k side) };
@@ -114,13 +119,16 @@ pub trait Hub {
     fn write(&mut self, k: u64, side: Side, from: &[u8]) -> LinkPut
         requires { 0 < length from.now }
         ensures within { TookWithin from.now result }
-        ensures leads { Leads (tells self.old) (tells self.new) (IsOpen k) (Changes k (AtSide side (LinkWrites from.now result))) }
+        ensures leads { Leads (tells self.old) (tells self.new) (IsOpen k) (WriteLeads k side from.now result) }
         ensures later { Later (counts self.old) (counts self.new) }
         ensures cause { result ≡ LinkPut.Failed → Rose ((counts self.old).link_faults k side) ((counts self.new).link_faults k side) }
         ensures wait { result ≡ LinkPut.NotReady → Rose ((counts self.old).waits k side) ((counts self.new).waits k side) };
 
     /// Marks session k as closed.
     fn close(&mut self, k: u64)
-        ensures leads { Leads (tells self.old) (tells self.new) (IsOpen k) (Changes k Closes) }
+        ensures leads { Leads (tells self.old) (tells self.new) (IsOpen k) (CloseLeads k) }
         ensures later { Later (counts self.old) (counts self.new) };
+
+    /// What it tells that was received consists of bytes.
+    ghost bytes: { (hub : Self) (m : Meaning) → tells hub m → (k : ℕ) (side : Side) → AreBytes (link_of (m.session k) side).received };
 }

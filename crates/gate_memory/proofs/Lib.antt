@@ -1,4 +1,5 @@
 -- Lemmas.
+pub mod Bytes
 pub mod Events
 pub mod Links
 pub mod Moved

@@ -1,15 +1,16 @@
 -- Sessions in a list, of which one is changed.
-use Rattle.std.proofs.Common.{◌≡◌, ◌≢◌, ℕ, zero, suc, ◌+◌, ◌<◌, ◌≤◌, List, [], ◌∷◌, length, Option, Some, true, true≢false, get_or, arith, ap, sym, ◌∙◌, subst, refl}
+use Rattle.std.proofs.Common.{◌≡◌, ◌≢◌, ℕ, zero, suc, ◌+◌, ◌<◌, ◌≤◌, List, [], ◌∷◌, length, Option, Some, true, true≢false, get_or, ◌++◌, arith, ap, sym, ◌∙◌, subst, refl}
 use Rattle.std.specs.List.{slice_get}
 use Rattle.std.proofs.Math.ListN.{set}
 use Rattle.std.proofs.lemmas.Option.{slice_get_read}
 use Rattle.gate_base.specs.Causes.{Rose}
-use Rattle.gate_hub.specs.Meaning.{Told, IsOpen}
+use Rattle.gate_hub.specs.Meaning.{Told, HubCall, IsOpen}
 use Rattle.gate_hub.specs.Hubs.{Leads, Later, Changes}
-use Rattle.gate_memory.specs.Hub.{HubState, TellsHub, hub_counts, session_at, is_open_at, told_of, told_or_unknown, mem_link_of, faults_or_none, waits_or_none, NoCountFell}
+use Rattle.gate_memory.specs.Hub.{HubState, TellsHub, AreSessionBytes, hub_counts, session_at, is_open_at, told_of, told_or_unknown, mem_link_of, faults_or_none, waits_or_none, NoCountFell}
 use Rattle.gate_hub.specs.declared.hub.Side.{Side}
 use Rattle.gate_hub.specs.declared.hub.Side.TheVariants as side
 use Rattle.gate_memory.specs.declared.hub.MemSession.{MemSession}
+use Rattle.gate_memory.proofs.Bytes.{one_bytes}
 
 pub get_set_same : {X : Type 0} → (xs : List X) (k : ℕ) (x : X) → k < length xs → slice_get (set xs k x) k ≡ Some x
 get_set_same [] k x within = absurd (omega (arith, within))
@@ -33,19 +34,21 @@ pub record OneChanged (k : ℕ) (s s' : MemSession) (a b : HubState) : Type 0 wh
   pub events : b.events ≡ a.events
   pub faults : a.faults ≤ b.faults
   pub strays : b.strays ≡ a.strays
+  pub steps : b.steps ≡ a.steps
 
-pub leads_one : (Step : Told → Told → Type 0) (k : ℕ) (s s' : MemSession) (a b : HubState) → OneChanged k s s' a b → Step (told_of s) (told_of s') → Leads (TellsHub a) (TellsHub b) (IsOpen k) (Changes k Step)
-leads_one Step k s s' a b one step = λ m tells _.
+pub leads_one : (call : HubCall) (Step : Told → Told → Type 0) (k : ℕ) (s s' : MemSession) (a b : HubState) → OneChanged k s s' a b → (AreSessionBytes s → AreSessionBytes s') → Step (told_of s) (told_of s') → Leads (TellsHub a) (TellsHub b) (IsOpen k) (Changes k call Step)
+leads_one call Step k s s' a b one keeps step = λ m tells _.
     let is : m.session k ≡ told_of s = tells.session k ∙ ap told_or_unknown one.was in
     let becomes : session_at b.sessions k ≡ told_of s' = ap (λ xs. session_at xs k) one.now ∙ ap told_or_unknown (get_set_same a.sessions k s' one.within) in (
-      record { session = λ j. session_at b.sessions j; started = b.started; last_event = b.last_event; events = b.events },
-      record { session = λ j. refl; started = refl; last_event = refl; events = refl },
+      record { session = λ j. session_at b.sessions j; started = b.started; last_event = b.last_event; events = b.events; calls = m.calls ++ call ∷ [] },
+      record { session = λ j. refl; started = refl; last_event = refl; events = refl; bytes = one_bytes k s s' a b one.was one.now one.steps keeps tells.bytes },
       record {
         session = subst (λ (t : Told). Step t (session_at b.sessions k)) (sym is) (subst (λ (t : Told). Step (told_of s) t) (sym becomes) step);
         others = λ j other. ap (λ xs. session_at xs j) one.now ∙ (ap told_or_unknown (get_set_other a.sessions k j s' other) ∙ sym (tells.session j));
         started = one.started ∙ sym tells.started;
         last_event = one.last_event ∙ sym tells.last_event;
         events = one.events ∙ sym tells.events;
+        calls = refl;
       },
     )
 
@@ -93,8 +96,8 @@ open_within (x ∷ xs) zero open_at = omega arith
 open_within (x ∷ xs) (suc k) open_at = omega (arith, open_within xs k open_at)
 
 -- the session at an index of the list was changed in place
-pub one_changed : (inside a b : HubState) (k : ℕ) (s s' : MemSession) → inside ≡ a → is_open_at a.sessions k ≡ true → s ≡ get_or inside.sessions k s → b.sessions ≡ set inside.sessions k s' → b.started ≡ inside.started → b.last_event ≡ inside.last_event → b.events ≡ inside.events → b.faults ≡ inside.faults → b.strays ≡ inside.strays → OneChanged k s s' a b
-one_changed inside a b k s s' view open_at is sessions started last_event events faults strays =
+pub one_changed : (inside a b : HubState) (k : ℕ) (s s' : MemSession) → inside ≡ a → is_open_at a.sessions k ≡ true → s ≡ get_or inside.sessions k s → b.sessions ≡ set inside.sessions k s' → b.started ≡ inside.started → b.last_event ≡ inside.last_event → b.events ≡ inside.events → b.faults ≡ inside.faults → b.strays ≡ inside.strays → b.steps ≡ inside.steps → OneChanged k s s' a b
+one_changed inside a b k s s' view open_at is sessions started last_event events faults strays steps =
     let within : k < length inside.sessions = open_within inside.sessions k (ap (λ h. is_open_at h.sessions k) view ∙ open_at) in
     subst (λ (h : HubState). OneChanged k s s' h b) view
     (record {
@@ -106,6 +109,7 @@ one_changed inside a b k s s' view open_at is sessions started last_event events
       events = events;
       faults = omega (arith, faults);
       strays = strays;
+      steps = steps;
     })
 
 -- the hub with another session at an index

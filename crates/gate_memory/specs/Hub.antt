@@ -2,9 +2,10 @@
 use Rattle.std.specs.Prelude.{◌≡◌, ℕ, ⊤, ◌+◌, ◌≤◌, ◌⊎◌, List, [], ◌∷◌, ◌++◌, length, drop, get_or, ◌<◌, Bool, true, false, ◌&&◌, not, Option, None, Some, option_map, if◌then◌else◌}
 use Rattle.std.specs.List.{slice_get}
 use Rattle.std.proofs.Math.ListN.{set}
+use Rattle.gate_base.specs.Bytes.{AreBytes}
 use Rattle.gate_base.specs.Causes.{one_more}
 use Rattle.gate_hub.specs.Meaning.{Told, Started, Meaning, unknown_session, reopened}
-use Rattle.gate_memory.specs.Link.{LinkState, new_link_state, unasked_link, arrives, finishes, gets_room, will_break, ReadsLink, WritesLink}
+use Rattle.gate_memory.specs.Link.{LinkState, AreLinkBytes, new_link_state, unasked_link, arrives, finishes, gets_room, will_break, ReadsLink, WritesLink}
 use Rattle.gate_hub.specs.Hubs.{Counts, Leads, HasStarted, NextLeads}
 use Rattle.gate_hub.specs.declared.hub.Side.{Side}
 use Rattle.gate_hub.specs.declared.hub.Side.TheVariants as side
@@ -39,6 +40,11 @@ pub record HubState : Type 0 where
   pub strays : ℕ
   pub refused : ℕ
 
+-- a hub to which nothing happened so far
+abbrev pub new_hub : List HubStep → ℕ → HubState
+new_hub steps chunk =
+    record { steps = steps; chunk = chunk; sessions = []; started = None; last_event = None; events = 0; faults = 0; strays = 0; refused = 0 }
+
 abbrev pub started_of : StartedWith → Started
 started_of with = record { listen = with.listen; upstream = with.upstream; accept = with.accept; sessions = with.sessions }
 
@@ -68,12 +74,37 @@ abbrev pub waits_or_none : Option MemSession → Side → ℕ
 waits_or_none None s = 0
 waits_or_none (Some session) s = (mem_link_of session s).waits
 
--- the one meaning that it tells
+-- the sessions have received bytes, and what arrives at them are bytes
+abbrev pub AreSessionBytes : MemSession → Type 0
+AreSessionBytes session = AreLinkBytes session.client × AreLinkBytes session.upstream
+
+abbrev pub IsStepBytes : HubStep → Type 0
+IsStepBytes step.Connect = ⊤
+IsStepBytes (step.Arrive k side bytes) = AreBytes bytes
+IsStepBytes (step.Finish k side) = ⊤
+IsStepBytes (step.Room k side bytes) = ⊤
+IsStepBytes (step.Break k side) = ⊤
+IsStepBytes step.BreakNext = ⊤
+
+abbrev pub AreSessionsBytes : List MemSession → Type 0
+AreSessionsBytes [] = ⊤
+AreSessionsBytes (session ∷ sessions) = AreSessionBytes session × AreSessionsBytes sessions
+
+abbrev pub AreStepsBytes : List HubStep → Type 0
+AreStepsBytes [] = ⊤
+AreStepsBytes (step ∷ steps) = IsStepBytes step × AreStepsBytes steps
+
+pub record AreHubBytes (hub : HubState) : Type 0 where
+  pub steps : AreStepsBytes hub.steps
+  pub sessions : AreSessionsBytes hub.sessions
+
+-- the one meaning that it tells, but for its calls, of which it keeps no list; a text holds nothing but bytes
 pub record TellsHub (hub : HubState) (m : Meaning) : Type 0 where
   pub session : (k : ℕ) → m.session k ≡ session_at hub.sessions k
   pub started : m.started ≡ hub.started
   pub last_event : m.last_event ≡ hub.last_event
   pub events : m.events ≡ hub.events
+  pub bytes : AreHubBytes hub
 
 -- a write at a session that isn't open is a stray one, and counts at each side
 abbrev pub hub_counts : HubState → Counts

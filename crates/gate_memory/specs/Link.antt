@@ -1,5 +1,6 @@
 -- What a side of the hub in memory does, exactly.
 use Rattle.std.specs.Prelude.{◌≡◌, ℕ, ⊤, ◌<◌, ◌-◌, ◌⊎◌, ◌^◌, List, [], ◌++◌, length, take, drop, min, Bool, true, false, Option, Some, None, if◌then◌else◌}
+use Rattle.gate_base.specs.Bytes.{AreBytes}
 use Rattle.gate_base.specs.Causes.{one_more}
 use Rattle.gate_hub.specs.Meaning.{Link, new_link, unasked}
 use Rattle.gate_hub.specs.Hubs.{LinkReads, LinkWrites}
@@ -22,6 +23,10 @@ pub record LinkState : Type 0 where
   pub room : ℕ
   pub faults : ℕ
   pub waits : ℕ
+
+-- what was received, and what is to be, are bytes
+abbrev pub AreLinkBytes : LinkState → Type 0
+AreLinkBytes link = AreBytes link.told.received × AreBytes link.ahead
 
 abbrev pub new_link_state : LinkState
 new_link_state = record { told = new_link; ahead = []; finished = false; breaks = false; room = 2 ^ 64 - 1; faults = 0; waits = 0 }

@@ -2,8 +2,9 @@
 ghost use Rattle.std.specs.Prelude.{◌≡◌, ◌≢◌, ◌<◌, ◌≤◌, ◌++◌, ◌∷◌, [], ℕ, length, true, false, Some, None, Ok, IfOk, OnOk, OnErr};
 ghost use Rattle.gate_base.specs.Causes.{Rose, one_more};
 ghost use Rattle.gate_hub.specs.Meaning.{IsOpen, link_of, reopened};
-ghost use Rattle.gate_hub.specs.Hubs.{Leads, Later, Changes, AtSide, LinkReads, LinkWrites, Closes, NextLeads, NotStarted, HasStarted, StartLeads, GotWithin, TookWithin};
-ghost use Rattle.gate_memory.specs.Hub.{TellsHub, hub_counts, session_at, is_open_at, told_of, mem_link_of, NoCountFell, PerformsStep, Brings, Steps, StepsBy, step_of, ready, NeedsMemory, changed_session, MakesSession, AtMemSide, StartDoes, NextDoes, ReadDoes, WriteDoes, CloseDoes};
+ghost use Rattle.gate_hub.specs.Hubs.{Leads, Later, AtSide, LinkReads, LinkWrites, NotStarted, HasStarted, StartLeads, NextLeads, ReadLeads, WriteLeads, CloseLeads, GotWithin, TookWithin, started_with};
+ghost use Rattle.gate_memory.specs.Hub.{TellsHub, new_hub, hub_counts, session_at, is_open_at, told_of, mem_link_of, NoCountFell, PerformsStep, Brings, Steps, StepsBy, step_of, ready, NeedsMemory, changed_session, MakesSession, AtMemSide, StartDoes, NextDoes, ReadDoes, WriteDoes, CloseDoes};
+ghost use Rattle.gate_memory.specs.Laws.{hub_bytes};
 ghost use Rattle.gate_memory.specs.Link.{ReadsLink, WritesLink, changed_by, Grows};
 
 use crate::link::{Change, MemLink, Passed};
@@ -106,7 +107,17 @@ impl Model for MemHub {
 
     ghost Value = { HubState };
 
-    ghost view = { λ h. record { steps = drop h.place h.steps; chunk = h.chunk; sessions = h.sessions.items; started = option_map started_of h.started; last_event = h.last_event; events = h.events; faults = h.faults; strays = h.strays; refused = h.refused } };
+    ghost view = { λ h. record {
+      steps = drop h.place h.steps;
+      chunk = h.chunk;
+      sessions = h.sessions.items;
+      started = option_map started_of h.started;
+      last_event = h.last_event;
+      events = h.events;
+      faults = h.faults;
+      strays = h.strays;
+      refused = h.refused;
+    } };
 
     ghost invariant = { λ h. (h.place ≤ length h.steps) × (0 < h.chunk) × (h.last_event ≡ Some event.Stopped → h.place ≡ length h.steps) };
 }
@@ -201,7 +212,7 @@ impl MemHub {
     /// `OutOfMemory`: none of its own is taken yet, so it does not come.
     pub fn new(alloc: Global, steps: HubSteps, chunk: usize) -> Result<MemHub, OutOfMemory>
         requires { 0 < chunk }
-        ensures { IfOk result (λ hub. hub ≡ record { steps = steps; chunk = chunk; sessions = []; started = None; last_event = None; events = 0; faults = 0; strays = 0; refused = 0 }) }
+        ensures { IfOk result (λ hub. hub ≡ new_hub steps chunk) }
     {
         Ok(MemHub {
             alloc,
@@ -304,10 +315,10 @@ impl Hub for MemHub {
         accept: u64,
         sessions: usize,
     ) -> Began
-        ensures leads { Leads (TellsHub self.old) (TellsHub self.new) NotStarted (StartLeads (record { listen = listen.now; upstream = upstream.now; accept = accept; sessions = sessions }) result) }
+        ensures leads { Leads (TellsHub self.old) (TellsHub self.new) NotStarted (StartLeads (started_with listen.now upstream.now accept sessions) result) }
         ensures later { Later (hub_counts self.old) (hub_counts self.new) }
         ensures cause { result ≡ Began.Failed → Rose (hub_counts self.old).faults (hub_counts self.new).faults }
-        ensures exact { StartDoes (record { listen = listen.now; upstream = upstream.now; accept = accept; sessions = sessions }) result self.old self.new }
+        ensures exact { StartDoes (started_with listen.now upstream.now accept sessions) result self.old self.new }
     {
         let (Ok(listen), Ok(upstream)) = (Text::new(alloc, listen), Text::new(alloc, upstream))
         else {
@@ -341,7 +352,7 @@ impl Hub for MemHub {
     fn read(&mut self, k: u64, side: Side, into: &mut [u8]) -> LinkGot
         requires { 0 < length into.old }
         ensures within { GotWithin into.new result }
-        ensures leads { Leads (TellsHub self.old) (TellsHub self.new) (IsOpen k) (Changes k (AtSide side (LinkReads into.new result))) }
+        ensures leads { Leads (TellsHub self.old) (TellsHub self.new) (IsOpen k) (ReadLeads k side (length into.old) into.new result) }
         ensures later { Later (hub_counts self.old) (hub_counts self.new) }
         ensures cause { result ≡ LinkGot.Failed → Rose ((hub_counts self.old).link_faults k side) ((hub_counts self.new).link_faults k side) }
         ensures wait { result ≡ LinkGot.NotReady → Rose ((hub_counts self.old).waits k side) ((hub_counts self.new).waits k side) }
@@ -356,7 +367,7 @@ impl Hub for MemHub {
     fn write(&mut self, k: u64, side: Side, from: &[u8]) -> LinkPut
         requires { 0 < length from.now }
         ensures within { TookWithin from.now result }
-        ensures leads { Leads (TellsHub self.old) (TellsHub self.new) (IsOpen k) (Changes k (AtSide side (LinkWrites from.now result))) }
+        ensures leads { Leads (TellsHub self.old) (TellsHub self.new) (IsOpen k) (WriteLeads k side from.now result) }
         ensures later { Later (hub_counts self.old) (hub_counts self.new) }
         ensures cause { result ≡ LinkPut.Failed → Rose ((hub_counts self.old).link_faults k side) ((hub_counts self.new).link_faults k side) }
         ensures wait { result ≡ LinkPut.NotReady → Rose ((hub_counts self.old).waits k side) ((hub_counts self.new).waits k side) }
@@ -370,7 +381,7 @@ impl Hub for MemHub {
     }
 
     fn close(&mut self, k: u64)
-        ensures leads { Leads (TellsHub self.old) (TellsHub self.new) (IsOpen k) (Changes k Closes) }
+        ensures leads { Leads (TellsHub self.old) (TellsHub self.new) (IsOpen k) (CloseLeads k) }
         ensures later { Later (hub_counts self.old) (hub_counts self.new) }
         ensures exact { CloseDoes (is_open_at self.old.sessions k) k self.old self.new }
     {
@@ -378,4 +389,6 @@ impl Hub for MemHub {
             self.sessions[k as usize].closed = true;
         }
     }
+
+    ghost bytes = { hub_bytes };
 }

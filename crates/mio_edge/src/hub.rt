@@ -133,6 +133,8 @@ impl<N: Net> Hub for MioHub<'_, N> {
     fn close(&mut self, k: u64) {
         self.sockets.close(k);
     }
+
+    ghost bytes = { λ hub m told. absurd told };
 }
 
 // The port of a side.

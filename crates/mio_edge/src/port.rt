@@ -55,12 +55,15 @@ pub(crate) struct Port {
 
 impl Port {
     /// A port without a connection. It takes the memory of both buffers, each of so many bytes.
+    ///
+    /// A read is offered all room for what comes in, since one that leaves room has found the last of
+    /// what came.
     pub(crate) fn open(alloc: Global, room: usize) -> Result<Port, OutOfMemory> {
         Ok(Port {
             stream: None,
             receiving: Receiving::Idle,
             sending: Sending::Blocked,
-            incoming: Out::open(alloc, room)?,
+            incoming: Out::open_whole(alloc, room)?,
             outgoing: Out::open(alloc, room)?,
         })
     }
