@@ -30,8 +30,9 @@ pub enum Stop {
 
 impl From<Fault> for Stop {
     ghost use Rattle.std.specs.Prelude.{◌≡◌};
+    ghost use Rattle.idl_parser.specs.declared.fault.Stop.TheVariants as stops;
 
-    ghost from_gives = { λ fault e. e ≡ Stop.Fault fault };
+    ghost from_gives = { λ fault e. e ≡ stops.Fault fault };
 
     fn from(fault: Fault) -> Stop {
         Stop::Fault(fault)
