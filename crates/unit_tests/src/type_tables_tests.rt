@@ -1,5 +1,4 @@
 //! A struct whose fields are declared in no order of ids.
-use super::*;
 use gate_base::Text;
 use std::alloc::Global;
 use std::test::*;
