@@ -1,0 +1,2 @@
+-- What goes over a session, in the words of the grammars.
+pub mod Saying
