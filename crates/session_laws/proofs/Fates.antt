@@ -142,7 +142,6 @@ module _ (s : Setting) (x : List ℕ) where
   fate are from to = by_said (said_by (asking s) x are from to from)
     where
       by_said : IsSaidBy (asking s) (answered s.client s.client x) x (asked s x) → (a : Said) × Says (asking s) x a × IsFate s x a
-      unfolding info_of
       by_said (ByMessage m out says e) =
           (GoesOn m out, says, message_fate m out m.mtype (is_answered (method_of s (header_of_message m))) refl refl
           (ap (λ j. of_client j.verdict) e, ap (λ j. judging.onward (of_client j.verdict) j.bytes) e))

@@ -1,1 +1,7 @@
 pub mod Answering
+pub mod Fates
+pub mod Replies
+pub mod Listing
+pub mod Placing
+pub mod Existing
+pub mod Carrying

@@ -1,2 +1,5 @@
 -- What goes over a session, in the words of the grammars.
 pub mod Saying
+pub mod Exchange
+pub mod Streaming
+pub mod Carrying
