@@ -5,3 +5,4 @@ pub mod Listing
 pub mod Placing
 pub mod Existing
 pub mod Carrying
+pub mod Standing
