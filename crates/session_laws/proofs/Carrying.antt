@@ -75,7 +75,7 @@ module _ (s : Setting) (limit : ℕ) (from : HasLaws s.client) (to : HasLaws s.u
       let c = all_of_client s limit from to law small split h.from_client client in
       record { client = c; upstream = all_of_upstream s limit from to law small split (calls s c.asked) h.from_upstream upstream }
 
-  pub carried : (most : ℕ) (h : History) (t : Standing) → Both h → Fits (rules_of s) limit most h t → Carries s limit h
+  abbrev pub carried : (most : ℕ) (h : History) (t : Standing) → Both h → Fits (rules_of s) limit most h t → Carries s limit h
   carried most h t b fits =
       let xs = b.client.are.frames in
       let ys = b.upstream.are.frames in

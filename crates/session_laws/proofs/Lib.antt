@@ -6,3 +6,5 @@ pub mod Placing
 pub mod Existing
 pub mod Carrying
 pub mod Standing
+pub mod Ending
+pub mod Over

@@ -1,5 +1,5 @@
 -- What a session has carried from each side to the other.
-use Rattle.std.specs.Prelude.{◌≡◌, ℕ, ◌+◌, ◌-◌, ◌<◌, ◌≤◌, List, [], length, take, Bool, true, false, Some, slice_get}
+use Rattle.std.specs.Prelude.{◌≡◌, ℕ, ℤ, ◌+◌, ◌-◌, ◌<◌, ◌≤◌, List, [], length, take, Bool, true, false, Some, slice_get}
 use Rattle.std.specs.List.{flat_map}
 use Rattle.protocol_traits.specs.Heads.{Header}
 use Rattle.framed_transport.specs.Frames.{framed}
@@ -48,12 +48,11 @@ pub record IsComplete (s : Setting) (most : ℕ) (asked replied : List Said) (h 
   pub sent : IsSent s most asked replied h i j
   pub greatest : (k l : ℕ) → IsStand s most asked replied k l → (k ≤ i) × (l ≤ j)
 
--- what stands behind the frames of a side that were taken halts it: a frame, a length that is too large, or its end
-abbrev pub Halted : (List ℕ → Halt → Type 0) → ℕ → List ℕ → Bool → Halt → Type 0
-Halted FrameHalts limit rest ended (halt.Unread f) = (frame : List ℕ) × (behind : List ℕ) × (front limit rest ≡ Whole frame behind) × FrameHalts frame (halt.Unread f)
-Halted FrameHalts limit rest ended halt.WrongWay = (frame : List ℕ) × (behind : List ℕ) × (front limit rest ≡ Whole frame behind) × FrameHalts frame halt.WrongWay
-Halted FrameHalts limit rest ended (halt.TooLarge n) = front limit rest ≡ Large n
-Halted FrameHalts limit rest ended halt.Inside = (ended ≡ true) × (rest ≡ [] → ⊥) × (is_part (front limit rest) ≡ true)
+-- what stands behind the frames of a side that were taken halts it: a frame, a length that is too large, or its end within a frame
+pub data Halted (FrameHalts : List ℕ → Halt → Type 0) (limit : ℕ) (rest : List ℕ) (ended : Bool) : Halt → Type 0 where
+  ByFrame : (frame behind : List ℕ) (x : Halt) → front limit rest ≡ Whole frame behind → FrameHalts frame x → Halted FrameHalts limit rest ended x
+  ByLength : (n : ℤ) → front limit rest ≡ Large n → Halted FrameHalts limit rest ended (halt.TooLarge n)
+  WithinAFrame : ended ≡ true → (rest ≡ [] → ⊥) → is_part (front limit rest) ≡ true → Halted FrameHalts limit rest ended halt.Inside
 
 -- why the session ended, where these calls were opened, so many of them were answered, and this is left of both sides
 pub data Why (s : Setting) (limit : ℕ) (h : History) (opened : List Header) (i j : ℕ) (client upstream : List ℕ) : Outcome → Type 0 where

@@ -3,7 +3,7 @@
 //! Each law is the contract of a function that does nothing. The code rests on none of them.
 #![tactic(auto)]
 
-ghost use Rattle.std.specs.Prelude.{◌≡◌, ◌<◌, ◌^◌, List, ℕ};
+ghost use Rattle.std.specs.Prelude.{◌≡◌, ◌<◌, ◌^◌, List, [], ℕ, Some, None};
 ghost use Rattle.protocol_traits.specs.declared.proto.Proto.{Proto};
 ghost use Rattle.protocol_traits.specs.Heads.{Header};
 ghost use Rattle.type_tables.specs.Declarations.{Declarations};
@@ -12,12 +12,15 @@ ghost use Rattle.translate_core.specs.declared.verdict.Cause.{Cause};
 ghost use Rattle.protocol_pairs.specs.Pairs.{answered};
 ghost use Rattle.session_core.specs.Standing.{Standing, History};
 ghost use Rattle.session_core.specs.Fits.{Fits};
+ghost use Rattle.session_core.specs.Ends.{IsAtRest};
+ghost use Rattle.session_core.specs.Steps.{outcome_of};
+ghost use Rattle.session_core.specs.declared.outcome.Outcome.{Outcome};
 ghost use Rattle.session_judge.specs.Setting.{Setting};
 ghost use Rattle.session_judge.specs.Rules.{rules_of};
 ghost use Rattle.binary_laws.specs.Bytes.{AreBytes};
 ghost use Rattle.verdict_laws.specs.Rounds.{SpellsIn, plain_in};
 ghost use Rattle.session_laws.specs.Saying.{HasLaws, BeginsWith, failure_of};
-ghost use Rattle.session_laws.specs.Carrying.{Carries};
+ghost use Rattle.session_laws.specs.Carrying.{Carries, IsComplete, IsEnded};
 
 use framed_transport::{a_stream_is_split, frame_stands_at_the_front};
 
@@ -32,6 +35,26 @@ pub fn an_answer_spells_an_exception()
 pub fn what_was_sent_was_said()
     ensures { (s : Setting) (limit most : ℕ) (h : History) (t : Standing) → HasLaws s.client → HasLaws s.upstream → limit < 2 ^ 31 → AreBytes h.from_client → AreBytes h.from_upstream
         → Fits (rules_of s) limit most h t → Carries s limit h }
+{
+    frame_stands_at_the_front();
+    a_stream_is_split();
+}
+
+/// Where a session is at rest with no outcome and all that was due was sent, each side was sent all that the order of the calls and the
+/// most of them that may be open allow.
+pub fn all_that_was_due_was_said()
+    ensures { (s : Setting) (limit most : ℕ) (h : History) (t : Standing) → HasLaws s.client → HasLaws s.upstream → limit < 2 ^ 31 → 0 < most → AreBytes h.from_client → AreBytes h.from_upstream
+        → Fits (rules_of s) limit most h t → IsAtRest (rules_of s) limit most t None → t.to_client ≡ [] → t.to_upstream ≡ [] → (c : Carries s limit h) × IsComplete s most c.asked c.replied h }
+{
+    frame_stands_at_the_front();
+    a_stream_is_split();
+}
+
+/// Where a session has an outcome of its own, each side was sent all that was due for the frames that were taken, and the outcome says
+/// which frame, length or end was met behind them.
+pub fn an_outcome_says_why()
+    ensures { (s : Setting) (limit most : ℕ) (h : History) (t : Standing) (o : Outcome) → HasLaws s.client → HasLaws s.upstream → limit < 2 ^ 31 → 0 < most → AreBytes h.from_client → AreBytes h.from_upstream
+        → Fits (rules_of s) limit most h t → outcome_of (rules_of s) limit most t ≡ Some o → (c : Carries s limit h) × IsEnded s limit most h c o }
 {
     frame_stands_at_the_front();
     a_stream_is_split();
