@@ -1,13 +1,13 @@
 -- The answer to a refused message spells an exception.
-use Rattle.std.proofs.Common.{◌≡◌, ℕ, ◌+◌, ◌<◌, ◌≤◌, ◌^◌, pos, List, ◌++◌, length, drop, Option, None, Some, Ok, refl, ap, ◌∙◌, sym, subst, arith}
+use Rattle.std.proofs.Common.{◌≡◌, ℕ, ◌+◌, ◌<◌, ◌≤◌, ◌^◌, List, length, drop, Option, None, Some, Ok, refl, ap, ◌∙◌, sym, subst, arith}
 use Rattle.std.specs.Prelude.{FitsSigned}
-use Rattle.std.specs.Int.{w16, w32}
+use Rattle.std.specs.Int.{w32}
 use Rattle.std.specs.List.{position}
 use Rattle.std.proofs.Common.{rules}
 use Rattle.std.proofs.lemmas.List.{length-drop}
 use Rattle.thrift_value.specs.declared.kind.MessageType.{MessageType}
 use Rattle.thrift_value.specs.declared.kind.MessageType.TheVariants as types
-use Rattle.thrift_value.specs.Trees.{Message, no_members, items_of_members}
+use Rattle.thrift_value.specs.Trees.{no_members, items_of_members}
 use Rattle.protocol_traits.specs.declared.fault.Reason.{Reason}
 use Rattle.protocol_traits.specs.declared.fault.Reason.TheVariants as reasons
 use Rattle.protocol_traits.specs.declared.fault.Bar.{Bar}
@@ -37,7 +37,6 @@ use Rattle.compact_laws.proofs.Heading as compact_heading
 use Rattle.compact_laws.proofs.Spelled as compact_spelled
 use Rattle.verdict_laws.specs.Spellings.{plain_of}
 use Rattle.verdict_laws.specs.Rounds.{SpellsIn, plain_in}
-use Rattle.verdict_laws.specs.Verdicts.{BinaryHead, CompactHead}
 use Rattle.verdict_laws.proofs.Firm.{AreFirm}
 use Rattle.verdict_laws.proofs.Plain.{binary_plain, compact_plain}
 use Rattle.session_laws.specs.Saying.{HasLaws, BeginsWith, failure_of, failure_body}

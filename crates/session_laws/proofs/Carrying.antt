@@ -1,12 +1,9 @@
 -- Each side was sent a front of what the other's frames give.
-use Rattle.std.proofs.Common.{◌≡◌, ℕ, ◌<◌, ◌^◌, List, ◌∷◌, ◌++◌, length, map, Some, slice_get, ap, ◌∙◌, sym, subst}
-use Rattle.std.specs.List.{flat_map}
+use Rattle.std.proofs.Common.{◌≡◌, ℕ, ◌<◌, ◌^◌, List, length, map, slice_get, ap, ◌∙◌, sym, subst}
 use Rattle.protocol_traits.specs.Heads.{Header}
-use Rattle.framed_transport.specs.Frames.{framed}
 use Rattle.session_core.specs.Standing.{Standing, History}
 use Rattle.session_core.specs.Stands as session
 use Rattle.session_core.specs.Fits.{Fits}
-use Rattle.session_core.specs.declared.judge.Call.{Call}
 use Rattle.session_core.specs.declared.judge.ClientJudged.TheVariants as client
 use Rattle.session_core.specs.declared.judge.UpstreamJudged.TheVariants as upstream
 use Rattle.session_core.specs.declared.outcome.Halt.{Halt}
@@ -16,8 +13,7 @@ use Rattle.session_judge.specs.Setting.{Setting}
 use Rattle.session_judge.specs.Rules.{rules_of}
 use Rattle.binary_laws.specs.Bytes.{AreBytes}
 use Rattle.session_laws.specs.Saying.{HasLaws, Said}
-use Rattle.session_laws.specs.Exchange.{Waits, Tells, Ends, done, calls, EndsUpstream}
-use Rattle.session_laws.specs.Exchange as exchange
+use Rattle.session_laws.specs.Exchange.{Ends, done, calls, EndsUpstream}
 use Rattle.session_laws.specs.Carrying.{Carries}
 use Rattle.session_laws.proofs.Fates.{IsFate, Opens, Goes, IsAnswered, IsDropped, Halts}
 use Rattle.session_laws.proofs.Replies.{kept, IsReplyFate, Answers, HaltsReply}

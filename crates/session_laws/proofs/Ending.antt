@@ -1,16 +1,11 @@
 -- Why a session ended.
-use Rattle.std.proofs.Common.{◌≡◌, ℕ, zero, suc, ◌+◌, ◌-◌, ◌<◌, ◌≤◌, ◌^◌, min, List, [], ◌∷◌, ◌++◌, length, take, drop, map, Bool, true, false, ◌&&◌, nat_lt, if◌then◌else◌, Option, None, Some, slice_get, refl, ap, ◌∙◌, sym, subst, arith}
-use Rattle.std.specs.List.{flat_map}
-use Rattle.std.specs.Int.{from_be_bytes, cast_signed, w32}
+use Rattle.std.proofs.Common.{◌≡◌, ℕ, ◌+◌, ◌<◌, List, [], ◌∷◌, length, Bool, true, false, ◌&&◌, nat_lt, if◌then◌else◌, Option, None, Some, refl, ap, ◌∙◌, sym, subst, arith}
 use Rattle.std.proofs.lemmas.Bool.Decides.{nat_tests}
-use Rattle.std.proofs.lemmas.List.{append-nil, length-map, length-drop, take-append-drop}
-use Rattle.protocol_traits.specs.Heads.{Header}
 use Rattle.framed_transport.specs.Frames.{framed}
 use Rattle.framed_transport.specs.Front.{Front, Part, Whole, Large, front, is_part}
 use Rattle.session_core.specs.Rules.{Rules}
-use Rattle.session_core.specs.Standing.{Standing, History}
-use Rattle.session_core.specs.Stands as session
-use Rattle.session_core.specs.Fits.{Fits, told}
+use Rattle.session_core.specs.Standing.{Standing}
+use Rattle.session_core.specs.Fits.{told}
 use Rattle.session_core.specs.Steps as steps
 use Rattle.session_core.specs.Steps.{Move, is_none, outcome_of, by_both, by_client, at_end, of_upstream, of_client, upstream_by, upstream_front, upstream_move, by_reply, client_front, by_judged}
 use Rattle.session_core.specs.declared.judge.Call.{Call}
@@ -22,10 +17,7 @@ use Rattle.session_core.specs.declared.outcome.Halt.{Halt}
 use Rattle.session_core.specs.declared.outcome.Halt.TheVariants as halt
 use Rattle.session_core.specs.declared.outcome.Outcome.{Outcome}
 use Rattle.session_core.specs.declared.outcome.Outcome.TheVariants as outcome
-use Rattle.session_core.proofs.Fitting.{get_dropped}
-use Rattle.session_judge.specs.Setting.{Setting}
 use Rattle.session_laws.specs.Carrying.{Halted, ByFrame, ByLength, WithinAFrame}
-use Rattle.session_judge.specs.Rules.{rules_of}
 
 -- ---- what an outcome says of a session
 

@@ -1,12 +1,11 @@
 -- Each side's bytes are frames up to the first that ends it.
-use Rattle.std.proofs.Common.{◌≡◌, ℕ, zero, suc, ◌<◌, ◌≤◌, ◌^◌, List, [], ◌∷◌, ◌++◌, length, get_or, map, Bool, true, false, Some, None, slice_get, refl, ap, ◌∙◌, sym, subst, append_assoc, arith}
+use Rattle.std.proofs.Common.{◌≡◌, ℕ, zero, suc, ◌<◌, ◌≤◌, ◌^◌, List, [], ◌∷◌, ◌++◌, length, get_or, true, false, Some, slice_get, refl, ap, ◌∙◌, sym, subst, append_assoc, arith}
 use Rattle.std.specs.List.{All, flat_map}
 use Rattle.std.specs.Int.{to_be_bytes, w32}
 use Rattle.std.proofs.lemmas.List.Elements.{All-nil, All-cons, All-head, All-tail}
 use Rattle.protocol_traits.specs.Heads.{Header}
 use Rattle.framed_transport.specs.Frames.{framed, Splits}
 use Rattle.framed_transport.specs.Front.{Whole, front, is_whole}
-use Rattle.session_core.specs.Stands.{IsTaken}
 use Rattle.session_core.specs.declared.outcome.Halt.{Halt}
 use Rattle.session_core.specs.declared.judge.ClientJudged.TheVariants as client
 use Rattle.session_core.specs.declared.judge.UpstreamJudged.TheVariants as upstream
@@ -166,9 +165,11 @@ module _ (s : Setting) (limit : ℕ) (from : HasLaws s.client) (to : HasLaws s.u
   by_reply call hs y bytes r within says (HaltsReply h v e ends) all =
       none_replies (call ∷ hs) (framed y ++ bytes) (λ frame behind other whole at.
       let same : call ≡ other = cc in
-      let this = same_frame y frame bytes behind (sym (law limit y bytes small within) ∙ whole) in
-      (h, subst (λ c. UpstreamHalts s c frame h) same (subst (λ z. UpstreamHalts s call z h) this (r, says, ends)),
-      subst (λ c. (rules_of s).replied (kept s c) frame ≡ upstream.Halts h) same (subst (λ z. (rules_of s).replied (kept s call) z ≡ upstream.Halts h) this v)))
+      let this = same_frame y frame bytes behind (sym (law limit y bytes small within) ∙ whole) in (
+        h,
+        subst (λ c. UpstreamHalts s c frame h) same (subst (λ z. UpstreamHalts s call z h) this (r, says, ends)),
+        subst (λ c. (rules_of s).replied (kept s c) frame ≡ upstream.Halts h) same (subst (λ z. (rules_of s).replied (kept s call) z ≡ upstream.Halts h) this v),
+      ))
 
   upstream_from : (hs : List Header) (ys : List (List ℕ)) (rest : List ℕ) → All (λ frame. length frame ≤ limit) ys → AreBytes (flat_map framed ys ++ rest) → is_whole (front limit rest) ≡ false → AllOfUpstream hs (flat_map framed ys ++ rest)
   upstream_from hs [] rest each are none = none_replies hs rest (λ frame behind call e at. let wrong : false ≡ true = sym none ∙ ap is_whole e in absurd (cc))

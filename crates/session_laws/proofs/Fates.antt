@@ -1,17 +1,15 @@
 -- What the session's judge makes of a frame of the client, by what the frame says.
-use Rattle.std.proofs.Common.{◌≡◌, ℕ, List, [], ◌∷◌, Bool, true, false, Option, refl, ap, ◌∙◌, sym, subst}
+use Rattle.std.proofs.Common.{◌≡◌, ℕ, List, [], ◌∷◌, Bool, true, false, refl, ap, ◌∙◌, sym, subst}
 use Rattle.std.specs.Prelude.{if◌then◌else◌}
 use Rattle.thrift_value.specs.declared.kind.MessageType.{MessageType}
 use Rattle.thrift_value.specs.declared.kind.MessageType.TheVariants as types
-use Rattle.thrift_value.specs.Trees.{Message, depth_of_members}
+use Rattle.thrift_value.specs.Trees.{Message}
 use Rattle.protocol_traits.specs.declared.fault.Fault.{Fault}
 use Rattle.protocol_traits.specs.declared.proto.Proto.{Proto}
 use Rattle.protocol_traits.specs.declared.proto.Proto.TheVariants as protocols
 use Rattle.protocol_traits.specs.Heads.{Header}
-use Rattle.type_tables.specs.declared.declared.MethodInfo.{MethodInfo}
 use Rattle.type_tables.specs.Declarations.{Declarations}
 use Rattle.translate_core.specs.declared.route.Route.{Route}
-use Rattle.translate_core.specs.declared.route.Route.TheVariants.{ByName}
 use Rattle.translate_core.specs.declared.verdict.Cause.{Cause}
 use Rattle.translate_core.specs.declared.verdict.Cause.TheVariants.{Grammar}
 use Rattle.translate_core.specs.declared.verdict.Verdict.TheVariants.{Passed, Refused, Unread}
@@ -19,7 +17,6 @@ use Rattle.translate_core.specs.Routes.{info_of}
 use Rattle.translate_core.specs.Judged.{Judged, judged}
 use Rattle.protocol_pairs.specs.Pairs as pairs
 use Rattle.protocol_pairs.specs.Pairs.{answered}
-use Rattle.session_core.specs.declared.judge.Call.{Call}
 use Rattle.session_core.specs.declared.judge.ClientJudged.{ClientJudged}
 use Rattle.session_core.specs.declared.judge.ClientJudged.TheVariants as client
 use Rattle.session_core.specs.declared.outcome.Halt.{Halt}
@@ -142,10 +139,16 @@ module _ (s : Setting) (x : List ℕ) where
   fate are from to = by_said (said_by (asking s) x are from to from)
     where
       by_said : IsSaidBy (asking s) (answered s.client s.client x) x (asked s x) → (a : Said) × Says (asking s) x a × IsFate s x a
-      by_said (ByMessage m out says e) =
-          (GoesOn m out, says, message_fate m out m.mtype (is_answered (method_of s (header_of_message m))) refl refl
-          (ap (λ j. of_client j.verdict) e, ap (λ j. judging.onward (of_client j.verdict) j.bytes) e))
-      by_said (ByCause h cause says e) =
-          (saying.IsRefused h cause (answered s.client s.client x cause), says, refused_fate h cause h.mtype (is_answered (method_of s h)) refl refl
-          (ap (λ j. of_client j.verdict) e) (ap (λ j. answer_by (answered s.client s.client x) (of_client j.verdict)) e))
+      by_said (ByMessage m out says e) = (
+        GoesOn m out,
+        says,
+        message_fate m out m.mtype (is_answered (method_of s (header_of_message m))) refl refl
+            (ap (λ j. of_client j.verdict) e, ap (λ j. judging.onward (of_client j.verdict) j.bytes) e),
+      )
+      by_said (ByCause h cause says e) = (
+        saying.IsRefused h cause (answered s.client s.client x cause),
+        says,
+        refused_fate h cause h.mtype (is_answered (method_of s h)) refl refl
+            (ap (λ j. of_client j.verdict) e) (ap (λ j. answer_by (answered s.client s.client x) (of_client j.verdict)) e),
+      )
       by_said (ByFault f says e) = (saying.IsUnread f, says, Halts (halt.Unread f) (ap (λ j. of_client j.verdict) e) refl refl)

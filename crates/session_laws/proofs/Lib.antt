@@ -8,3 +8,4 @@ pub mod Carrying
 pub mod Standing
 pub mod Ending
 pub mod Over
+pub mod Serving

@@ -1,11 +1,10 @@
 -- What goes on and back by the session's rules is what the frames say.
-use Rattle.std.proofs.Common.{◌≡◌, ℕ, List, [], ◌∷◌, ◌++◌, map, refl, ap, ◌∙◌, sym, subst, append_assoc}
+use Rattle.std.proofs.Common.{◌≡◌, ℕ, List, [], ◌∷◌, ◌++◌, map, refl, ap, ◌∙◌, sym, subst}
 use Rattle.std.specs.List.{flat_map}
 use Rattle.std.proofs.lemmas.List.{append-nil, map-append}
 use Rattle.std.proofs.lemmas.Grind.{flat_map-append}
 use Rattle.protocol_traits.specs.Heads.{Header}
 use Rattle.framed_transport.specs.Frames.{framed}
-use Rattle.session_core.specs.Rules.{Rules}
 use Rattle.session_core.specs.Stands as session
 use Rattle.session_core.specs.declared.judge.ClientJudged.TheVariants as client
 use Rattle.session_judge.specs.Setting.{Setting}

@@ -1,11 +1,11 @@
 -- Why a session ended, by what its frames say.
-use Rattle.std.proofs.Common.{◌≡◌, ℕ, ℤ, ◌+◌, ◌-◌, ◌<◌, ◌≤◌, ◌^◌, min, List, [], ◌∷◌, ◌++◌, length, take, drop, map, Bool, true, false, nat_lt, if◌then◌else◌, Some, slice_get, refl, ap, ◌∙◌, sym, subst, arith}
+use Rattle.std.proofs.Common.{◌≡◌, ℕ, ℤ, ◌+◌, ◌-◌, ◌<◌, ◌^◌, List, [], ◌∷◌, ◌++◌, length, take, drop, map, Bool, true, false, nat_lt, if◌then◌else◌, Some, slice_get, ap, ◌∙◌, sym, subst, arith}
 use Rattle.std.specs.List.{flat_map}
 use Rattle.std.specs.Int.{from_be_bytes, cast_signed, w32}
 use Rattle.std.proofs.lemmas.List.{append-nil, length-map, length-drop, take-append-drop}
 use Rattle.protocol_traits.specs.Heads.{Header}
 use Rattle.framed_transport.specs.Frames.{framed}
-use Rattle.framed_transport.specs.Front.{Front, Part, Whole, Large, front, is_part}
+use Rattle.framed_transport.specs.Front.{Part, Whole, Large, front}
 use Rattle.session_core.specs.Standing.{Standing, History}
 use Rattle.session_core.specs.Stands as session
 use Rattle.session_core.specs.Fits.{Fits, told}

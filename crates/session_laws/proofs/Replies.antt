@@ -1,25 +1,21 @@
 -- What the session's judge makes of a frame of the upstream, by what the frame says.
-use Rattle.std.proofs.Common.{◌≡◌, ℕ, List, [], Bool, true, false, refl, ap, ◌∙◌, sym}
+use Rattle.std.proofs.Common.{◌≡◌, ℕ, List, [], false, refl, ap, ◌∙◌, sym}
 use Rattle.std.specs.Prelude.{if◌then◌else◌}
 use Rattle.thrift_value.specs.declared.kind.MessageType.{MessageType}
 use Rattle.thrift_value.specs.declared.kind.MessageType.TheVariants as types
-use Rattle.thrift_value.specs.Trees.{Message}
 use Rattle.protocol_traits.specs.Heads.{Header}
-use Rattle.translate_core.specs.declared.verdict.Cause.{Cause}
 use Rattle.translate_core.specs.Routes.{info_of}
 use Rattle.protocol_pairs.specs.Pairs.{answered}
 use Rattle.session_core.specs.declared.judge.Call.{Call}
-use Rattle.session_core.specs.declared.judge.UpstreamJudged.{UpstreamJudged}
 use Rattle.session_core.specs.declared.judge.UpstreamJudged.TheVariants as upstream
 use Rattle.session_core.specs.declared.outcome.Halt.{Halt}
 use Rattle.session_core.specs.declared.outcome.Halt.TheVariants as halt
 use Rattle.session_judge.specs.Setting.{Setting}
 use Rattle.session_judge.specs.Client.{call_of}
-use Rattle.session_judge.specs.Upstream.{of_type, of_upstream, back} 
+use Rattle.session_judge.specs.Upstream.{of_type, of_upstream, back}
 use Rattle.session_judge.specs.Upstream as judging
 use Rattle.session_judge.specs.Rules.{told, rules_of}
 use Rattle.binary_laws.specs.Bytes.{AreBytes}
-use Rattle.binary_laws.specs.Reads.{header_of_message}
 use Rattle.session_laws.specs.Saying.{HasLaws, Said, GoesOn, Says}
 use Rattle.session_laws.specs.Saying as saying
 use Rattle.session_laws.specs.Exchange.{replying, method_of, is_reply, returned, EndsUpstream}
@@ -51,7 +47,10 @@ module _ (s : Setting) (call : Header) (y : List ℕ) where
       by_said : IsSaidBy (replying s call) (answered s.upstream s.client y) y (told s (kept s call) y) → (r : Said) × Says (replying s call) y r × IsReplyFate s call y r
       by_said (ByMessage m out says e) =
           (GoesOn m out, says, by_type (GoesOn m out) m.mtype out (ap (λ j. of_upstream j.verdict) e) (ap (λ j. judging.returned (answered s.upstream s.client y) j.verdict j.bytes) e) refl (λ h x. x) (λ x. (x, refl)))
-      by_said (ByCause h cause says e) =
-          (saying.IsRefused h cause (answered s.upstream s.client y cause), says, by_type (saying.IsRefused h cause (answered s.upstream s.client y cause)) h.mtype (answered s.upstream s.client y cause)
-          (ap (λ j. of_upstream j.verdict) e) (ap (λ j. judging.returned (answered s.upstream s.client y) j.verdict j.bytes) e) refl (λ h x. x) (λ x. (x, refl)))
+      by_said (ByCause h cause says e) = (
+        saying.IsRefused h cause (answered s.upstream s.client y cause),
+        says,
+        by_type (saying.IsRefused h cause (answered s.upstream s.client y cause)) h.mtype (answered s.upstream s.client y cause)
+            (ap (λ j. of_upstream j.verdict) e) (ap (λ j. judging.returned (answered s.upstream s.client y) j.verdict j.bytes) e) refl (λ h x. x) (λ x. (x, refl)),
+      )
       by_said (ByFault f says e) = (saying.IsUnread f, says, HaltsReply (halt.Unread f) (ap (λ j. of_upstream j.verdict) e) (ap (λ j. judging.returned (answered s.upstream s.client y) j.verdict j.bytes) e) refl)

@@ -1,19 +1,17 @@
 -- The frames of both sides that were taken, counted.
-use Rattle.std.proofs.Common.{◌≡◌, ℕ, zero, suc, ◌+◌, ◌<◌, ◌≤◌, ◌^◌, ◌⊎◌, inl, inr, List, [], ◌∷◌, ◌++◌, length, length-append, take, drop, map, None, Some, slice_get, refl, ap, ◌∙◌, sym, subst, append_assoc, arith}
-use Rattle.std.specs.List.{All, flat_map}
-use Rattle.std.proofs.lemmas.List.{append-nil, length-map, length-take, take-append-drop}
+use Rattle.std.proofs.Common.{◌≡◌, ℕ, zero, suc, ◌<◌, ◌≤◌, ◌^◌, inl, inr, List, [], ◌∷◌, ◌++◌, length, length-append, take, drop, map, None, Some, slice_get, refl, ap, ◌∙◌, sym, subst, append_assoc, arith}
+use Rattle.std.specs.List.{flat_map}
+use Rattle.std.proofs.lemmas.List.{length-map, length-take, take-append-drop}
 use Rattle.std.proofs.lemmas.List.Elements.{All-take}
 use Rattle.std.proofs.lemmas.Grind.{flat_map-append}
 use Rattle.protocol_traits.specs.Heads.{Header}
 use Rattle.framed_transport.specs.Frames.{framed}
-use Rattle.framed_transport.specs.Front.{Whole, front}
 use Rattle.session_core.specs.Standing.{Standing, History}
 use Rattle.session_core.specs.Stands as session
 use Rattle.session_core.specs.Fits.{Fits}
 use Rattle.session_core.specs.Ends.{IsAtRest}
 use Rattle.session_core.specs.declared.judge.Call.{Call}
 use Rattle.session_core.specs.declared.judge.ClientJudged.TheVariants as client
-use Rattle.session_core.specs.declared.judge.UpstreamJudged.TheVariants as upstream
 use Rattle.session_core.specs.declared.outcome.Halt.{Halt}
 use Rattle.session_core.proofs.Greatest.{StandsAtFront, Compared, compared, all_due}
 use Rattle.session_judge.specs.Setting.{Setting}
@@ -22,12 +20,12 @@ use Rattle.translate_core.specs.declared.verdict.Cause.{Cause}
 use Rattle.session_laws.specs.Saying.{HasLaws, Said}
 use Rattle.session_laws.specs.Exchange.{Waits, Tells, Ends, opened, done, calls, onward, back, EndsUpstream}
 use Rattle.session_laws.specs.Exchange as exchange
-use Rattle.session_laws.specs.Carrying.{IsStand, IsSent, IsComplete}
+use Rattle.session_laws.specs.Carrying.{IsStand, IsComplete}
 use Rattle.session_laws.proofs.Fates.{IsFate, Opens, Goes, IsAnswered, IsDropped, Halts}
 use Rattle.session_laws.proofs.Replies.{kept, IsReplyFate}
-use Rattle.session_laws.proofs.Listing.{Fated, RepliesFated, calls_are, onward_is, back_is}
-use Rattle.session_laws.proofs.Placing.{all_at, get_map, map_get, get_here, take_here, split_at, get_some, take_get, take_twice, say_at, said_at, say_take, say_length, reply_at, reply_take, reply_fewer, reply_length}
-use Rattle.session_laws.proofs.Carrying.{halts_is, reply_halts_is, client_is, upstream_is, Both}
+use Rattle.session_laws.proofs.Listing.{RepliesFated, calls_are, onward_is, back_is}
+use Rattle.session_laws.proofs.Placing.{all_at, get_map, get_here, take_here, split_at, get_some, take_get, take_twice, say_at, said_at, say_take, say_length, reply_at, reply_take, reply_fewer, reply_length}
+use Rattle.session_laws.proofs.Carrying.{halts_is, reply_halts_is, Both}
 
 -- a refused call is answered
 tells_is : (s : Setting) (x : List ℕ) (a : Said) (cause : Cause) → IsFate s x a → (rules_of s).judged x ≡ client.Refused cause → (answer : List ℕ) × (done s a ≡ Tells answer)

@@ -3,21 +3,18 @@ use Rattle.std.specs.Prelude.{◌≡◌, ⊤, ℕ, List, [], ◌∷◌, ◌++◌
 use Rattle.std.specs.List.{flat_map}
 use Rattle.thrift_value.specs.declared.kind.MessageType.{MessageType}
 use Rattle.thrift_value.specs.declared.kind.MessageType.TheVariants as types
-use Rattle.thrift_value.specs.Trees.{Message}
 use Rattle.protocol_traits.specs.Heads.{Header}
 use Rattle.type_tables.specs.declared.declared.MethodInfo.{MethodInfo}
-use Rattle.type_tables.specs.declared.declared.StructId.{StructId}
 use Rattle.multiplex_names.specs.Names.{find_in}
 use Rattle.translate_core.specs.declared.route.Route.TheVariants.{ByName, Answer}
 use Rattle.translate_core.specs.Routes.{result_of}
-use Rattle.framed_transport.specs.Frames.{framed}
 use Rattle.session_core.specs.declared.outcome.Halt.{Halt}
 use Rattle.session_core.specs.declared.outcome.Halt.TheVariants as halt
 use Rattle.session_judge.specs.Setting.{Setting}
 use Rattle.session_judge.specs.Client.{is_answered}
 use Rattle.session_judge.specs.Upstream.{expected}
 use Rattle.binary_laws.specs.Reads.{header_of_message}
-use Rattle.session_laws.specs.Saying.{Passage, Said, GoesOn, IsRefused, IsUnread, Says}
+use Rattle.session_laws.specs.Saying.{Passage, Said, GoesOn, IsRefused, IsUnread}
 
 -- ---- the client
 

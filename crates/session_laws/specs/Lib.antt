@@ -3,3 +3,4 @@ pub mod Saying
 pub mod Exchange
 pub mod Streaming
 pub mod Carrying
+pub mod Serving
