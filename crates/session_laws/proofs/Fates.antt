@@ -11,7 +11,7 @@ use Rattle.protocol_traits.specs.Heads.{Header}
 use Rattle.type_tables.specs.Declarations.{Declarations}
 use Rattle.translate_core.specs.declared.route.Route.{Route}
 use Rattle.translate_core.specs.declared.verdict.Cause.{Cause}
-use Rattle.translate_core.specs.declared.verdict.Cause.TheVariants.{Grammar}
+use Rattle.translate_core.specs.declared.verdict.Cause.TheVariants.{Grammar, Barred}
 use Rattle.translate_core.specs.declared.verdict.Verdict.TheVariants.{Passed, Refused, Unread}
 use Rattle.translate_core.specs.Routes.{info_of}
 use Rattle.translate_core.specs.Judged.{Judged, judged}
@@ -28,11 +28,11 @@ use Rattle.session_judge.specs.Rules.{asked, rules_of}
 use Rattle.binary_laws.specs.Bytes.{AreBytes}
 use Rattle.binary_laws.specs.Reads.{header_of_message}
 use Rattle.verdict_laws.specs.Verdicts.{IsVerdict, IsPlain}
-use Rattle.verdict_laws.specs.Verdicts.IsVerdict.{Passes, IsFaulty, IsUnread}
+use Rattle.verdict_laws.specs.Verdicts.IsVerdict.{Passes, IsBarred, IsFaulty, IsUnread}
 use Rattle.verdict_laws.specs.Rounds.{SpellsIn, plain_in}
 use Rattle.verdict_laws.proofs.Faulted.{binary_told, compact_told}
 use Rattle.verdict_laws.proofs.Round.{round}
-use Rattle.session_laws.specs.Saying.{HasLaws, Passage, SpellsHead, FaultBy, IsShallow, SpellsPlainly, Said, GoesOn, Says, failure_of}
+use Rattle.session_laws.specs.Saying.{PlaceBy, BeginsWith, HasLaws, Passage, SpellsHead, FaultBy, IsShallow, SpellsPlainly, Said, GoesOn, Says, failure_of}
 use Rattle.session_laws.specs.Saying as saying
 use Rattle.session_laws.specs.Exchange.{asking, method_of, way_by, way_of, done, Waits, Tells, Ends, passed, done_for_message, done_for_refused, passed_by}
 use Rattle.session_laws.specs.Exchange as exchange
@@ -46,29 +46,39 @@ pub data IsSaidBy (p : Passage) (answer : Cause → List ℕ) (frame : List ℕ)
   ByCause : (h : Header) (cause : Cause) → Says p frame (saying.IsRefused h cause (answer cause)) → j ≡ judged (Refused (info_of p.declarations p.route h) cause) [] → IsSaidBy p answer frame j
   ByFault : (f : Fault) → Says p frame (saying.IsUnread f) → j ≡ judged (Unread f) [] → IsSaidBy p answer frame j
 
-is_plain : (to : Proto) (d : Declarations) (route : Route) (m : Message) (bytes : List ℕ) → IsPlain to d route m bytes → bytes ≡ plain_in to d route m
-is_plain protocols.Binary d route m bytes e = e
-is_plain protocols.Compact d route m bytes e = e
-is_plain protocols.Json d route m bytes e = absurd e
+is_plain : (to : Proto) (d : Declarations) (route : Route) (m : Message) (bytes : List ℕ) → HasLaws to → IsPlain to d route m bytes → bytes ≡ plain_in to d route m
+is_plain protocols.Binary d route m bytes laws e = e
+is_plain protocols.Compact d route m bytes laws e = e
+is_plain protocols.Json d route m bytes laws e = absurd (laws refl)
 
-pub verdict_is : (p : Passage) (frame : List ℕ) → AreBytes frame → HasLaws p.from → HasLaws p.to
-    → IsVerdict (SpellsHead p.from) (SpellsIn p.from) (FaultBy p p.from) p.declarations p.route p.to frame (pairs.judged p.declarations p.route p.from p.to frame)
-verdict_is p frame are from to = by_protocol p.from from
+-- a frame that spells a message begins with its header
+headed : (from : Proto) (m : Message) (frame : List ℕ) → SpellsIn from m frame → BeginsWith from (header_of_message m) frame
+headed protocols.Binary m frame (small, fits, (header, body, head, members, laid)) = (header, body, laid, (small, fits, head))
+headed protocols.Compact m frame (header, body, head, members, laid) = (header, body, laid, head)
+headed protocols.Json m frame spells = absurd spells
+
+pub verdict_is : (p : Passage) (frame : List ℕ) → AreBytes frame → HasLaws p.from
+    → IsVerdict (SpellsHead p.from) (SpellsIn p.from) (FaultBy p p.from) (PlaceBy p.from) p.declarations p.route p.to frame (pairs.judged p.declarations p.route p.from p.to frame)
+verdict_is p frame are from = by_protocol p.from from
   where
-    by_protocol : (protocol : Proto) → HasLaws protocol → IsVerdict (SpellsHead protocol) (SpellsIn protocol) (FaultBy p protocol) p.declarations p.route p.to frame (pairs.judged p.declarations p.route protocol p.to frame)
-    by_protocol protocols.Binary laws = binary_told p.declarations p.route p.to frame are to
-    by_protocol protocols.Compact laws = compact_told p.declarations p.route p.to frame are to
+    by_protocol : (protocol : Proto) → HasLaws protocol → IsVerdict (SpellsHead protocol) (SpellsIn protocol) (FaultBy p protocol) (PlaceBy protocol) p.declarations p.route p.to frame (pairs.judged p.declarations p.route protocol p.to frame)
+    by_protocol protocols.Binary laws = binary_told p.declarations p.route p.to frame are
+    by_protocol protocols.Compact laws = compact_told p.declarations p.route p.to frame are
     by_protocol protocols.Json laws = absurd (laws refl)
 
 pub said_by : (p : Passage) (frame : List ℕ) → AreBytes frame → HasLaws p.from → HasLaws p.to → HasLaws p.teller
     → IsSaidBy p (answered p.from p.teller frame) frame (pairs.judged p.declarations p.route p.from p.to frame)
-said_by p frame are from to teller = by_verdict (verdict_is p frame are from to)
+said_by p frame are from to teller = by_verdict (verdict_is p frame are from)
   where
-    by_verdict : IsVerdict (SpellsHead p.from) (SpellsIn p.from) (FaultBy p p.from) p.declarations p.route p.to frame (pairs.judged p.declarations p.route p.from p.to frame)
+    by_verdict : IsVerdict (SpellsHead p.from) (SpellsIn p.from) (FaultBy p p.from) (PlaceBy p.from) p.declarations p.route p.to frame (pairs.judged p.declarations p.route p.from p.to frame)
         → IsSaidBy p (answered p.from p.teller frame) frame (pairs.judged p.declarations p.route p.from p.to frame)
-    by_verdict (Passes m out spells deep plain e) =
-        let is = is_plain p.to p.declarations p.route m out plain in
-        ByMessage m out (spells, deep, (subst (λ b. SpellsIn p.to m b) (sym is) (round p.declarations p.route p.from p.to m frame spells deep to).spells, is)) e
+    by_verdict (Passes m out spells deep holds plain e) =
+        let is = is_plain p.to p.declarations p.route m out to plain in
+        ByMessage m out (spells, deep, holds, (subst (λ b. SpellsIn p.to m b) (sym is) (round p.declarations p.route p.from p.to m frame spells deep to).spells, is)) e
+    by_verdict (IsBarred m spot place bar spells deep first at e) =
+        let begins = headed p.from m frame spells in
+        ByCause (header_of_message m) (Barred place bar)
+        (begins, record { message = m; spot = spot; spells = spells; shallow = deep; first = first; stands = at }, answer_spells p.declarations p.route p.from p.teller frame (header_of_message m) (Barred place bar) teller begins) e
     by_verdict (IsFaulty header front rest f laid head stands e) =
         ByCause header (Grammar f) ((front, rest, laid, head), stands, answer_spells p.declarations p.route p.from p.teller frame header (Grammar f) teller (front, rest, laid, head)) e
     by_verdict (IsUnread f none stands e) = ByFault f ((λ header begins. none header begins.0 begins.1 begins.2 begins.3), stands) e

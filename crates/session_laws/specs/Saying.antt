@@ -3,6 +3,7 @@ use Rattle.std.specs.Prelude.{◌≡◌, ℕ, ◌<◌, ℤ, pos, List, [], ◌++
 use Rattle.std.specs.Str.{is_utf8}
 use Rattle.thrift_value.specs.declared.kind.MessageType.TheVariants as types
 use Rattle.thrift_value.specs.Trees.{Message, Members, no_members, one_member, characters, whole_32, depth_of_members}
+use Rattle.protocol_traits.specs.declared.fault.Bar.{Bar}
 use Rattle.protocol_traits.specs.declared.fault.Fault.{Fault}
 use Rattle.protocol_traits.specs.declared.proto.Proto.{Proto}
 use Rattle.protocol_traits.specs.declared.proto.Proto.TheVariants as protocols
@@ -15,6 +16,7 @@ use Rattle.translate_core.specs.Answers.{method_name}
 use Rattle.translate_core.specs.Texts.{cause_text}
 use Rattle.binary_laws.specs.Faults as binary_faults
 use Rattle.compact_laws.specs.Faults as compact_faults
+use Rattle.verdict_laws.specs.Bars.{Spot, IsFirstBar, HoldsAll, BinaryPlace, CompactPlace}
 use Rattle.verdict_laws.specs.Rounds.{SpellsIn, plain_in}
 use Rattle.verdict_laws.specs.Verdicts.{BinaryHead, CompactHead}
 
@@ -64,10 +66,25 @@ FaultBy p protocols.Json frame f = ⊥
 abbrev pub FaultIn : Passage → List ℕ → Fault → Type 0
 FaultIn p frame f = FaultBy p p.from frame f
 
--- why a message with a whole header can't go on: a fault stands in the frame. Binary and Compact hold every message, so nothing is barred there
+-- where a spot of the message stands in the frame
+abbrev pub PlaceBy : Proto → Message → List ℕ → Spot → ℕ → Type 0
+PlaceBy protocols.Binary m frame spot place = BinaryPlace m frame spot place
+PlaceBy protocols.Compact m frame spot place = CompactPlace m frame spot place
+PlaceBy protocols.Json m frame spot place = ⊥
+
+-- the frame spells a message of which the other protocol can't hold this, at this place, nor is there anything earlier
+pub record BarIn (p : Passage) (frame : List ℕ) (place : ℕ) (bar : Bar) : Type 0 where
+  pub message : Message
+  pub spot : Spot
+  pub spells : Spells p p.from message frame
+  pub shallow : IsShallow message
+  pub first : IsFirstBar p.to p.declarations p.route message spot bar
+  pub stands : PlaceBy p.from message frame spot place
+
+-- why a message with a whole header can't go on: a fault stands in the frame, or else something is barred
 abbrev pub StandsIn : Passage → List ℕ → Cause → Type 0
 StandsIn p frame (Grammar f) = FaultIn p frame f
-StandsIn p frame (Barred place bar) = ⊥
+StandsIn p frame (Barred place bar) = BarIn p frame place bar
 
 -- ---- the exception that tells a refusal (Thrift remote procedure call specification, "Response struct": a TApplicationException)
 
@@ -105,6 +122,6 @@ pub data Said : Type 0 where
 
 -- the frame says this
 abbrev pub Says : Passage → List ℕ → Said → Type 0
-Says p frame (GoesOn m out) = Spells p p.from m frame × IsShallow m × SpellsPlainly p p.to m out
+Says p frame (GoesOn m out) = Spells p p.from m frame × IsShallow m × HoldsAll p.to p.declarations p.route m × SpellsPlainly p p.to m out
 Says p frame (IsRefused header cause answer) = BeginsWith p.from header frame × StandsIn p frame cause × SpellsPlainly p p.teller (failure_of p.teller header cause) answer
 Says p frame (IsUnread f) = ((header : Header) → BeginsWith p.from header frame → ⊥) × FaultIn p frame f
