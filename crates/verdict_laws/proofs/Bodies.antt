@@ -24,7 +24,7 @@ use Rattle.translate_core.proofs.Judging.{judge_ok}
 use Rattle.verdict_laws.specs.Following.{behind, Follows}
 
 -- the writer behind these items
-abbrev writers : {T : Type 0} → Target T → T → List (Item × Mark) → T
+abbrev pub writers : {T : Type 0} → Target T → T → List (Item × Mark) → T
 writers target w [] = w
 writers target w (x ∷ xs) = writers target (target.after w x.0 x.1) xs
 

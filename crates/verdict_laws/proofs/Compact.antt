@@ -63,11 +63,11 @@ use Rattle.std.proofs.lemmas.Bool.Decides.{nat_tests}
 use Rattle.std.specs.Prelude.{◌==◌, if◌then◌else◌, ◌*◌, FitsSigned}
 use Rattle.translate_core.specs.Judged.{Judged}
 
-some_levels : (nest : List Slot) → (nest ≡ [] → ⊥) → 0 < length nest
+pub some_levels : (nest : List Slot) → (nest ≡ [] → ⊥) → 0 < length nest
 some_levels [] some = absurd (some refl)
 some_levels (slot ∷ up) some = omega arith
 
-abbrev levels : State → ℕ
+abbrev pub levels : State → ℕ
 levels s = length s.nest
 
 all_ok : {X : Type 0} {P : Type 0} → (r : Step X Item) → P → IfOk r (λ x. P)
@@ -81,10 +81,10 @@ open_read s = by_nest s.nest refl
     by_nest [] e = subst (λ r. IfOk r (λ x. 0 < length s.nest)) (sym (reads_none s (ap first_of e))) tt
     by_nest (slot ∷ up) e = let some : 0 < length s.nest = subst (λ n. 0 < n) (sym (ap length e)) (omega arith) in all_ok (reads s) some
 
-nested : IsNested compact_source levels
+pub nested : IsNested compact_source levels
 nested = record { pays = (λ s hint. reads_pays s); open_level = (λ s hint. open_read s); nests = (λ s hint. reads_nests s) }
 
-follows : (items : List Item) (s last : State) (p : Position) → Reads s items last → Follows compact_source s p items last
+pub follows : (items : List Item) (s last : State) (p : Position) → Reads s items last → Follows compact_source s p items last
 follows [] s last p e = e
 follows (item ∷ items) s last p (next, e, more) = (next, e, follows items next last (after p item) more)
 
@@ -92,11 +92,11 @@ ended : (b : Bool) (x : Step State (Unit {0})) (f : Fault) (r : Unit {0} × Stat
 ended true x f r e = refl
 ended false x f r e = absurd (cc)
 
-end_closed : (s last : State) → reads_end s ≡ Ok (tt, last) → length s.nest ≡ 0
+pub end_closed : (s last : State) → reads_end s ≡ Ok (tt, last) → length s.nest ≡ 0
 unfolding reads_end
 end_closed s last e = let z = ended (length s.nest == 0) _ _ (tt, last) e in grind (arith, nat_tests)
 
-body_level : (frame : List ℕ) (header : Header) (first : State) → reads_head (begun frame) ≡ Ok (header, first) → length first.nest ≡ 1
+pub body_level : (frame : List ℕ) (header : Header) (first : State) → reads_head (begun frame) ≡ Ok (header, first) → length first.nest ≡ 1
 body_level frame header first e = (subst (λ r. IfOk r (λ x. (head_weight (length x.0.name) + ahead x.1 ≤ ahead (begun frame)) × (length x.1.nest ≡ 1))) e (reads_head_pays (begun frame))).1
 
 module _ (d : Declarations) (route : Route) (to : Proto) (frame : List ℕ) {T : Type 0} (target : Target T)

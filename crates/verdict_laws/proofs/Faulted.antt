@@ -39,7 +39,7 @@ use Rattle.verdict_laws.proofs.Binary.{binary_judged}
 use Rattle.verdict_laws.proofs.Compact.{compact_judged}
 
 -- some front of the frame is this header
-abbrev Fronted : (Header → List ℕ → Type 0) → Header → List ℕ → Type 0
+abbrev pub Fronted : (Header → List ℕ → Type 0) → Header → List ℕ → Type 0
 Fronted SpellsHead header frame = (front : List ℕ) × (rest : List ℕ) × (frame ≡ front ++ rest) × SpellsHead header front
 
 told : {S : Type 0} → (source : Source S) (SpellsHead : Header → List ℕ → Type 0) (Spells : Message → List ℕ → Type 0) (P Q : List ℕ → Fault → Type 0) (Place : Message → List ℕ → Spot → ℕ → Type 0) (d : Declarations) (route : Route) (to : Proto) (frame : List ℕ) (j : Judged)
@@ -53,13 +53,13 @@ told {S} source SpellsHead Spells P Q Place d route to frame j fronted none same
 
 -- ---- Binary
 
-binary_fronted : (frame : List ℕ) → AreBytes frame → (header : Header) (first : binary_reading.State) → binary_reading.reads_head (binary_reading.begun frame) ≡ Ok (header, first) → Fronted BinaryHead header frame
+pub binary_fronted : (frame : List ℕ) → AreBytes frame → (header : Header) (first : binary_reading.State) → binary_reading.reads_head (binary_reading.begun frame) ≡ Ok (header, first) → Fronted BinaryHead header frame
 binary_fronted frame are header first e =
     let r = binary_sound.begun_read frame header first e in
     let x = binary_headed.head_read frame are header r.0 r.1 in
     (x.header, x.body, x.laid, (x.small, x.fits, x.spells no_members))
 
-binary_none : (frame : List ℕ) (header : Header) (f : Fault) → binary_reading.reads_head (binary_reading.begun frame) ≡ Err f → Fronted BinaryHead header frame → ⊥
+pub binary_none : (frame : List ℕ) (header : Header) (f : Fault) → binary_reading.reads_head (binary_reading.begun frame) ≡ Err f → Fronted BinaryHead header frame → ⊥
 binary_none frame header f e (front, rest, laid, (small, fits, spells)) =
     let m = message_of header no_members in
     let read = binary_spelled.head_is frame header (length front) (ap head_at laid ∙ binary_heading.head_again m small fits rest front spells) in
@@ -68,10 +68,10 @@ binary_none frame header f e (front, rest, laid, (small, fits, spells)) =
 
 -- ---- Compact
 
-compact_fronted : (frame : List ℕ) → AreBytes frame → (header : Header) (first : compact_reading.State) → compact_reading.reads_head (compact_reading.begun frame) ≡ Ok (header, first) → Fronted CompactHead header frame
+pub compact_fronted : (frame : List ℕ) → AreBytes frame → (header : Header) (first : compact_reading.State) → compact_reading.reads_head (compact_reading.begun frame) ≡ Ok (header, first) → Fronted CompactHead header frame
 compact_fronted frame are header first e = let x = compact_headed.head_read frame are header first e in (x.header, x.body, x.laid, x.spells no_members)
 
-compact_none : (frame : List ℕ) (header : Header) (f : Fault) → compact_reading.reads_head (compact_reading.begun frame) ≡ Err f → Fronted CompactHead header frame → ⊥
+pub compact_none : (frame : List ℕ) (header : Header) (f : Fault) → compact_reading.reads_head (compact_reading.begun frame) ≡ Err f → Fronted CompactHead header frame → ⊥
 compact_none frame header f e (front, rest, laid, spells) =
     let m = message_of header no_members in
     let h = compact_heading.head_again m front rest spells in
