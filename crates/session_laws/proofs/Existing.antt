@@ -32,7 +32,7 @@ each_byte (b ∷ bytes) are zero = are.0
 each_byte (b ∷ bytes) are (suc k) = each_byte bytes are.1 k
 
 -- the first frame of a stream, and what is behind it
-frame_bytes : (x more : List ℕ) → AreBytes (framed x ++ more) → AreBytes x × AreBytes more
+pub frame_bytes : (x more : List ℕ) → AreBytes (framed x ++ more) → AreBytes x × AreBytes more
 unfolding framed
 frame_bytes x more are =
     let parts = bytes_front (framed x) more are in

@@ -1,2 +1,3 @@
 pub mod Giving
 pub mod Sessions
+pub mod Covering

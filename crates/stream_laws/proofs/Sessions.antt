@@ -1,10 +1,9 @@
 -- What a server has carried, from its clause.
-use Rattle.std.proofs.Common.{◌≡◌, ℕ, ◌<◌, ◌^◌, ◌≤◌, inl, inr, List, Option, None, true, refl, sym, subst}
-use Rattle.std.proofs.Common.{arith}
+use Rattle.std.proofs.Common.{ℕ, inl, inr, Option, refl, sym, subst}
 use Rattle.type_tables.specs.declared.declared.ServiceId.{ServiceId}
 use Rattle.type_tables.specs.Declarations.{Declarations}
 use Rattle.gate_io.specs.Meaning.{Meaning}
-use Rattle.gate_io.specs.Hubs.{Counts, NotStarted, StartLeads}
+use Rattle.gate_io.specs.Hubs.{Counts, StartLeads}
 use Rattle.gate_io.specs.declared.hub.Began.TheVariants as began
 use Rattle.gate_io.specs.declared.hub.Served.{Served}
 use Rattle.session_judge.specs.Setting.{Setting}
@@ -16,9 +15,8 @@ use Rattle.gate_words.specs.declared.serving.Serving.{Serving}
 use Rattle.gate_run.specs.Outcome.{Streams}
 use Rattle.gate_run.specs.Serving.{ServesAll, Began, NotBegun, NoMemory, started_by, setting_by, settings}
 use Rattle.gate_run.specs.Starting.{Holds, Starting, Goes, Stops}
-use Rattle.session_laws.specs.Saying.{HasLaws}
-use Rattle.session_laws.specs.Serving.{ReceivesBytes, CarriesAll}
-use Rattle.stream_laws.specs.Sessions.{IsUntouched, HasNotServed, HasCarried, CarriesMessages}
+use Rattle.session_laws.specs.Serving.{CarriesAll}
+use Rattle.stream_laws.specs.Sessions.{IsUntouched, CarriesMessages}
 
 fresh : (s : Serving) (m n : Meaning) → IsUntouched m → StartLeads (started_by s) began.Done m n → IsFresh n
 fresh s m n before e = subst (λ (x : Meaning). IsFresh x) (sym e) (record { started = refl; unasked = before.unstarted.1; none = before.none })
