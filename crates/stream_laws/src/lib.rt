@@ -3,13 +3,13 @@
 //! Each law is the contract of a function that does nothing. The code rests on none of them.
 #![tactic(auto)]
 
-ghost use Rattle.std.specs.Prelude.{◌≡◌, List, ℕ, Option};
+ghost use Rattle.std.specs.Prelude.{◌≡◌, List, ℕ, Option, Some};
 ghost use Rattle.std.specs.Io.KnownBytes.{Consumes};
 ghost use Rattle.std.specs.List.{flat_map};
 ghost use Rattle.protocol_traits.specs.declared.proto.Proto.{Proto};
 ghost use Rattle.protocol_traits.specs.declared.proto.Proto.TheVariants as protocols;
 ghost use Rattle.gate_io.specs.Meaning.{Meaning};
-ghost use Rattle.gate_words.specs.Commands.{IsInRange};
+ghost use Rattle.gate_words.specs.Commands.{command};
 ghost use Rattle.gate_words.specs.declared.command.Command.TheVariants.{Serve};
 ghost use Rattle.gate_words.specs.declared.options.Declared.{Declared};
 ghost use Rattle.gate_words.specs.declared.serving.Serving.{Serving};
@@ -60,10 +60,10 @@ pub fn a_stream_is_shown_by_its_grammar()
 /// One that came to an end was sent all that was due, and one that was left open all that the calls allow, where both sides can be written
 /// to and the budget isn't spent.
 pub fn a_session_carries_messages<H: Hub>()
-    ensures { (s : Serving) (words : Declared) (told : Option Holds) (h h' : H) (before now : ℕ) (a b : Streams) (code : ℕ) → IsInRange (Serve s words) → HasLaws s.client → HasLaws s.upstream
+    ensures { (words : List (List ℕ)) (s : Serving) (d : Declared) (told : Option Holds) (h h' : H) (before now : ℕ) (a b : Streams) (code : ℕ) → command words ≡ Some (Serve s d) → HasLaws s.client → HasLaws s.upstream
         → ((n : Meaning) → H.tells h' n → ReceivesBytes n)
-        → Starting told words before now a b code (λ declarations service. ServesAll H.tells H.counts s declarations service h h' a b code)
-        → Starting told words before now a b code (λ declarations service. CarriesMessages (H.tells h) (H.tells h') s declarations service a b) }
+        → Starting told d before now a b code (λ declarations service. ServesAll H.tells H.counts s declarations service h h' a b code)
+        → Starting told d before now a b code (λ declarations service. CarriesMessages (H.tells h) (H.tells h') s declarations service a b) }
 {
     a_server_carries_messages::<H>();
 }
