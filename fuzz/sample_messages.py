@@ -14,7 +14,7 @@ SHOP = Schema(b"Shop", {
               ("struct", {0: ORDER})),
     b"log": (("struct", {1: TEXT, 2: I32}), ("struct", {})),
 })
-"""What calls.thrift declares."""
+"""What shop.thrift declares."""
 
 WORDS = ("amber birch cedar delta ember fjord grove haven inlet juniper kelp larch maple north ochre pine quay "
          "reed slate tide umber vale willow yarrow zephyr Grüße naïve café “quoted” tab\there 東京 🙂").split(" ")
