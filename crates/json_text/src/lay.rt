@@ -8,11 +8,12 @@ use crate::write::hex;
 use cell_writes::{SLACK, lay, lay_part};
 use itoa::Buffer;
 
-/// Lays an integer into the cells from a place on, and gives the place behind it.
+/// Lays an integer, at most twenty bytes, into the cells from a place on, and gives the place behind it.
 pub fn lay_int(cells: &mut [u8], to: usize, value: i64) -> usize
-    requires { to + length (signed_decimal value) ≤ length cells.old }
+    requires { to + 20 ≤ length cells.old }
     ensures laid { take result cells.new ≡ take to cells.old ++ signed_decimal value }
     ensures place { result ≡ to + length (signed_decimal value) }
+    ensures short { result ≤ to + 20 }
 {
     let mut buffer = Buffer::new();
     lay(cells, to, buffer.format(value).as_bytes())
