@@ -1,6 +1,7 @@
 //! A body gathered from its events, and events that end early.
 use std::test::*;
-use thrift_value::{Event, GatherFault, Kind, gather};
+use thrift_value::{Event, Kind};
+use value_trees::{GatherFault, gather};
 
 #[test]
 fn gathers(rt: HostRuntime) -> Result<(), Fail> {
