@@ -1,8 +1,9 @@
 -- What the calls of a server lead to, wherever it stands.
-use Rattle.std.proofs.Common.{◌≡◌, ◌≢◌, ℕ, zero, suc, ◌+◌, ◌<◌, ◌≤◌, ◌⊎◌, inl, inr, List, [], ◌∷◌, ◌++◌, length, take, Option, None, Some, Result, Ok, Err, Bool, true, false, true≢false, arith, ap, sym, ◌∙◌, subst, refl, append_assoc}
+use Rattle.std.proofs.Common.{◌≡◌, ◌≢◌, ℕ, zero, suc, ◌+◌, ◌<◌, ◌≤◌, ◌⊎◌, inl, inr, List, [], ◌∷◌, ◌++◌, length, take, Option, None, Some, Result, Ok, Err, Bool, true, false, true≢false, arith, ap, sym, ◌∙◌, subst, refl, append_assoc, length-append}
 use Rattle.std.proofs.lemmas.List.{append-nil, length-set}
 use Rattle.std.proofs.lemmas.List.Edits.{length-remove}
 use Rattle.std.proofs.lemmas.Grind.{flat_map-append}
+use Rattle.std.proofs.Math.Seq.{take-append-add}
 use Rattle.std.specs.Io.KnownBytes.{Appends}
 use Rattle.std.specs.Prelude.{⊤}
 use Rattle.std.specs.List.{slice_get, remove}
@@ -37,7 +38,7 @@ use Rattle.proxy_server.specs.declared.server.End.{End}
 use Rattle.proxy_server.specs.declared.server.End.TheVariants as ends
 use Rattle.proxy_server.specs.Serving.{Setting, Entry, Closing, IsHeld, IsOutcome, LinkFailed, OfItself, IsRising, Stands, no_more, Keeps, IsFresh, EndsOn, SpendsBy, is_over, closing_line, closing_lines, left_line, left_lines, ended_numbers, held_numbers, IsClosedInOrder, IsJustClosed}
 use Rattle.proxy_server.specs.Working.{IsAtWork, Waits, HasWaited, IsBusy, IsNamed, HasEndedAt, Awaits}
-use Rattle.proxy_server.specs.Steps.{IsRefusedAs, WasCounted, StepEnds, Writes, Outside, WorkEnds, StepWrites, EndedTo, LastLineFails, AreUnfailed, closing_calls, Leaves, LinesEnd, AllLines, LastOfWork, LeftOpen, WritesLines, AnswersLines, IsLeft, Accounts, Ending, Serves, first_wrote, served_by, Goes as StepGoes}
+use Rattle.proxy_server.specs.Steps.{IsRefusedAs, WasCounted, StepEnds, Writes, Outside, WorkEnds, StepWrites, EndedTo, LastLineFails, AreUnfailed, closing_calls, Leaves, LinesEnd, AllLines, LastOfWork, LeftOpen, WritesLines, ServedWrites, AnswersLines, IsLeft, Accounts, Ending, Serves, first_wrote, served_by, Goes as StepGoes}
 use Rattle.proxy_server.specs.Spending.{moved_of}
 use Rattle.proxy_server.proofs.Places.{decide, some_same, get_put_same, put_as_it_was, get_within, elsewhere}
 use Rattle.gate_io.proofs.Streams.{appends_none, appends_on, then_front, front_of_more}
@@ -639,6 +640,36 @@ serves_parts J rules set (ends.Budget at) wrote.Failed a b c spent spent' first 
     whole_of J rules set (ends.Budget at) served.Budget LeftOpen wrote.Failed a b c spent spent' first held at p
     (left_front a b c J p.work.more held p.work.writes (p.lines refl) (rose_by a.faults b.faults c.faults p.later (p.cause refl))) (inr refl) p.spends
     (λ begun m e. busy_stops J rules set LeftOpen begun spent' held p.work.more at m (λ is. no_last_left ⊥ is) e)
+
+-- ---- what was written, as it goes with the answer
+
+front_behind : (a b : Option (List ℕ)) (xs ys : List ℕ) (n : ℕ) → n ≤ length ys → Appends a b (xs ++ take n ys) → AppendsFront a b (xs ++ ys)
+front_behind a b xs ys n within p = (length xs + n, omega (arith, within, length-append xs ys), rw (take-append-add xs ys n) p)
+
+last_front : (a b : Option (List ℕ)) (ended : List Closing) → LastLineFails a b ended → AppendsFront a b (closing_lines ended)
+last_front a b ended q =
+    let whole : closing_lines ended ≡ closing_lines q.before ++ closing_line q.last = ap closing_lines q.ended_are ∙ (flat_map-append closing_line q.before (q.last ∷ []) ∙ ap (λ zs. closing_lines q.before ++ zs) (append-nil (closing_line q.last))) in
+    subst (λ (zs : List ℕ). AppendsFront a b zs) (sym whole) (front_behind a b (closing_lines q.before) (closing_line q.last) q.count q.within q.written)
+
+pub served_writes : (J : Type 0) (result : Served) (lines : LinesEnd) (a b : Outside) (ended : List Closing) (held : List (Entry J)) → WritesLines lines a.written b.written a.faults b.faults ended held → AnswersLines result lines → ServedWrites result a.written b.written a.faults b.faults (closing_lines ended ++ left_lines held)
+served_writes J served.Stopped AllLines a b ended held w is = w
+served_writes J served.Stopped LastOfWork a b ended held w is = absurd (cc)
+served_writes J served.Stopped LeftOpen a b ended held w is = absurd (cc)
+served_writes J served.HubFault AllLines a b ended held w is = inl w
+served_writes J served.HubFault LastOfWork a b ended held w (inl is) = absurd (cc)
+served_writes J served.HubFault LastOfWork a b ended held w (inr is) = absurd (cc)
+served_writes J served.HubFault LeftOpen a b ended held w is = inr (front_behind a.written b.written (closing_lines ended) (left_lines held) w.0.0 w.0.1 w.0.2, w.1)
+served_writes J served.WriteFault AllLines a b ended held w (inl is) = absurd (cc)
+served_writes J served.WriteFault AllLines a b ended held w (inr is) = absurd (cc)
+served_writes J served.WriteFault LastOfWork a b ended held w is = (front_of_more a.written b.written (closing_lines ended) (left_lines held) (last_front a.written b.written ended w.0), w.1)
+served_writes J served.WriteFault LeftOpen a b ended held w is = (front_behind a.written b.written (closing_lines ended) (left_lines held) w.0.0 w.0.1 w.0.2, w.1)
+served_writes J served.Budget AllLines a b ended held w is = inl w
+served_writes J served.Budget LastOfWork a b ended held w (inl is) = absurd (cc)
+served_writes J served.Budget LastOfWork a b ended held w (inr is) = absurd (cc)
+served_writes J served.Budget LeftOpen a b ended held w is = inr (front_behind a.written b.written (closing_lines ended) (left_lines held) w.0.0 w.0.1 w.0.2, w.1)
+served_writes J served.OutOfMemory AllLines a b ended held w is = w
+served_writes J served.OutOfMemory LastOfWork a b ended held w is = absurd (cc)
+served_writes J served.OutOfMemory LeftOpen a b ended held w is = absurd (cc)
 
 -- no memory was found for the server, and nothing was done
 pub serves_none : (J : Type 0) (rules : J → Rules) (set : Setting) (a : Outside) → Serves J rules set a a served.OutOfMemory

@@ -143,7 +143,18 @@ WritesLines LastOfWork old new faults faults' ended held = LastLineFails old new
 WritesLines LeftOpen old new faults faults' ended held =
     ((count : ℕ) × (count ≤ length (left_lines held)) × Appends old new (closing_lines ended ++ take count (left_lines held))) × Rose faults faults'
 
--- and what is answered then
+-- the same, and no more than how it goes with the answer: all lines were written, or a front of them before a fault of the output
+abbrev pub WritesOrFails : Option (List ℕ) → Option (List ℕ) → ℕ → ℕ → List ℕ → Type 0
+WritesOrFails old new faults faults' lines = Appends old new lines ⊎ (AppendsFront old new lines × Rose faults faults')
+
+abbrev pub ServedWrites : Served → Option (List ℕ) → Option (List ℕ) → ℕ → ℕ → List ℕ → Type 0
+ServedWrites served.Stopped old new faults faults' lines = Appends old new lines
+ServedWrites served.HubFault old new faults faults' lines = WritesOrFails old new faults faults' lines
+ServedWrites served.WriteFault old new faults faults' lines = AppendsFront old new lines × Rose faults faults'
+ServedWrites served.Budget old new faults faults' lines = WritesOrFails old new faults faults' lines
+ServedWrites served.OutOfMemory old new faults faults' lines = Appends old new lines
+
+-- what is answered, by which lines were written
 abbrev pub AnswersLines : Served → LinesEnd → Type 0
 AnswersLines served.Stopped lines = lines ≡ AllLines
 AnswersLines served.HubFault lines = (lines ≡ AllLines) ⊎ (lines ≡ LeftOpen)

@@ -1,4 +1,26 @@
 //! What a session holds between two calls, and the steps that it takes.
+//!
+//! A step takes the whole frame at the front of a side. The upstream's frame goes first.
+//!
+//! | frame at the front of | and its verdict | is taken once | and then |
+//! |---|---|---|---|
+//! | the upstream | passed or refused reply | a call is open, nothing is due to the client | the oldest call closes, the reply or what tells its refusal is due to the client |
+//! | the client | passed, with an answer | nothing is due to the upstream, a call may open | it is due to the upstream, and a call opens |
+//! | the client | passed, without an answer | the same | it is due to the upstream |
+//! | the client | refused, with an answer | besides, no call is open and nothing is due to the client | its answer is due to the client |
+//! | the client | refused, without an answer | nothing is due to the upstream, a call may open | it is dropped |
+//!
+//! Where no step is left and nothing is due, the session has an outcome if one of these holds, in this order:
+//!
+//! | what is so | outcome |
+//! |---|---|
+//! | a call is open, the upstream has ended and nothing of it is held | `UpstreamEnded` |
+//! | a call is open, the upstream's frame halts it or the upstream ended inside one | `UpstreamFault` |
+//! | no call is open, the client's frame halts it or the client ended inside one | `ClientFault` |
+//! | no call is open, the client has ended, a frame of the upstream is held | `Unsolicited` |
+//! | no call is open, the client has ended | `Clean` |
+//!
+//! A session with an outcome takes nothing more.
 ghost use Rattle.std.specs.Prelude.{◌≡◌, ◌+◌, ◌*◌, ◌^◌, ◌<◌, ◌≤◌, [], ◌++◌, ◌∷◌, length, take, drop, ℕ, is_some, List, IfOk, true, false, Some, None, if◌then◌else◌, ◌||◌, ◌-◌};
 ghost use Rattle.framed_transport.specs.Front.{front, Whole, behind, is_part, is_whole};
 ghost use Rattle.session_core.specs.Standing.{Standing, History, begun};
@@ -16,17 +38,23 @@ use gate_io::{Out, OutOfMemory};
 use std::alloc::Global;
 use translate_core::Cause;
 
+/// What a session holds, without its judge.
 #[derive(Drop)]
 pub struct State {
+    /// The bytes of each side that came and aren't taken.
     client: FrameBuf,
     upstream: FrameBuf,
+    /// The bytes that are due to each side.
     to_client: Out,
     to_upstream: Out,
+    /// The open calls, the oldest first.
     calls: HeapCircularBuffer<Call>,
     client_ended: bool,
     upstream_ended: bool,
+    /// How many frames of each side were taken.
     taken: u64,
     answered: u64,
+    /// The verdict on the client's front frame, where it was judged and waits.
     known: Option<Waiting>,
     pub outcome: Option<Outcome>,
 }
@@ -39,7 +67,7 @@ pub enum Turn {
     Takes,
 }
 
-/// What was found of the client's front frame, which waits: it is judged once.
+/// The stored verdict on the client's front frame, which waits, so that it is judged once.
 #[derive(Clone, Copy)]
 pub enum Waiting {
     Halts(Halt),
@@ -159,7 +187,7 @@ impl State {
         self.wait_turn(judge, waiting)
     }
 
-    /// Takes the client's front frame on by what was found of it before.
+    /// Continues with the client's front frame by its stored verdict.
     fn wait_turn<J: Judge>(&mut self, judge: &mut J, waiting: Waiting) -> Turn
         requires ready { IsReady self.old.client.limit self.old.calls.capacity self.old }
         requires fits { self.old.client.limit ≤ J.longest judge.old }
@@ -179,7 +207,7 @@ impl State {
         }
     }
 
-    /// Judges the client's front frame, and takes it or keeps what was found.
+    /// Judges the client's front frame, and takes it or stores the verdict.
     fn judge_turn<J: Judge>(&mut self, judge: &mut J) -> Turn
         requires ready { IsReady self.old.client.limit self.old.calls.capacity self.old }
         requires fits { self.old.client.limit ≤ J.longest judge.old }
@@ -317,6 +345,7 @@ impl State {
         }
     }
 
+    /// The outcome where the upstream halts.
     fn upstream_ending(&self, halt: Halt) -> Outcome
         ensures { result ≡ by_upstream halt (standing self.now) }
     {
@@ -327,6 +356,7 @@ impl State {
         }
     }
 
+    /// The outcome where the client halts: none while a call is open.
     fn client_ending(&self, halt: Halt) -> Option<Outcome>
         ensures { result ≡ (if is_none self.now.calls.items then Some (Outcome.ClientFault (told (self.now.taken + 1)) halt) else None) }
     {
@@ -337,6 +367,7 @@ impl State {
         }
     }
 
+    /// The outcome where no frame waits: none while a call is open or the client may send more.
     fn end_ending(&self) -> Option<Outcome>
         requires { self.now.upstream.limit ≡ self.now.client.limit }
         ensures { result ≡ (if is_none self.now.calls.items then by_client self.now.client.limit (standing self.now) Waits else None) }
@@ -350,6 +381,7 @@ impl State {
         Some(self.clean_ending())
     }
 
+    /// The outcome once the client has ended at a frame's end and each call was answered.
     fn clean_ending(&self) -> Outcome
         ensures { result ≡ at_end self.now.upstream.limit (standing self.now) }
     {
@@ -523,6 +555,7 @@ impl State {
         rooms + held + due + 16 * self.calls.len()
     }
 
+    /// The bytes that are due to the client.
     pub fn to_client(&self) -> &[u8]
         ensures bytes { result.now ≡ self.now.to_client.bytes }
         ensures within { length self.now.to_client.bytes ≤ self.now.to_client.room }
@@ -530,6 +563,7 @@ impl State {
         self.to_client.bytes()
     }
 
+    /// The bytes that are due to the upstream.
     pub fn to_upstream(&self) -> &[u8]
         ensures bytes { result.now ≡ self.now.to_upstream.bytes }
         ensures within { length self.now.to_upstream.bytes ≤ self.now.to_upstream.room }
