@@ -29,13 +29,14 @@ pub trait Files {
 
     /// The bytes of the file of this name, at most 16,777,216 of them.
     ///
-    /// `Absent`: there is no file of this name. `Failed`: the count of faults rose.
+    /// `Absent`: there is no file of this name. `Failed`: the count of faults rose; else it stands as it was.
     fn fetch(&mut self, alloc: Global, name: &[u8]) -> Fetched
         ensures same { holds self.new ≡ holds self.old }
         ensures bytes { Fetches (holds self.old) name.now result }
         ensures short { IsShort result }
         ensures later { faults self.old ≤ faults self.new }
-        ensures cause { result ≡ Fetched.Failed → Rose (faults self.old) (faults self.new) };
+        ensures cause { result ≡ Fetched.Failed → Rose (faults self.old) (faults self.new) }
+        ensures steady { (result ≡ Fetched.Failed → ⊥) → faults self.new ≡ faults self.old };
 }
 
 /// Files in memory. They tell their bytes, and the calls of these numbers fail.
@@ -110,6 +111,7 @@ impl Files for MemFiles {
         ensures short { IsShort result }
         ensures later { self.old.faults ≤ self.new.faults }
         ensures cause { result ≡ Fetched.Failed → Rose self.old.faults self.new.faults }
+        ensures steady { (result ≡ Fetched.Failed → ⊥) → self.new.faults ≡ self.old.faults }
         ensures exact { MemoryFetches self.old self.new name.now result }
     {
         if self.fail.as_slice().contains(&self.calls) {
