@@ -7,8 +7,6 @@ mod head;
 mod protocol;
 mod reader;
 mod scan;
-#[cfg(test)]
-mod tests;
 mod writer;
 
 pub use reader::BinaryRead;

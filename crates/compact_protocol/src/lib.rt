@@ -8,8 +8,6 @@ mod numbers;
 mod protocol;
 mod reader;
 mod scan;
-#[cfg(test)]
-mod tests;
 mod values;
 mod writer;
 

@@ -14,8 +14,6 @@ mod item;
 mod making;
 mod putting;
 mod rooms;
-#[cfg(test)]
-mod tests;
 mod totals;
 
 pub use drilling::{Drilled, drill};

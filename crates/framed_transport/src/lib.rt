@@ -7,8 +7,6 @@
 
 mod holding;
 mod laws;
-#[cfg(test)]
-mod tests;
 mod writing;
 
 pub use holding::{FrameBuf, Next};

@@ -17,8 +17,6 @@ mod memory_hub;
 mod memory_link;
 mod outside;
 mod standard;
-#[cfg(test)]
-mod tests;
 mod writing;
 
 pub use buffer::Out;

@@ -9,8 +9,6 @@ mod list;
 mod mentions;
 mod names;
 mod segments;
-#[cfg(test)]
-mod tests;
 mod walk;
 
 pub use fault::LoadError;

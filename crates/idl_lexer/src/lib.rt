@@ -10,6 +10,3 @@ mod token;
 
 pub use lexing::lex;
 pub use token::{LexError, LexFault, LexReason, Token, TokenForm};
-
-#[cfg(test)]
-mod tests;

@@ -7,8 +7,6 @@
 
 mod loading;
 mod resolving;
-#[cfg(test)]
-mod tests;
 
 pub use idl_files::LoadError;
 pub use idl_names::{Documents, FileDoc, Scope, Spot, look_up};

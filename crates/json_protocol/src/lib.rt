@@ -12,7 +12,6 @@ mod put;
 mod reader;
 mod room;
 mod scan;
-mod tests;
 mod value;
 mod word;
 mod writer;

@@ -8,8 +8,6 @@ mod int;
 mod number;
 mod run;
 mod scanned;
-#[cfg(test)]
-mod tests;
 mod text;
 mod write;
 

@@ -5,5 +5,4 @@ pub mod Items
 pub mod Frames
 pub mod Ends
 pub mod Bytes
-pub mod Ending
 pub mod Turns

@@ -16,8 +16,6 @@ mod nowhere;
 mod printed;
 mod showing;
 mod telling;
-#[cfg(test)]
-mod tests;
 mod texts;
 mod values;
 

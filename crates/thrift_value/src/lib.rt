@@ -11,8 +11,6 @@ mod gathering;
 mod kind;
 mod laws;
 mod level;
-#[cfg(test)]
-mod tests;
 mod value;
 
 pub use event::Event;

@@ -13,8 +13,6 @@ mod roots;
 mod schema;
 mod services;
 mod tables;
-#[cfg(test)]
-mod tests;
 
 pub use builder::SchemaBuilder;
 pub use declared::{

@@ -5,8 +5,6 @@
 mod fault;
 mod laws;
 mod reading;
-#[cfg(test)]
-mod tests;
 mod writing;
 mod zigzag;
 
