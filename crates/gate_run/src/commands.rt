@@ -155,6 +155,6 @@ fn start_server<O: Sink, E: Sink, F: Files, H: Hub>(
 {
     match prepare(alloc, files, declared) {
         Ok(start) => serve_all(alloc, serving, &start, output, report, hub),
-        Err(stop) => halt(alloc, &stop, report),
+        Err(no_start) => halt(alloc, &no_start, report),
     }
 }

@@ -1,23 +1,23 @@
-//! An output that takes nothing.
+//! An output that fails at each write.
 ghost use Rattle.std.specs.Prelude.{◌≡◌};
 
 use gate_io::{Put, Sink};
 
-/// An output that fails at each write. What is written to it only counts the faults.
+/// Where a line is only gathered: a write means that it doesn't fit, and fails. Only the faults are counted.
 #[derive(Drop)]
-pub struct Nowhere {
+pub struct FailingSink {
     faults: u64,
 }
 
-impl Nowhere {
-    pub fn new() -> Nowhere
+impl FailingSink {
+    pub fn new() -> FailingSink
         ensures { result.faults ≡ 0 }
     {
-        Nowhere { faults: 0 }
+        FailingSink { faults: 0 }
     }
 }
 
-impl Sink for Nowhere {
+impl Sink for FailingSink {
     ghost use Rattle.std.specs.Prelude.{Some, []};
 
     ghost written = { λ n. Some [] };

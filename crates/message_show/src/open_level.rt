@@ -1,4 +1,4 @@
-//! An open struct or container while it is told.
+//! An open struct or container, and how an event takes it on.
 ghost use Rattle.std.specs.Prelude.{◌≡◌, List, ◌∷◌, Some, true, false, length, suc, option_copied};
 ghost use Rattle.thrift_value.specs.Items.{field};
 ghost use Rattle.type_tables.specs.Declarations.{Declarations};
@@ -14,7 +14,7 @@ use type_walk::{Level, called_for, declared_in, declared_type};
 /// An open struct or container: what is declared of what stands in it, the declared type of the value that comes next, and whether
 /// nothing of it was told yet.
 #[derive(Drop)]
-pub struct Here {
+pub struct OpenLevel {
     pub known: Level,
     pub next: Ty,
     pub first: bool,
@@ -22,7 +22,7 @@ pub struct Here {
 
 /// What stands behind an event.
 #[derive(Clone, Copy)]
-pub enum Turn {
+pub enum LevelStep {
     /// More of the same level.
     Open,
     /// The beginning of a struct or container, in which this is declared.
@@ -31,14 +31,14 @@ pub enum Turn {
     Closed,
 }
 
-impl Here {
+impl OpenLevel {
     /// At the beginning of a struct or container.
     #[inline(always)]
-    pub fn inside(known: Level) -> Here
+    pub fn inside(known: Level) -> OpenLevel
         ensures begun { result ≡ record { known = known; next = called_for (Some known); first = true } }
         ensures sound { (d : Declarations) → IsKnownLevel d known → IsSound d result }
     {
-        Here {
+        OpenLevel {
             known,
             next: called_for(Some(&known)),
             first: true,
@@ -50,7 +50,7 @@ impl Here {
     pub fn announce<'s>(&mut self, schema: &'s Schema, id: i16, kind: Kind) -> Option<&'s FieldInfo>
         requires sound { IsSound schema.now self.old }
         ensures value { option_copied result ≡ declared_in schema.now (Some self.old.known) id kind }
-        ensures passed { Passes schema.now self.old self.new (field id kind) Turn.Open }
+        ensures passed { Passes schema.now self.old self.new (field id kind) LevelStep.Open }
     {
         let found = declared_in(schema, &self.known, id, kind);
         self.next = declared_type(found);
@@ -60,15 +60,15 @@ impl Here {
 
     /// A struct or container has begun where a value was called for, and this is declared in it.
     #[inline(always)]
-    pub fn open(&mut self, inner: Level) -> Turn
-        ensures opened { result ≡ Turn.Opened inner }
+    pub fn open(&mut self, inner: Level) -> LevelStep
+        ensures opened { result ≡ LevelStep.Opened inner }
         ensures levels { (up : List Level) → self.new.known ∷ up ≡ passed (self.old.known ∷ up) }
         ensures next { self.new.next ≡ called_for (Some self.new.known) }
         ensures first { self.new.first ≡ false }
         ensures sound { (d : Declarations) → IsSound d self.old → IsSound d self.new }
     {
         self.spend();
-        Turn::Opened(inner)
+        LevelStep::Opened(inner)
     }
 
     /// A value has come: after a key comes its value, after that the next key.

@@ -7,5 +7,5 @@ returns-in-Ok-clause-serves g c = λ left input. Goes c.in-Ok.start c.in-Ok.ensu
 
 pub returns-in-Err-clause-serves : goal.returns-in-Err-clause-serves
 returns-in-Err-clause-serves g c = λ left input.
-    Stops c.in-Err.stop c.in-Err.ensures.told c.in-Err.ensures.cause
+    Stops c.in-Err.no_start c.in-Err.ensures.told c.in-Err.ensures.cause
     (c.halt.ensures.halts left (g.O.Sink.written c.args.output.now) input (g.O.Sink.faults c.args.output.now), refl)

@@ -6,7 +6,7 @@ use Rattle.translate_core.specs.Routes.{start_of}
 use Rattle.translate_core.specs.declared.route.Route.TheVariants.{ByName}
 use Rattle.message_show.specs.Line.{head_text}
 use Rattle.message_show.proofs.Frames.{shown_ok, shown_err}
-use Rattle.message_show.proofs.checking.check_blind.Goals as goal
+use Rattle.message_show.proofs.checking.check_undeclared.Goals as goal
 
 pub returns-in-Err : goal.returns-in-Err
 returns-in-Err g c =
