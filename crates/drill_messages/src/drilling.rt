@@ -32,8 +32,7 @@ pub enum Drilled {
 /// first message is made, and wasn't found.
 pub fn drill<O: Sink>(alloc: Global, seed: u64, count: u64, output: &mut O) -> Drilled
     requires { count ≤ MOST_MESSAGES }
-    ensures done {
-        let made = messages seed count in
+    ensures done { let made = messages seed count in
         IfDone result (λ totals. (totals ≡ totals_of made) × Appends (O.written output.old) (O.written output.new) (stream_of made)) }
     ensures front { AppendsFront (O.written output.old) (O.written output.new) (stream_of (messages seed count)) }
     ensures memory { result ≡ Drilled.OutOfMemory → output.new ≡ output.old }
@@ -54,8 +53,7 @@ fn make_all<O: Sink>(rooms: &mut Rooms, seed: u64, count: u64, output: &mut O) -
     requires count { count ≤ MOST_MESSAGES }
     requires open { IsOpen rooms.old }
     requires nothing { rooms.old.stream.bytes ≡ [] }
-    ensures done {
-        let made = messages seed count in
+    ensures done { let made = messages seed count in
         IfSome result (λ totals. (totals ≡ totals_of made) × Appends (O.written output.old) (O.written output.new) (stream_of made)) }
     ensures front { AppendsFront (O.written output.old) (O.written output.new) (stream_of (messages seed count)) }
     ensures later { O.faults output.old ≤ O.faults output.new }

@@ -52,8 +52,7 @@ pub fn put_message<W: WireWrite>(seq: u64, items: &[Item], out: &mut Out)
     requires takes { TakesAll W.name_bar W.bar }
     requires few { length items.now ≤ MOST_ITEMS }
     requires room { length out.old.bytes + MESSAGE_ROOM ≤ out.old.room }
-    ensures out {
-        let body = spelled W.plain W.after W.begun (body_events (all_fields items.now)) in
+    ensures out { let body = spelled W.plain W.after W.begun (body_events (all_fields items.now)) in
         out.new ≡ record out.old { bytes = out.old.bytes ++ (W.plain_head (call (pos seq)) ++ body) } }
     ensures short { length out.new.bytes ≤ length out.old.bytes + MESSAGE_ROOM }
 {

@@ -299,7 +299,7 @@ pub output_broken : (k : Terms) (a b c : Moment) (out waiting : List ℕ) → Wa
 output_broken k a b c out waiting w left f r =
     let parted : flat_map (output_of k) w.goes.frames ≡ flat_map (output_of k) w.done ++ flat_map (output_of k) w.others = ap (flat_map (output_of k)) w.is ∙ flat_map-append (output_of k) w.done w.others in
     let sent = behind_gathered a.written b.written c.written out (flat_map (output_of k) w.done) w.some (flat_map (output_of k) w.others) w.written
-        (subst (λ (xs : List ℕ). Appends a.written (append_known b.written out) xs) parted w.goes.written) f in
+    (subst (λ (xs : List ℕ). Appends a.written (append_known b.written out) xs) parted w.goes.written) f in
     record {
       read = w.goes.read;
       frames = w.goes.frames;

@@ -45,12 +45,13 @@ pub fn run<I: Source, O: Sink, E: Sink, F: Files, H: Hub>(
     hub: &mut H,
 ) -> Status
     // What the words ask for was done, or it did not start; or there was no memory to read the words.
-    ensures does {
-        let before = outside (F.holds files.old) (F.faults files.old) (streams (I.left input.old) (O.written output.old) (E.written report.old)
-            (I.faults input.old) (O.faults output.old) (E.faults report.old)) hub.old in
+    ensures does { let before = outside (F.holds files.old) (F.faults files.old) (streams (I.left input.old) (O.written output.old) (E.written report.old)
+        (I.faults input.old) (O.faults output.old) (E.faults report.old)) hub.old in
         let after = outside (F.holds files.new) (F.faults files.new) (streams (I.left input.new) (O.written output.new) (E.written report.new)
-            (I.faults input.new) (O.faults output.new) (E.faults report.new)) hub.new in
+        (I.faults input.new) (O.faults output.new) (E.faults report.new)) hub.new in
         IsRun H.tells H.counts (command words.now) before after result }
+
+    ensures holds { F.holds files.new ≡ F.holds files.old }
 
     // Only a server uses the hub.
     ensures hub { ((s : Serving) (d : Declared) → command words.now ≡ Some (Serve s d) → ⊥) → hub.new ≡ hub.old }
@@ -106,13 +107,12 @@ fn start_stream<I: Source, O: Sink, E: Sink, F: Files>(
     report: &mut E,
 ) -> Ending
     requires { limit ≤ GREATEST_LIMIT }
-    ensures streamed {
-        let a = streams (I.left input.old) (O.written output.old) (E.written report.old)
-            (I.faults input.old) (O.faults output.old) (E.faults report.old) in
+    ensures streamed { let a = streams (I.left input.old) (O.written output.old) (E.written report.old)
+        (I.faults input.old) (O.faults output.old) (E.faults report.old) in
         let b = streams (I.left input.new) (O.written output.new) (E.written report.new)
-            (I.faults input.new) (O.faults output.new) (E.faults report.new) in
+        (I.faults input.new) (O.faults output.new) (E.faults report.new) in
         Starting (F.holds files.old) declared.now (F.faults files.old) (F.faults files.new)
-            (λ declarations service. Streamed (terms declarations service doing limit) a b result) (λ stop. Halts stop a b result) }
+        (λ declarations service. Streamed (terms declarations service doing limit) a b result) (λ stop. Halts stop a b result) }
     ensures holds { F.holds files.new ≡ F.holds files.old }
     ensures files_later { F.faults files.old ≤ F.faults files.new }
     ensures input_later { I.faults input.old ≤ I.faults input.new }
@@ -145,8 +145,8 @@ fn start_server<O: Sink, E: Sink, F: Files, H: Hub>(
         let a = streams left (O.written output.old) (E.written report.old) input (O.faults output.old) (E.faults report.old) in
         let b = streams left (O.written output.new) (E.written report.new) input (O.faults output.new) (E.faults report.new) in
         Starting (F.holds files.old) declared.now (F.faults files.old) (F.faults files.new)
-            (λ declarations service. ServesAll H.tells H.counts serving.now declarations service hub.old hub.new a b result)
-            (λ stop. Halts stop a b result × (hub.new ≡ hub.old)) }
+        (λ declarations service. ServesAll H.tells H.counts serving.now declarations service hub.old hub.new a b result)
+        (λ stop. Halts stop a b result × (hub.new ≡ hub.old)) }
     ensures holds { F.holds files.new ≡ F.holds files.old }
     ensures files_later { F.faults files.old ≤ F.faults files.new }
     ensures output_later { O.faults output.old ≤ O.faults output.new }

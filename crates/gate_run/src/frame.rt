@@ -42,8 +42,7 @@ pub fn handle<O: Sink>(
     requires fits { HasRoom task.now.doing (length frame.now) page.old.out }
     requires line { length lines.old.bytes + LINE_ROOM ≤ lines.old.room }
     ensures passed { IfOk result (λ passed. passed ≡ passes task.now frame.now) }
-    ensures gathered {
-        let all = page.old.out.bytes ++ output_of task.now frame.now in
+    ensures gathered { let all = page.old.out.bytes ++ output_of task.now frame.now in
         IfOk result (λ passed. Flushed (O.written output.old) all (O.written output.new) page.new.out.bytes) }
     ensures reported { IfOk result (λ passed. lines.new ≡ record lines.old { bytes = lines.old.bytes ++ line_of task.now number frame.now }) }
     ensures front { AppendsFront (O.written output.old) (O.written output.new) (page.old.out.bytes ++ output_of task.now frame.now) }

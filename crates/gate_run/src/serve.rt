@@ -67,10 +67,9 @@ fn serve_started<O: Sink, H: Hub>(
     requires some { 1 ≤ serving.now.calls }
     requires few { serving.now.calls ≤ MOST_CALLS }
     requires service { IfSome start.now.service (λ x. x.0 < length start.now.schema.services) }
-    ensures serves {
-        let set = settings serving.now start.now.schema start.now.service in
+    ensures serves { let set = settings serving.now start.now.schema start.now.service in
         Serves Setting rules_of (H.tells hub.old) (H.tells hub.new)
-            (O.written output.old) (O.written output.new) (O.faults output.old) (O.faults output.new) set result }
+        (O.written output.old) (O.written output.new) (O.faults output.old) (O.faults output.new) set result }
     ensures output_later { O.faults output.old ≤ O.faults output.new }
     ensures later { Later (H.counts hub.old) (H.counts hub.new) }
     ensures hub_fault { result ≡ Served.HubFault → Rose (H.counts hub.old).faults (H.counts hub.new).faults }

@@ -25,8 +25,7 @@ pub fn show_frame<O: Sink>(
 ) -> Treatment
     requires room { length frame.now ≤ length room.old }
     requires size { length frame.now < 2 ^ 31 }
-    ensures treated {
-        let line = as_line (shown_by task.now from frame.now) in
+    ensures treated { let line = as_line (shown_by task.now from frame.now) in
         Treats result line (O.written output.old) page.old.out.bytes (O.written output.new) page.new.out.bytes }
     ensures later { O.faults output.old ≤ O.faults output.new }
     ensures cause { result ≡ Treatment.WriteFault → Rose (O.faults output.old) (O.faults output.new) }
@@ -55,8 +54,7 @@ fn show_long<O: Sink>(
     requires room { length frame.now ≤ length room.old }
     requires size { length frame.now < 2 ^ 31 }
     requires message { HasLine (shown_by task.now from frame.now) }
-    ensures treated {
-        let line = as_line (shown_by task.now from frame.now) in
+    ensures treated { let line = as_line (shown_by task.now from frame.now) in
         Treats result line (O.written output.old) page.old.out.bytes (O.written output.new) page.new.out.bytes }
     ensures later { O.faults output.old ≤ O.faults output.new }
     ensures cause { result ≡ Treatment.WriteFault → Rose (O.faults output.old) (O.faults output.new) }

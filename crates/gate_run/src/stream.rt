@@ -62,11 +62,10 @@ pub fn stream<I: Source, O: Sink, E: Sink>(
     report: &mut E,
 ) -> Ending
     requires { task.now.limit ≤ GREATEST_LIMIT }
-    ensures streamed {
-        let a = streams (I.left input.old) (O.written output.old) (E.written report.old)
-            (I.faults input.old) (O.faults output.old) (E.faults report.old) in
+    ensures streamed { let a = streams (I.left input.old) (O.written output.old) (E.written report.old)
+        (I.faults input.old) (O.faults output.old) (E.faults report.old) in
         let b = streams (I.left input.new) (O.written output.new) (E.written report.new)
-            (I.faults input.new) (O.faults output.new) (E.faults report.new) in
+        (I.faults input.new) (O.faults output.new) (E.faults report.new) in
         Streamed task.now a b result }
     ensures input_later { I.faults input.old ≤ I.faults input.new }
     ensures output_later { O.faults output.old ≤ O.faults output.new }

@@ -44,8 +44,7 @@ pub fn check_undeclared<'f, R: WireRead<'f> + HintIndependent>(
 ) -> Checked
     requires room { length frame.now ≤ length room.old }
     requires size { length frame.now < 2 ^ 31 }
-    ensures {
-        let source = source_of R.begun R.reads_head R.reads R.reads_end R.value_place R.ahead in
+    ensures { let source = source_of R.begun R.reads_head R.reads R.reads_end R.value_place R.ahead in
         IsChecked result (shown_by source (start_of schema.now (ByName service)) frame.now) }
 {
     let mut reader = R::over(frame, room);
@@ -59,8 +58,7 @@ pub fn check_undeclared<'f, R: WireRead<'f> + HintIndependent>(
 /// Whether the rest of a message follows, whatever its body's struct, or the fault that stands in it.
 fn check_any<'f, R: WireRead<'f> + HintIndependent>(schema: &Schema, reader: &mut R) -> Checked
     requires begins { R.depth reader.old ≡ 1 }
-    ensures {
-        let source = source_of R.begun R.reads_head R.reads R.reads_end R.value_place R.ahead in
+    ensures { let source = source_of R.begun R.reads_head R.reads R.reads_end R.value_place R.ahead in
         (position : Position) (told : List ℕ) → IsChecked result (after_body source (body_from source reader.old position told)) }
 {
     let mut walk = Undeclared::start(schema);
@@ -88,8 +86,7 @@ pub fn check<'f, R: WireRead<'f>>(
     requires service { IsService schema.now service }
     requires room { length frame.now ≤ length room.old }
     requires size { length frame.now < 2 ^ 31 }
-    ensures {
-        let source = source_of R.begun R.reads_head R.reads R.reads_end R.value_place R.ahead in
+    ensures { let source = source_of R.begun R.reads_head R.reads R.reads_end R.value_place R.ahead in
         IsChecked result (shown_by source (start_of schema.now (ByName service)) frame.now) }
 {
     let mut reader = R::over(frame, room);
@@ -108,8 +105,7 @@ fn check_body<'f, R: WireRead<'f>>(
 ) -> Checked
     requires known { IfSome body (λ s. s.0 < length schema.now.structs) }
     requires begins { R.depth reader.old ≡ 1 }
-    ensures {
-        let source = source_of R.begun R.reads_head R.reads R.reads_end R.value_place R.ahead in
+    ensures { let source = source_of R.begun R.reads_head R.reads R.reads_end R.value_place R.ahead in
         (told : List ℕ) → IsChecked result (after_body source (body_from source reader.old (start schema.now body) told)) }
 {
     if body.is_none() {
@@ -128,8 +124,7 @@ fn check_declared<'f, R: WireRead<'f>>(
 ) -> Checked
     requires known { IfSome body (λ s. s.0 < length schema.now.structs) }
     requires begins { R.depth reader.old ≡ 1 }
-    ensures {
-        let source = source_of R.begun R.reads_head R.reads R.reads_end R.value_place R.ahead in
+    ensures { let source = source_of R.begun R.reads_head R.reads R.reads_end R.value_place R.ahead in
         (told : List ℕ) → IsChecked result (after_body source (body_from source reader.old (start schema.now body) told)) }
 {
     let mut walk = Walk::start(schema, body);
@@ -140,8 +135,7 @@ fn check_declared<'f, R: WireRead<'f>>(
 fn check_by<'f, R: WireRead<'f>, K: Walking>(reader: &mut R, walk: &mut K) -> Checked
     requires begins { R.depth reader.old ≡ 1 }
     requires walks { length (K.at walk.old).levels ≡ 1 }
-    ensures {
-        let source = source_of R.begun R.reads_head R.reads R.reads_end R.value_place R.ahead in
+    ensures { let source = source_of R.begun R.reads_head R.reads R.reads_end R.value_place R.ahead in
         (told : List ℕ) → IsChecked result (after_body source (body_from source reader.old (K.at walk.old) told)) }
 {
     'events: while walk.is_open() {

@@ -131,8 +131,7 @@ impl<'c> Line<'c> {
     #[inline(always)]
     pub fn make_room<O: Sink>(self, out: &mut O) -> Line<'c>
         ensures room { length result.bytes + SPARE ≤ ROOM }
-        ensures told {
-            let old = output (O.written out.old) (O.faults out.old) in
+        ensures told { let old = output (O.written out.old) (O.faults out.old) in
             let new = output (O.written out.new) (O.faults out.new) in
             Tells old self.entry new result [] }
     {
@@ -145,8 +144,7 @@ impl<'c> Line<'c> {
     /// Appends bytes of any number.
     #[inline(always)]
     pub fn put<O: Sink>(self, piece: &[u8], out: &mut O) -> Line<'c>
-        ensures told {
-            let old = output (O.written out.old) (O.faults out.old) in
+        ensures told { let old = output (O.written out.old) (O.faults out.old) in
             let new = output (O.written out.new) (O.faults out.new) in
             Tells old self.entry new result piece.now }
     {
@@ -159,8 +157,7 @@ impl<'c> Line<'c> {
 
     #[inline(never)]
     fn put_long<O: Sink>(self, piece: &[u8], out: &mut O) -> Line<'c>
-        ensures told {
-            let old = output (O.written out.old) (O.faults out.old) in
+        ensures told { let old = output (O.written out.old) (O.faults out.old) in
             let new = output (O.written out.new) (O.faults out.new) in
             Tells old self.entry new result piece.now }
     {
@@ -176,8 +173,7 @@ impl<'c> Line<'c> {
     #[inline(never)]
     pub fn flush<O: Sink>(self, out: &mut O) -> Line<'c>
         ensures empty { result.bytes ≡ [] }
-        ensures told {
-            let old = output (O.written out.old) (O.faults out.old) in
+        ensures told { let old = output (O.written out.old) (O.faults out.old) in
             let new = output (O.written out.new) (O.faults out.new) in
             Tells old self.entry new result [] }
     {
@@ -203,8 +199,7 @@ impl<'c> Line<'c> {
     /// Writes bytes before which none wait.
     fn pass<O: Sink>(self, piece: &[u8], out: &mut O) -> Line<'c>
         requires { self.bytes ≡ [] }
-        ensures told {
-            let old = output (O.written out.old) (O.faults out.old) in
+        ensures told { let old = output (O.written out.old) (O.faults out.old) in
             let new = output (O.written out.new) (O.faults out.new) in
             Tells old self.entry new result piece.now }
     {

@@ -19,9 +19,9 @@ ghost use Rattle.message_show.specs.Shown.{Place, shown_by, body_from, after_bod
 
 use crate::checking::Checked;
 use crate::events::Events;
-use crate::open_level::{OpenLevel, LevelStep};
 use crate::levels::{closing, push_lead};
 use crate::line::{Line, ROOM};
+use crate::open_level::{LevelStep, OpenLevel};
 use crate::texts::{push_number, type_word};
 use crate::values::{push_list, push_map, tell_field, tell_string, tell_value};
 use gate_io::Sink;
@@ -43,11 +43,9 @@ pub fn tell<'c, 'f, R: WireRead<'f> + Events, O: Sink>(
     requires service { IsService schema.now service }
     requires room { length frame.now ≤ length room.old }
     requires size { length frame.now < 2 ^ 31 }
-    ensures found {
-        let source = source_of R.begun R.reads_head R.reads R.reads_end R.value_place R.ahead in
+    ensures found { let source = source_of R.begun R.reads_head R.reads R.reads_end R.value_place R.ahead in
         IsChecked result.1 (shown_by source (start_of schema.now (ByName service)) frame.now) }
-    ensures told {
-        let source = source_of R.begun R.reads_head R.reads R.reads_end R.value_place R.ahead in
+    ensures told { let source = source_of R.begun R.reads_head R.reads R.reads_end R.value_place R.ahead in
         let old = output (O.written out.old) (O.faults out.old) in
         let new = output (O.written out.new) (O.faults out.new) in
         (from : Output) (text : List ℕ) → IsLine (shown_by source (start_of schema.now (ByName service)) frame.now) text
@@ -67,8 +65,7 @@ pub fn tell<'c, 'f, R: WireRead<'f> + Events, O: Sink>(
 
 /// Tells a header and the body's parenthesis.
 fn tell_head<'c, O: Sink>(head: &Head<'_>, line: Line<'c>, out: &mut O) -> Line<'c>
-    ensures {
-        let old = output (O.written out.old) (O.faults out.old) in
+    ensures { let old = output (O.written out.old) (O.faults out.old) in
         let new = output (O.written out.new) (O.faults out.new) in
         Tells old line.entry new result (head_text (header_of head.now)) }
 {
@@ -102,11 +99,9 @@ fn tell_body<'c, 'f, R: WireRead<'f> + Events, O: Sink>(
 ) -> (Line<'c>, Checked)
     requires known { IfSome body (λ s. s.0 < length schema.now.structs) }
     requires begins { R.nest reader.old ≡ Fields (pos 0) ∷ [] }
-    ensures found {
-        let source = source_of R.begun R.reads_head R.reads R.reads_end R.value_place R.ahead in
+    ensures found { let source = source_of R.begun R.reads_head R.reads R.reads_end R.value_place R.ahead in
         (told : List ℕ) → IsChecked result.1 (after_body source (body_from source reader.old (start schema.now body) told)) }
-    ensures told {
-        let source = source_of R.begun R.reads_head R.reads R.reads_end R.value_place R.ahead in
+    ensures told { let source = source_of R.begun R.reads_head R.reads R.reads_end R.value_place R.ahead in
         let old = output (O.written out.old) (O.faults out.old) in
         let new = output (O.written out.new) (O.faults out.new) in
         (from : Output) (text : List ℕ) (end : Going R Position Place) → body_from source reader.old (start schema.now body) text ≡ Ok end
@@ -145,14 +140,13 @@ fn tell_level<'c, R: Events, O: Sink>(
 ) -> (Line<'c>, Result<(), Fault>)
     requires open { 0 < R.depth reader.old }
     requires known { IsKnownLevel schema.now known }
-    ensures turned {
-        let source = source_of R.begun R.reads_head R.reads R.reads_end R.value_place R.ahead in
+    ensures turned { let source = source_of R.begun R.reads_head R.reads R.reads_end R.value_place R.ahead in
         let old = output (O.written out.old) (O.faults out.old) in
         let new = output (O.written out.new) (O.faults out.new) in
         (up : List Level) → R.depth reader.old ≡ suc (length up) →
-            let before = standing reader.old (open_at schema.now (known ∷ up)) true in
-            let after = standing reader.new (open_at schema.now up) false in
-            Turned source R.nest result.1 before (λ u. after) old line.entry new result.0 }
+        let before = standing reader.old (open_at schema.now (known ∷ up)) true in
+        let after = standing reader.new (open_at schema.now up) false in
+        Turned source R.nest result.1 before (λ u. after) old line.entry new result.0 }
     ensures depth { IfOk result.1 (λ u. R.depth reader.old ≡ suc (R.depth reader.new)) }
     ensures falls { IfOk result.1 (λ u. R.ahead reader.new < R.ahead reader.old) }
 {
@@ -190,14 +184,13 @@ fn event<'c, R: Events, O: Sink>(
 ) -> (Line<'c>, Result<LevelStep, Fault>)
     requires open { 0 < R.depth reader.old }
     requires sound { IsSound schema.now here.old }
-    ensures turned {
-        let source = source_of R.begun R.reads_head R.reads R.reads_end R.value_place R.ahead in
+    ensures turned { let source = source_of R.begun R.reads_head R.reads R.reads_end R.value_place R.ahead in
         let old = output (O.written out.old) (O.faults out.old) in
         let new = output (O.written out.new) (O.faults out.new) in
         (up : List Level) → R.depth reader.old ≡ suc (length up) →
-            let before = standing reader.old (at schema.now here.old up) here.old.first in
-            let after = λ (step : LevelStep). standing reader.new (behind schema.now step here.new up) (begins step here.new) in
-            Turned source R.nest result.1 before after old line.entry new result.0 }
+        let before = standing reader.old (at schema.now here.old up) here.old.first in
+        let after = λ (step : LevelStep). standing reader.new (behind schema.now step here.new up) (begins step here.new) in
+        Turned source R.nest result.1 before after old line.entry new result.0 }
     ensures depth { IfOk result.1 (λ step. R.depth reader.new ≡ depth_behind step (R.depth reader.old)) }
     ensures sound { IfOk result.1 (λ step. IsSound schema.now here.new) }
     ensures spent { IfOk result.1 (λ step. IsSpent schema.now step here.new) }

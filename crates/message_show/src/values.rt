@@ -9,9 +9,9 @@ ghost use Rattle.message_show.specs.Texts.{is_plain, upper_byte, byte_text, quot
 ghost use Rattle.message_show.specs.Line.{value_text, mark_before, closing, item_text, field_name, field_text, name_text, kind_text, map_text, list_text};
 ghost use Rattle.message_show.specs.Pieces.{Tells, output};
 
-use crate::open_level::{OpenLevel, LevelStep};
 use crate::levels::{closing, push_lead};
 use crate::line::{EVENT_ROOM, Line, NUMBER_ROOM, ROOM, SPARE};
+use crate::open_level::{LevelStep, OpenLevel};
 use crate::texts::{bool_word, kind_word, push_double, push_number, push_uuid};
 use gate_io::Sink;
 use protocol_traits::Slot;
@@ -26,8 +26,7 @@ const PIECE: usize = 512;
 #[tactic(auto, unfolding(crate::specs::Line::struct_text, crate::specs::Line::empty_map_text), using(crate::proofs::Told::tells_behind))]
 pub fn tell_value<'c, O: Sink>(event: &Event<'_>, line: Line<'c>, out: &mut O) -> Line<'c>
     requires { length line.bytes + EVENT_ROOM ≤ ROOM }
-    ensures told {
-        let old = output (O.written out.old) (O.faults out.old) in
+    ensures told { let old = output (O.written out.old) (O.faults out.old) in
         let new = output (O.written out.new) (O.faults out.new) in
         Tells old line.entry new result (value_text (item_of event.now)) }
 {
@@ -85,8 +84,7 @@ pub fn tell_field<'c, O: Sink>(
     out: &mut O,
 ) -> Line<'c>
     requires { length line.bytes + SPARE ≤ ROOM }
-    ensures told {
-        let old = output (O.written out.old) (O.faults out.old) in
+    ensures told { let old = output (O.written out.old) (O.faults out.old) in
         let new = output (O.written out.new) (O.faults out.new) in
         Tells old line.entry new result
         (mark_before first (Some level) ++ field_text id (field_name (option_copied field.entry)) kind) }
@@ -104,8 +102,7 @@ fn tell_number<'c, O: Sink>(
     out: &mut O,
 ) -> Line<'c>
     requires { length line.bytes + EVENT_ROOM ≤ ROOM }
-    ensures told {
-        let old = output (O.written out.old) (O.faults out.old) in
+    ensures told { let old = output (O.written out.old) (O.faults out.old) in
         let new = output (O.written out.new) (O.faults out.new) in
         Tells old line.entry new result
         (signed_decimal id ++ name_text (field_name (option_copied field.entry))) }
@@ -187,8 +184,7 @@ fn push_kind<'c>(line: Line<'c>, kind: Kind) -> Line<'c>
 #[inline(always)]
 fn tell_name<'c, O: Sink>(field: Option<&FieldInfo>, line: Line<'c>, out: &mut O) -> Line<'c>
     requires { length line.bytes + 1 ≤ ROOM }
-    ensures told {
-        let old = output (O.written out.old) (O.faults out.old) in
+    ensures told { let old = output (O.written out.old) (O.faults out.old) in
         let new = output (O.written out.new) (O.faults out.new) in
         Tells old line.entry new result
         (name_text (field_name (option_copied field.entry))) }
@@ -202,8 +198,7 @@ fn tell_name<'c, O: Sink>(field: Option<&FieldInfo>, line: Line<'c>, out: &mut O
 /// Tells a string between quotes.
 #[tactic(auto, unfolding(crate::specs::Texts::quoted))]
 pub fn tell_string<'c, O: Sink>(bytes: &[u8], line: Line<'c>, out: &mut O) -> Line<'c>
-    ensures told {
-        let old = output (O.written out.old) (O.faults out.old) in
+    ensures told { let old = output (O.written out.old) (O.faults out.old) in
         let new = output (O.written out.new) (O.faults out.new) in
         Tells old line.entry new result (quoted bytes.now) }
 {
@@ -218,8 +213,7 @@ pub fn tell_string<'c, O: Sink>(bytes: &[u8], line: Line<'c>, out: &mut O) -> Li
 #[inline(never)]
 #[tactic(auto, unfolding(crate::specs::Texts::quoted))]
 fn tell_long<'c, O: Sink>(bytes: &[u8], line: Line<'c>, out: &mut O) -> Line<'c>
-    ensures told {
-        let old = output (O.written out.old) (O.faults out.old) in
+    ensures told { let old = output (O.written out.old) (O.faults out.old) in
         let new = output (O.written out.new) (O.faults out.new) in
         Tells old line.entry new result (quoted bytes.now) }
 {
@@ -229,8 +223,7 @@ fn tell_long<'c, O: Sink>(bytes: &[u8], line: Line<'c>, out: &mut O) -> Line<'c>
 
 /// Tells the bytes of a string, piece by piece.
 fn tell_bytes<'c, O: Sink>(bytes: &[u8], line: Line<'c>, out: &mut O) -> Line<'c>
-    ensures told {
-        let old = output (O.written out.old) (O.faults out.old) in
+    ensures told { let old = output (O.written out.old) (O.faults out.old) in
         let new = output (O.written out.new) (O.faults out.new) in
         Tells old line.entry new result (flat_map byte_text bytes.now) }
 {
@@ -247,8 +240,7 @@ fn tell_bytes<'c, O: Sink>(bytes: &[u8], line: Line<'c>, out: &mut O) -> Line<'c
 /// Tells so few bytes that they fit where nothing waits.
 fn tell_piece<'c, O: Sink>(bytes: &[u8], line: Line<'c>, out: &mut O) -> Line<'c>
     requires { length bytes.now ≤ PIECE }
-    ensures told {
-        let old = output (O.written out.old) (O.faults out.old) in
+    ensures told { let old = output (O.written out.old) (O.faults out.old) in
         let new = output (O.written out.new) (O.faults out.new) in
         Tells old line.entry new result (flat_map byte_text bytes.now) }
 {

@@ -69,7 +69,7 @@ returns-in-Ok-None-clause-does g c =
 
 pub returns-in-Err-clause-does : goal.returns-in-Err-clause-does
 returns-in-Err-clause-does g c = (
-    c.halt.result,
-    c.status-in-Err.ensures,
-    unread g.H.Hub.tells g.H.Hub.counts _ _ _ _ _ _ _ (c.halt.ensures.halts (g.I.Source.left c.args.input.now) (g.O.Sink.written c.args.output.now) (g.I.Source.faults c.args.input.now) (g.O.Sink.faults c.args.output.now)),
-  )
+  c.halt.result,
+  c.status-in-Err.ensures,
+  unread g.H.Hub.tells g.H.Hub.counts _ _ _ _ _ _ _ (c.halt.ensures.halts (g.I.Source.left c.args.input.now) (g.O.Sink.written c.args.output.now) (g.I.Source.faults c.args.input.now) (g.O.Sink.faults c.args.output.now)),
+)

@@ -25,12 +25,15 @@ returns-in-Ok-ReadFault-clause-streamed g c =
     let start = c.in-Ok-open.ensures.start in
     let ended = c.in-Ok-ReadFault.ensures.ended in
     let e = c.end_with-in-Ok-ReadFault in
-    rw e.ensures.ending (c.in-Ok-ReadFault.ensures.read_fault refl, stops_with c.args.task.now
-    (moment c.in-Ok-open.work (g.I.Source.left c.args.input.now) (g.O.Sink.written c.args.output.now) (g.E.Sink.written c.args.report.now))
-    (moment c.process.new.self (g.I.Source.left c.process.new.input) (g.O.Sink.written c.process.new.output) (g.E.Sink.written c.process.new.report))
-    (g.I.Source.faults c.args.input.now) (g.O.Sink.faults c.args.output.now) (g.E.Sink.faults c.args.report.now)
-    (g.I.Source.faults c.process.new.input) (g.O.Sink.faults c.process.new.output) (g.E.Sink.faults c.process.new.report) (g.E.Sink.faults c.end_with-in-Ok-ReadFault.new.report)
-    (g.E.Sink.written c.end_with-in-Ok-ReadFault.new.report) _ (λ _. ⊤) start.held start.number start.taken ended.0 ended.1 c.process.ensures.report_later e.ensures.front e.ensures.whole tt)
+    rw e.ensures.ending (
+      c.in-Ok-ReadFault.ensures.read_fault refl,
+      stops_with c.args.task.now
+          (moment c.in-Ok-open.work (g.I.Source.left c.args.input.now) (g.O.Sink.written c.args.output.now) (g.E.Sink.written c.args.report.now))
+          (moment c.process.new.self (g.I.Source.left c.process.new.input) (g.O.Sink.written c.process.new.output) (g.E.Sink.written c.process.new.report))
+          (g.I.Source.faults c.args.input.now) (g.O.Sink.faults c.args.output.now) (g.E.Sink.faults c.args.report.now)
+          (g.I.Source.faults c.process.new.input) (g.O.Sink.faults c.process.new.output) (g.E.Sink.faults c.process.new.report) (g.E.Sink.faults c.end_with-in-Ok-ReadFault.new.report)
+          (g.E.Sink.written c.end_with-in-Ok-ReadFault.new.report) _ (λ _. ⊤) start.held start.number start.taken ended.0 ended.1 c.process.ensures.report_later e.ensures.front e.ensures.whole tt,
+    )
 
 pub returns-in-Ok-BudgetSpent-clause-streamed : goal.returns-in-Ok-BudgetSpent-clause-streamed
 returns-in-Ok-BudgetSpent-clause-streamed g c =
@@ -58,7 +61,7 @@ returns-in-Err-clause-streamed g c =
       c.in-Err.field-0,
       c.in-Err.ensures.cause,
       breaks_off c.in-Err.field-0 c.args.task.now
-      (moment c.in-Ok-open.work (g.I.Source.left c.args.input.now) (g.O.Sink.written c.args.output.now) (g.E.Sink.written c.args.report.now))
-      (moment c.process.new.self (g.I.Source.left c.process.new.input) (g.O.Sink.written c.process.new.output) (g.E.Sink.written c.process.new.report))
-      0 0 0 0 0 0 start.held start.number c.in-Err.ensures.ended,
+          (moment c.in-Ok-open.work (g.I.Source.left c.args.input.now) (g.O.Sink.written c.args.output.now) (g.E.Sink.written c.args.report.now))
+          (moment c.process.new.self (g.I.Source.left c.process.new.input) (g.O.Sink.written c.process.new.output) (g.E.Sink.written c.process.new.report))
+          0 0 0 0 0 0 start.held start.number c.in-Err.ensures.ended,
     )
