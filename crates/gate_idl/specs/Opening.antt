@@ -60,8 +60,9 @@ Checks files schema (Err (Refused refusal)) = (fault : ConstFault) × IsMisfit f
 Checks files schema (Err FileFault) = ⊥
 Checks files schema (Err OutOfMemory) = ⊤
 
+-- the files' count of faults rose where a fetch failed, and stands as it was where none did
 abbrev pub HasCause : {X : Type 0} → Result X Stop → ℕ → ℕ → Type 0
-HasCause (Ok x) before now = ⊤
-HasCause (Err (Refused refusal)) before now = ⊤
+HasCause (Ok x) before now = now ≡ before
+HasCause (Err (Refused refusal)) before now = now ≡ before
 HasCause (Err FileFault) before now = Rose before now
-HasCause (Err OutOfMemory) before now = ⊤
+HasCause (Err OutOfMemory) before now = now ≡ before

@@ -32,12 +32,12 @@ Refuses (errors.Idl fault) meant = fault ≡ meant
 Refuses errors.FileFault meant = ⊥
 Refuses errors.OutOfMemory meant = ⊤
 
--- a file fault is answered only where the count of faults rose
+-- the count of faults rose where a fetch failed, and stands as it was where none did
 abbrev pub HasCause : {X : Type 0} → Result X LoadError → ℕ → ℕ → Type 0
-HasCause (Ok x) before now = ⊤
-HasCause (Err (errors.Idl fault)) before now = ⊤
+HasCause (Ok x) before now = now ≡ before
+HasCause (Err (errors.Idl fault)) before now = now ≡ before
 HasCause (Err errors.FileFault) before now = Rose before now
-HasCause (Err errors.OutOfMemory) before now = ⊤
+HasCause (Err errors.OutOfMemory) before now = now ≡ before
 
 abbrev pub IsNoFileFault : {X : Type 0} → Result X LoadError → Type 0
 IsNoFileFault (Ok x) = ⊤

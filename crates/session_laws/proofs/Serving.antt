@@ -1,11 +1,11 @@
 -- The course of each session of a server.
 use Rattle.std.proofs.Common.{◌≡◌, ℕ, ◌<◌, ◌^◌, ◌⊎◌, inl, inr, List, [], Option, Some, None, refl, sym, subst}
-use Rattle.gate_io.specs.Meaning.{Told, Meaning, link_of}
-use Rattle.gate_io.specs.declared.hub.Side.{Side}
-use Rattle.gate_io.specs.declared.hub.Side.TheVariants as side
-use Rattle.gate_io.specs.declared.hub.LinkPut.TheVariants as put
-use Rattle.gate_io.specs.declared.hub.Served.{Served}
-use Rattle.gate_io.specs.declared.hub.Served.TheVariants as served
+use Rattle.gate_hub.specs.Meaning.{Told, Meaning, link_of}
+use Rattle.gate_hub.specs.declared.hub.Side.{Side}
+use Rattle.gate_hub.specs.declared.hub.Side.TheVariants as side
+use Rattle.gate_hub.specs.declared.hub.LinkPut.TheVariants as put
+use Rattle.gate_hub.specs.declared.hub.Served.{Served}
+use Rattle.gate_hub.specs.declared.hub.Served.TheVariants as served
 use Rattle.session_core.specs.Fits.{Fits}
 use Rattle.session_core.specs.Ends.{IsAtRest}
 use Rattle.session_core.specs.Session.{Seen}

@@ -1,10 +1,10 @@
 -- What a server has carried over each session that its hub announced.
 use Rattle.std.specs.Prelude.{◌≡◌, ◌⊎◌, ℕ, List, ◌++◌, true, Option, Some, None, slice_get}
-use Rattle.gate_io.specs.Meaning.{Told, Meaning, link_of}
-use Rattle.gate_io.specs.declared.hub.Side.{Side}
-use Rattle.gate_io.specs.declared.hub.LinkPut.TheVariants as put
-use Rattle.gate_io.specs.declared.hub.Served.{Served}
-use Rattle.gate_io.specs.declared.hub.Served.TheVariants as served
+use Rattle.gate_hub.specs.Meaning.{Told, Meaning, link_of}
+use Rattle.gate_hub.specs.declared.hub.Side.{Side}
+use Rattle.gate_hub.specs.declared.hub.LinkPut.TheVariants as put
+use Rattle.gate_hub.specs.declared.hub.Served.{Served}
+use Rattle.gate_hub.specs.declared.hub.Served.TheVariants as served
 use Rattle.session_core.specs.Standing.{nothing}
 use Rattle.session_core.specs.declared.outcome.Outcome.{Outcome}
 use Rattle.session_core.specs.declared.outcome.Outcome.TheVariants as outcome

@@ -10,8 +10,8 @@ ghost use Rattle.type_tables.specs.Declarations.{Declarations};
 ghost use Rattle.translate_core.specs.declared.route.Route.{Route};
 ghost use Rattle.translate_core.specs.declared.verdict.Cause.{Cause};
 ghost use Rattle.protocol_pairs.specs.Pairs.{answered};
-ghost use Rattle.gate_io.specs.Meaning.{Meaning};
-ghost use Rattle.gate_io.specs.declared.hub.Served.{Served};
+ghost use Rattle.gate_hub.specs.Meaning.{Meaning};
+ghost use Rattle.gate_hub.specs.declared.hub.Served.{Served};
 ghost use Rattle.session_core.specs.Standing.{Standing, History};
 ghost use Rattle.session_core.specs.Fits.{Fits};
 ghost use Rattle.session_core.specs.Ends.{IsAtRest};
@@ -27,7 +27,7 @@ ghost use Rattle.session_laws.specs.Carrying.{Carries, IsComplete, IsEnded};
 ghost use Rattle.session_laws.specs.Serving.{sessions_of, ReceivesBytes, CarriesAll};
 
 use framed_transport::{a_stream_is_split, frame_stands_at_the_front};
-use gate_io::Hub;
+use gate_hub::Hub;
 
 /// The answer to a refused message is the plain spelling of an exception with its sequence number and its name without the service
 /// before it. Field 1 of the exception is the text of the cause, field 2 the type 7, a protocol error.

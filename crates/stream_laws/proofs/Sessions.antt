@@ -2,10 +2,10 @@
 use Rattle.std.proofs.Common.{ℕ, inl, inr, Option, refl, sym, subst}
 use Rattle.type_tables.specs.declared.declared.ServiceId.{ServiceId}
 use Rattle.type_tables.specs.Declarations.{Declarations}
-use Rattle.gate_io.specs.Meaning.{Meaning}
-use Rattle.gate_io.specs.Hubs.{Counts, StartLeads}
-use Rattle.gate_io.specs.declared.hub.Began.TheVariants as began
-use Rattle.gate_io.specs.declared.hub.Served.{Served}
+use Rattle.gate_hub.specs.Meaning.{Meaning}
+use Rattle.gate_hub.specs.Hubs.{Counts, StartLeads}
+use Rattle.gate_hub.specs.declared.hub.Began.TheVariants as began
+use Rattle.gate_hub.specs.declared.hub.Served.{Served}
 use Rattle.session_judge.specs.Setting.{Setting}
 use Rattle.session_judge.specs.Rules.{rules_of}
 use Rattle.proxy_server.specs.Serving.{IsFresh}

@@ -2,9 +2,9 @@
 use Rattle.std.specs.Prelude.{◌≡◌, ◌⊎◌, ℕ, List, ◌++◌, Option, true}
 use Rattle.type_tables.specs.declared.declared.ServiceId.{ServiceId}
 use Rattle.type_tables.specs.Declarations.{Declarations}
-use Rattle.gate_io.specs.Meaning.{Meaning}
-use Rattle.gate_io.specs.Hubs.{NotStarted}
-use Rattle.gate_io.specs.declared.hub.Served.{Served}
+use Rattle.gate_hub.specs.Meaning.{Meaning}
+use Rattle.gate_hub.specs.Hubs.{NotStarted}
+use Rattle.gate_hub.specs.declared.hub.Served.{Served}
 use Rattle.session_judge.specs.Setting.{Setting}
 use Rattle.proxy_server.specs.Serving.{Entry, Closing, KeepsFrom, closing_lines, left_lines}
 use Rattle.proxy_server.specs.Steps.{ServedWrites}

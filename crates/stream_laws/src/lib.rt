@@ -8,7 +8,7 @@ ghost use Rattle.std.specs.Io.KnownBytes.{Consumes};
 ghost use Rattle.std.specs.List.{flat_map};
 ghost use Rattle.protocol_traits.specs.declared.proto.Proto.{Proto};
 ghost use Rattle.protocol_traits.specs.declared.proto.Proto.TheVariants as protocols;
-ghost use Rattle.gate_io.specs.Meaning.{Meaning};
+ghost use Rattle.gate_hub.specs.Meaning.{Meaning};
 ghost use Rattle.gate_words.specs.Commands.{command};
 ghost use Rattle.gate_words.specs.declared.command.Command.TheVariants.{Serve};
 ghost use Rattle.gate_words.specs.declared.options.Declared.{Declared};
@@ -26,7 +26,7 @@ ghost use Rattle.stream_laws.specs.Covering.{passage_of, IsConverted, IsListed, 
 ghost use Rattle.stream_laws.specs.Sessions.{CarriesMessages};
 ghost use Rattle.stream_laws.specs.Streams.{GiveAll, AreFrames};
 
-use gate_io::Hub;
+use gate_hub::Hub;
 use session_laws::a_server_carries_messages;
 use show_laws::a_frame_is_shown_by_its_grammar;
 
