@@ -2,7 +2,7 @@ use Rattle.std.proofs.Common.{arith, ap}
 use Rattle.std.proofs.lemmas.Grind.{common_steps}
 use Rattle.gate_memory.proofs.Moved.{moved}
 use Rattle.gate_memory.specs.Streams.{SourceState}
-use Rattle.gate_memory.proofs.streams.MemSourceSource.read.Goals as goal
+use Rattle.gate_memory.proofs.streams.MemSource.take.Goals as goal
 
 pub returns-clause-bytes : goal.returns-clause-bytes
 returns-clause-bytes c = (

@@ -1,6 +1,6 @@
 use Rattle.std.proofs.Common.{◌≡◌, length}
 use Rattle.std.specs.Io.KnownBytes.{Keeps}
-use Rattle.gate_io.proofs.std_streams.StdSourceSource.read.Given as goal
+use Rattle.gate_io.proofs.std_streams.StdSource.take.Given as goal
 
 -- nothing was taken yet
 abbrev pub invariant-loop : goal.invariant-loop
