@@ -1,5 +1,5 @@
 -- The course of each session of a server.
-use Rattle.std.proofs.Common.{◌≡◌, ℕ, ◌<◌, ◌^◌, ◌⊎◌, inl, inr, List, [], Option, Some, None, refl, sym, subst}
+use Rattle.std.proofs.Common.{◌≡◌, ℕ, ◌<◌, ◌^◌, ◌⊎◌, inl, inr, List, [], Some, None, refl, sym, subst}
 use Rattle.gate_hub.specs.Meaning.{Told, Meaning, link_of}
 use Rattle.gate_hub.specs.declared.hub.Side.{Side}
 use Rattle.gate_hub.specs.declared.hub.Side.TheVariants as side
@@ -15,7 +15,7 @@ use Rattle.session_judge.specs.Setting.{Setting}
 use Rattle.session_judge.specs.Rules.{rules_of}
 use Rattle.proxy_server.specs.Matching.{history_of}
 use Rattle.proxy_server.specs.Serving.{Entry, Closing, IsHeld, IsOutcome, NotOpened, LinkFailed, OfItself, IsAmong, IsOpenOne, IsEndedOne, Stands, no_more}
-use Rattle.proxy_server.specs.Steps.{Serves, IsLeft}
+use Rattle.proxy_server.specs.Steps.{Outside, Serves, IsLeft}
 use Rattle.proxy_server.specs.Turning.{IsSettled}
 use Rattle.session_laws.specs.Saying.{HasLaws}
 use Rattle.session_laws.specs.Serving.{sessions_of, ReceivesBytes, IsWritable, Course, HasCourse, CarriesAll}
@@ -86,13 +86,15 @@ module _ (s : Setting) (limit most sessions events : ℕ) (from : HasLaws s.clie
   is_covered result held past busy gone m k bytes stands left (inl none) = absurd none
   is_covered result held past busy gone m k bytes stands left (inr among) = by_place result held past busy gone m k bytes stands left among
 
-  pub carries_all : (told told' : Meaning → Type 0) (written written' : Option (List ℕ)) (faults faults' : ℕ) (result : Served) → ((n : Meaning) → told' n → ReceivesBytes n)
-      → Serves Setting rules_of told told' written written' faults faults' (sessions_of s limit most sessions events) result → CarriesAll s limit most told told' written written' faults faults' result
-  carries_all told told' written written' faults faults' result bytes (held, past, busy, writes, keeps) = (
-    held,
-    past,
-    writes,
-    (λ m is fresh.
-        let n = keeps m is fresh in
-        (n.0, n.1, (λ k announced. is_covered result held past busy _ n.0 k (bytes n.0 n.1) n.2.0 n.2.2 (n.2.0.covers k announced)))),
-  )
+  pub carries_all : (a b : Outside) (result : Served) → ((n : Meaning) → b.told n → ReceivesBytes n)
+      → Serves Setting rules_of (sessions_of s limit most sessions events) a b result → CarriesAll s limit most a b result
+  carries_all a b result bytes x = record {
+    held = x.held;
+    ended = x.ended;
+    lines = x.lines;
+    writes = x.writes;
+    answers = x.answers;
+    sessions = λ m is fresh.
+        let n = x.keeps m is fresh in
+        (n.0, n.1, (λ k announced. is_covered result x.held x.ended x.busy _ n.0 k (bytes n.0 n.1) n.2.stands n.2.left (n.2.stands.covers k announced)));
+  }

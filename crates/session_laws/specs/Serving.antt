@@ -1,6 +1,7 @@
 -- What a server has carried over each session that its hub announced.
-use Rattle.std.specs.Prelude.{◌≡◌, ◌⊎◌, ℕ, List, ◌++◌, true, Option, Some, None, slice_get}
+use Rattle.std.specs.Prelude.{◌≡◌, ◌⊎◌, ℕ, List, true, Option, Some, None, slice_get}
 use Rattle.gate_hub.specs.Meaning.{Told, Meaning, link_of}
+use Rattle.gate_hub.specs.Hubs.{Counts}
 use Rattle.gate_hub.specs.declared.hub.Side.{Side}
 use Rattle.gate_hub.specs.declared.hub.LinkPut.TheVariants as put
 use Rattle.gate_hub.specs.declared.hub.Served.{Served}
@@ -11,9 +12,9 @@ use Rattle.session_core.specs.declared.outcome.Outcome.TheVariants as outcome
 use Rattle.session_judge.specs.Setting.{Setting}
 use Rattle.session_judge.specs.Rules.{rules_of}
 use Rattle.proxy_server.specs.Matching.{history_of}
-use Rattle.proxy_server.specs.Serving.{Entry, Closing, KeepsFrom, IsFresh, closing_lines, left_lines}
+use Rattle.proxy_server.specs.Serving.{Entry, Closing, KeepsFrom, IsFresh}
 use Rattle.proxy_server.specs.Serving.{Setting as Sessions}
-use Rattle.proxy_server.specs.Steps.{ServedWrites}
+use Rattle.proxy_server.specs.Steps.{Outside, LinesEnd, WritesLines, AnswersLines}
 use Rattle.proxy_server.specs.Turning.{HasFailed}
 use Rattle.binary_laws.specs.Bytes.{AreBytes}
 use Rattle.session_laws.specs.Carrying.{Carries, IsComplete, IsEnded}
@@ -22,6 +23,10 @@ use Rattle.session_laws.specs.Carrying.{Carries, IsComplete, IsEnded}
 -- open at a time, and so much may be spent
 abbrev pub sessions_of : Setting → ℕ → ℕ → ℕ → ℕ → Sessions
 sessions_of s limit most sessions events = record { rules = rules_of s; limit = limit; most = most; sessions = sessions; events = events }
+
+-- a hub and an output, as they tell
+abbrev pub leaving : (Meaning → Type 0) → Counts → Option (List ℕ) → ℕ → Outside
+leaving told counts written faults = record { told = told; counts = counts; written = written; faults = faults }
 
 -- what was received of each session consists of bytes
 abbrev pub ReceivesBytes : Meaning → Type 0
@@ -49,8 +54,11 @@ HasLine k (Some o) held ended = (i : ℕ) × (c : Closing) × (slice_get ended i
 abbrev pub HasCourse : Setting → ℕ → ℕ → Served → List (Entry Setting) → List Closing → Meaning → ℕ → Type 0
 HasCourse s limit most result held ended m k = (ending : Option Outcome) × HasLine k ending held ended × Course s limit most result (m.session k) ending
 
--- the lines were written, and each session that was announced has a course that its line tells
-abbrev pub CarriesAll : Setting → ℕ → ℕ → (Meaning → Type 0) → (Meaning → Type 0) → Option (List ℕ) → Option (List ℕ) → ℕ → ℕ → Served → Type 0
-CarriesAll s limit most told told' written written' faults faults' result =
-    (held : List (Entry Setting)) × (ended : List Closing) × ServedWrites result written written' faults faults' (closing_lines ended ++ left_lines held)
-    × KeepsFrom told told' IsFresh (λ m n. (k : ℕ) → (n.session k).announced ≡ true → HasCourse s limit most result held ended n k)
+-- the lines were written, as far as they go with the answer, and each session that was announced has a course that its line tells
+pub record CarriesAll (s : Setting) (limit most : ℕ) (a b : Outside) (result : Served) : Type 0 where
+  pub held : List (Entry Setting)
+  pub ended : List Closing
+  pub lines : LinesEnd
+  pub writes : WritesLines lines a.written b.written a.faults b.faults ended held
+  pub answers : AnswersLines result lines
+  pub sessions : KeepsFrom a.told b.told IsFresh (λ m n. (k : ℕ) → (n.session k).announced ≡ true → HasCourse s limit most result held ended n k)

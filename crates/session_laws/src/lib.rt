@@ -24,7 +24,7 @@ ghost use Rattle.binary_laws.specs.Bytes.{AreBytes};
 ghost use Rattle.verdict_laws.specs.Rounds.{SpellsIn, plain_in};
 ghost use Rattle.session_laws.specs.Saying.{HasLaws, BeginsWith, failure_of};
 ghost use Rattle.session_laws.specs.Carrying.{Carries, IsComplete, IsEnded};
-ghost use Rattle.session_laws.specs.Serving.{sessions_of, ReceivesBytes, CarriesAll};
+ghost use Rattle.session_laws.specs.Serving.{sessions_of, leaving, ReceivesBytes, CarriesAll};
 
 use framed_transport::{a_stream_is_split, frame_stands_at_the_front};
 use gate_hub::Hub;
@@ -74,8 +74,8 @@ pub fn an_outcome_says_why()
 pub fn a_server_carries_messages<H: Hub>()
     ensures { (s : Setting) (limit most sessions events : ℕ) (h h' : H) (written written' : Option (List ℕ)) (faults faults' : ℕ) (result : Served)
         → HasLaws s.client → HasLaws s.upstream → limit < 2 ^ 31 → 0 < most → ((n : Meaning) → H.tells h' n → ReceivesBytes n)
-        → Serves Setting rules_of (H.tells h) (H.tells h') written written' faults faults' (sessions_of s limit most sessions events) result
-        → CarriesAll s limit most (H.tells h) (H.tells h') written written' faults faults' result }
+        → Serves Setting rules_of (sessions_of s limit most sessions events) (leaving (H.tells h) (H.counts h) written faults) (leaving (H.tells h') (H.counts h') written' faults') result
+        → CarriesAll s limit most (leaving (H.tells h) (H.counts h) written faults) (leaving (H.tells h') (H.counts h') written' faults') result }
 {
     frame_stands_at_the_front();
     a_stream_is_split();
