@@ -1,7 +1,7 @@
 -- What a stream gives, from its clause.
-use Rattle.std.proofs.Common.{◌≡◌, ℕ, ◌+◌, Bool, true, false, ◌⊎◌, inl, inr, List, [], ◌∷◌, ◌++◌, Option, refl, ap, ◌∙◌, sym, subst}
+use Rattle.std.proofs.Common.{◌≡◌, ℕ, ◌+◌, Bool, true, false, List, [], ◌∷◌, ◌++◌, Option, refl, ap, ◌∙◌, sym, subst}
 use Rattle.std.proofs.lemmas.List.{append-nil}
-use Rattle.std.specs.Prelude.{not, ◌||◌}
+use Rattle.std.specs.Prelude.{⊤, not, ◌||◌}
 use Rattle.std.specs.List.{flat_map}
 use Rattle.std.specs.Io.KnownBytes.{Consumes}
 use Rattle.type_tables.specs.declared.declared.ServiceId.{ServiceId}
@@ -19,12 +19,15 @@ use Rattle.session_laws.specs.Saying.{HasLaws, FaultBy, SpellsHead}
 use Rattle.session_laws.proofs.Fates.{IsSaidBy, ByMessage, ByCause, ByFault, said_by}
 use Rattle.session_laws.proofs.Existing.{frame_bytes}
 use Rattle.show_laws.specs.Showings.{IsShowing, ShowsMessage, TellsFault, TellsNoHeader}
-use Rattle.gate_run.specs.declared.doing.Doing.TheVariants.{Convert, Show}
+use Rattle.gate_run.specs.declared.task.Doing.TheVariants.{Convert, Show}
 use Rattle.gate_run.specs.Handling.{Treated, Passes, Fails, translated, as_line, treated, treated_by, is_passed, bytes_of, line_for, output_of, line_of, lines, any_refused}
-use Rattle.gate_run.specs.Outcome.{Streams, Covers, Streamed}
+use Rattle.gate_run.specs.Outcome.{Streams, Covers, StopsWith, Streamed}
+use Rattle.gate_run.specs.declared.stream.TheConstants.{MOST_BYTES}
+use Rattle.gate_run.specs.declared.status.Ending.{Ending}
+use Rattle.gate_run.specs.declared.status.Ending.TheVariants as endings
 use Rattle.gate_run.specs.Terms.{Terms, judged_by, shown_by}
 use Rattle.stream_laws.specs.Streams.{AreFrames}
-use Rattle.stream_laws.specs.Covering.{passage_of, IsConverted, IsWritten, IsReported, IsListed, HasLine, HasFault, GiveInOrder, CoversBy, GivesByCode}
+use Rattle.stream_laws.specs.Covering.{passage_of, IsConverted, IsWritten, IsReported, IsListed, HasLine, HasFault, GiveInOrder, CoversBy, GivesSome, GivesBy}
 
 -- what is written and reported of one frame by the program
 abbrev Holds : (ℕ → List ℕ → List ℕ → List ℕ → Type 0) → ℕ → List ℕ → Treated → Type 0
@@ -97,18 +100,18 @@ module _ (k : Terms) (Each : ℕ → List ℕ → List ℕ → List ℕ → Type
     reported = c.reported;
   }
 
+  some_covered : (a b : Streams) (text : List ℕ) (Many : ℕ → Type 0) → ((read : List ℕ) → Consumes a.left b.left read → AreBytes read) → StopsWith k a b text Many → GivesSome Each k.limit a b
+  some_covered a b text Many bytes x = (x.0, x.1, x.2, x.3, covers a b x.0 x.1 x.2 x.3 (bytes x.0 x.4.consumed) x.4)
+
   -- what is read of the input consists of bytes
-  module _ (a b : Streams) (code : ℕ) (bytes : (read : List ℕ) → Consumes a.left b.left read → AreBytes read) (s : Streamed k a b code) where
-    pub by_code : GivesByCode Each k.limit a b code
-    by_code = record {
-      done = λ e.
-          let x = s.done e in
-          (x.0, x.1, covers a b x.0 x.1 [] [] (bytes x.0 x.2.consumed) x.2, nothing_reported k 0 x.1 x.3, x.4);
-      refused = λ e. let x = s.refused e in (x.0, x.1, covers a b x.0 x.1 [] [] (bytes x.0 x.2.consumed) x.2, x.4);
-      stream_fault = λ e. let x = s.stream_fault e in (x.0, x.1, x.2, x.3, covers a b x.0 x.1 x.2 x.3 (bytes x.0 x.4.consumed) x.4, x.5, x.6);
-      stopped = stops;
-    }
-      where
-        stops : (code ≡ 4) ⊎ (code ≡ 8) → (read : List ℕ) × (frames : List (List ℕ)) × (rest : List ℕ) × (line : List ℕ) × CoversBy Each k.limit a b read frames rest line
-        stops (inl e) = let x = (s.read_fault e).1 in (x.0, x.1, x.2, x.3, covers a b x.0 x.1 x.2 x.3 (bytes x.0 x.4.consumed) x.4)
-        stops (inr e) = let x = s.budget e in (x.0, x.1, x.2, x.3, covers a b x.0 x.1 x.2 x.3 (bytes x.0 x.4.consumed) x.4)
+  pub by_ending : (a b : Streams) (ending : Ending) → ((read : List ℕ) → Consumes a.left b.left read → AreBytes read) → Streamed k a b ending → GivesBy Each k.limit a b ending
+  by_ending a b endings.Done bytes x = (x.0, x.1, covers a b x.0 x.1 [] [] (bytes x.0 x.2.consumed) x.2, nothing_reported k 0 x.1 x.3, x.4)
+  by_ending a b endings.Refused bytes x = (x.0, x.1, covers a b x.0 x.1 [] [] (bytes x.0 x.2.consumed) x.2, x.4)
+  by_ending a b endings.StreamFault bytes x = (x.0, x.1, x.2, x.3, covers a b x.0 x.1 x.2 x.3 (bytes x.0 x.4.consumed) x.4, x.5, x.6)
+  by_ending a b endings.ReadFault bytes x = some_covered a b _ (λ n. ⊤) bytes x.1
+  by_ending a b endings.BudgetSpent bytes x = some_covered a b _ (λ n. n ≡ MOST_BYTES) bytes x
+  by_ending a b endings.OutOfMemory bytes x = some_covered a b _ (λ n. n ≡ 0) bytes x
+  by_ending a b endings.WriteFault bytes x = tt
+  by_ending a b endings.Usage bytes x = absurd x
+  by_ending a b endings.FileFault bytes x = absurd x
+  by_ending a b endings.HubFault bytes x = absurd x

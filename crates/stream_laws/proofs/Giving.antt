@@ -21,7 +21,7 @@ use Rattle.verdict_laws.specs.Verdicts.{IsPlain, IsVerdict}
 use Rattle.verdict_laws.specs.Verdicts.IsVerdict.{Passes, IsBarred, IsFaulty, IsUnread}
 use Rattle.verdict_laws.proofs.Faulted.{binary_told, compact_told}
 use Rattle.verdict_laws.proofs.Round.{round}
-use Rattle.gate_run.specs.declared.doing.Doing.TheVariants.{Convert}
+use Rattle.gate_run.specs.declared.task.Doing.TheVariants.{Convert}
 use Rattle.gate_run.specs.Handling.{translated, treated_by, is_passed, bytes_of, output_of}
 use Rattle.gate_run.specs.Terms.{Terms, judged_by}
 use Rattle.stream_laws.specs.Streams.{Gives, GiveAll, AreFrames}

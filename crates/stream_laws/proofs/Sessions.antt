@@ -14,6 +14,8 @@ use Rattle.gate_words.specs.declared.options.Declared.{Declared}
 use Rattle.gate_words.specs.declared.serving.Serving.{Serving}
 use Rattle.gate_run.specs.Outcome.{Streams}
 use Rattle.gate_run.specs.Serving.{ServesAll, Began, NotBegun, NoMemory, started_by, setting_by, settings}
+use Rattle.gate_run.specs.declared.start.NoStart.{NoStart}
+use Rattle.gate_run.specs.declared.status.Ending.{Ending}
 use Rattle.gate_run.specs.Starting.{Holds, Starting, Goes, Stops}
 use Rattle.session_laws.specs.Serving.{CarriesAll}
 use Rattle.stream_laws.specs.Sessions.{IsUntouched, CarriesMessages}
@@ -27,8 +29,8 @@ IsServer told told' s d service a b =
     (result : Served) → Serves Setting rules_of told told' a.written b.written a.output_faults b.output_faults (settings s d service) result
     → CarriesAll (setting_by s d service) s.limit s.calls told told' a.written b.written a.output_faults b.output_faults result
 
-module _ {H : Type 0} (tells : H → Meaning → Type 0) (counts : H → Counts) (s : Serving) (d : Declarations) (service : Option ServiceId) (h h' : H) (a b : Streams) (code : ℕ) where
-  pub carried : ((mid : H) → IsServer (tells mid) (tells h') s d service a b) → ServesAll tells counts s d service h h' a b code → CarriesMessages (tells h) (tells h') s d service a b
+module _ {H : Type 0} (tells : H → Meaning → Type 0) (counts : H → Counts) (s : Serving) (d : Declarations) (service : Option ServiceId) (h h' : H) (a b : Streams) (ending : Ending) where
+  pub carried : ((mid : H) → IsServer (tells mid) (tells h') s d service a b) → ServesAll tells counts s d service h h' a b ending → CarriesMessages (tells h) (tells h') s d service a b
   carried law (Began mid result left later leads serves ends) =
       let all = law mid result serves in
       inl (record {
@@ -44,7 +46,7 @@ module _ {H : Type 0} (tells : H → Meaning → Type 0) (counts : H → Counts)
   carried law (NoMemory leads says) = inr (record { keeps = leads; written = says.written })
 
 -- the same of what a command did that started
-pub then : (told : Option Holds) (words : Declared) (before now : ℕ) (a b : Streams) (code : ℕ) (P Q : Declarations → Option ServiceId → Type 0) → ((d : Declarations) (service : Option ServiceId) → P d service → Q d service)
-    → Starting told words before now a b code P → Starting told words before now a b code Q
-then told words before now a b code P Q on (Goes start known p) = Goes start known (on start.schema start.service p)
-then told words before now a b code P Q on (Stops stop known cause halts) = Stops stop known cause halts
+pub then : (told : Option Holds) (words : Declared) (before now : ℕ) (P Q : Declarations → Option ServiceId → Type 0) (Else : NoStart → Type 0) → ((d : Declarations) (service : Option ServiceId) → P d service → Q d service)
+    → Starting told words before now P Else → Starting told words before now Q Else
+then told words before now P Q Else on (Goes start known cause p) = Goes start known cause (on start.schema start.service p)
+then told words before now P Q Else on (Stops stop known cause halts) = Stops stop known cause halts

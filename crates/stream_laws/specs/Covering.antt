@@ -1,5 +1,5 @@
 -- What a stream that is converted or shown gives in the words of the grammars: what is written of each frame, and what is reported.
-use Rattle.std.specs.Prelude.{◌≡◌, ◌⊎◌, ℕ, ◌+◌, List, [], ◌∷◌, ◌++◌, length}
+use Rattle.std.specs.Prelude.{⊤, ◌≡◌, ℕ, ◌+◌, List, [], ◌∷◌, ◌++◌, length}
 use Rattle.std.specs.Io.KnownBytes.{Appends, Consumes, IsAtEnd}
 use Rattle.thrift_value.specs.Trees.{Message}
 use Rattle.protocol_traits.specs.declared.fault.Fault.{Fault}
@@ -15,6 +15,8 @@ use Rattle.gate_run.specs.Lines.{refusal_text}
 use Rattle.gate_run.specs.Outcome.{Streams, IsTooLargeOrAtEnd}
 use Rattle.gate_run.specs.Progress.{IsStreamLine}
 use Rattle.gate_run.specs.Terms.{Terms}
+use Rattle.gate_run.specs.declared.status.Ending.{Ending}
+use Rattle.gate_run.specs.declared.status.Ending.TheVariants as endings
 
 -- a frame goes from one protocol to the other by the method that its message's name means
 abbrev pub passage_of : Terms → Proto → Proto → Passage
@@ -47,11 +49,22 @@ pub record CoversBy (Each : ℕ → List ℕ → List ℕ → List ℕ → Type 
   pub written : Appends a.written b.written out
   pub reported : Appends a.reported b.reported (told ++ line)
 
--- By the code: the input was read to its end and is whole frames, and at 0 nothing was reported; it ended within a frame, or the next length
--- is too large; reading failed or the budget was spent behind some whole frames.
-pub record GivesByCode (Each : ℕ → List ℕ → List ℕ → List ℕ → Type 0) (limit : ℕ) (a b : Streams) (code : ℕ) : Type 0 where
-  pub done : code ≡ 0 → (read : List ℕ) × (frames : List (List ℕ)) × (c : CoversBy Each limit a b read frames [] []) × (c.told ≡ []) × IsAtEnd b.left
-  pub refused : code ≡ 1 → (read : List ℕ) × (frames : List (List ℕ)) × CoversBy Each limit a b read frames [] [] × IsAtEnd b.left
-  pub stream_fault : code ≡ 3 → (read : List ℕ) × (frames : List (List ℕ)) × (rest : List ℕ) × (line : List ℕ) × CoversBy Each limit a b read frames rest line
-      × IsStreamLine limit (length frames) rest line × IsTooLargeOrAtEnd limit rest b.left
-  pub stopped : (code ≡ 4) ⊎ (code ≡ 8) → (read : List ℕ) × (frames : List (List ℕ)) × (rest : List ℕ) × (line : List ℕ) × CoversBy Each limit a b read frames rest line
+-- the same of some whole frames, and of a last line
+abbrev pub GivesSome : (ℕ → List ℕ → List ℕ → List ℕ → Type 0) → ℕ → Streams → Streams → Type 0
+GivesSome Each limit a b = (read : List ℕ) × (frames : List (List ℕ)) × (rest : List ℕ) × (line : List ℕ) × CoversBy Each limit a b read frames rest line
+
+-- By the ending: the input was read to its end and is whole frames, and where it is done nothing was reported; it ended within a frame, or
+-- the next length is too large; reading failed or the budget was spent behind some whole frames. Where a write failed the clause of `run`
+-- says which front was written.
+abbrev pub GivesBy : (ℕ → List ℕ → List ℕ → List ℕ → Type 0) → ℕ → Streams → Streams → Ending → Type 0
+GivesBy Each limit a b endings.Done = (read : List ℕ) × (frames : List (List ℕ)) × (c : CoversBy Each limit a b read frames [] []) × (c.told ≡ []) × IsAtEnd b.left
+GivesBy Each limit a b endings.Refused = (read : List ℕ) × (frames : List (List ℕ)) × CoversBy Each limit a b read frames [] [] × IsAtEnd b.left
+GivesBy Each limit a b endings.StreamFault = (read : List ℕ) × (frames : List (List ℕ)) × (rest : List ℕ) × (line : List ℕ) × CoversBy Each limit a b read frames rest line
+    × IsStreamLine limit (length frames) rest line × IsTooLargeOrAtEnd limit rest b.left
+GivesBy Each limit a b endings.ReadFault = GivesSome Each limit a b
+GivesBy Each limit a b endings.BudgetSpent = GivesSome Each limit a b
+GivesBy Each limit a b endings.OutOfMemory = GivesSome Each limit a b
+GivesBy Each limit a b endings.WriteFault = ⊤
+GivesBy Each limit a b endings.Usage = ⊥
+GivesBy Each limit a b endings.FileFault = ⊥
+GivesBy Each limit a b endings.HubFault = ⊥

@@ -14,15 +14,16 @@ ghost use Rattle.gate_words.specs.declared.command.Command.TheVariants.{Serve};
 ghost use Rattle.gate_words.specs.declared.options.Declared.{Declared};
 ghost use Rattle.gate_words.specs.declared.serving.Serving.{Serving};
 ghost use Rattle.gate_run.specs.Outcome.{Streams, Streamed};
-ghost use Rattle.gate_run.specs.Serving.{ServesAll};
-ghost use Rattle.gate_run.specs.Starting.{Holds, Starting};
+ghost use Rattle.gate_run.specs.Running.{Outside, Runs, StartsWith};
+ghost use Rattle.gate_run.specs.declared.status.Ending.{Ending};
+ghost use Rattle.gate_run.specs.Starting.{Halts};
 ghost use Rattle.session_laws.specs.Saying.{HasLaws};
 ghost use Rattle.session_laws.specs.Serving.{ReceivesBytes};
-ghost use Rattle.gate_run.specs.declared.doing.Doing.TheVariants.{Convert, Show};
+ghost use Rattle.gate_run.specs.declared.task.Doing.TheVariants.{Convert, Show};
 ghost use Rattle.gate_run.specs.Handling.{output_of};
 ghost use Rattle.gate_run.specs.Terms.{Terms};
 ghost use Rattle.binary_laws.specs.Bytes.{AreBytes};
-ghost use Rattle.stream_laws.specs.Covering.{passage_of, IsConverted, IsListed, GivesByCode};
+ghost use Rattle.stream_laws.specs.Covering.{passage_of, IsConverted, IsListed, GivesBy};
 ghost use Rattle.stream_laws.specs.Sessions.{CarriesMessages};
 ghost use Rattle.stream_laws.specs.Streams.{GiveAll, AreFrames};
 
@@ -41,15 +42,15 @@ pub fn frames_are_converted_by_their_grammar()
 /// order, the frame of the plain spelling of its message, or a line with the place and the cause for which it can't go on. What was read
 /// consists of bytes.
 pub fn a_stream_is_converted_by_its_grammar()
-    ensures { (k : Terms) (from to : Proto) (a b : Streams) (code : ℕ) → k.doing ≡ Convert from to → HasLaws from → HasLaws to
-        → ((read : List ℕ) → Consumes a.left b.left read → AreBytes read) → Streamed k a b code → GivesByCode (IsConverted (passage_of k from to)) k.limit a b code }
+    ensures { (k : Terms) (from to : Proto) (a b : Streams) (ending : Ending) → k.doing ≡ Convert from to → HasLaws from → HasLaws to
+        → ((read : List ℕ) → Consumes a.left b.left read → AreBytes read) → Streamed k a b ending → GivesBy (IsConverted (passage_of k from to)) k.limit a b ending }
 {}
 
 /// What is written and reported of a stream of Binary or Compact that is shown: of each frame, in order, the line of its message, or a line
 /// with the fault that stands in it. What was read consists of bytes.
 pub fn a_stream_is_shown_by_its_grammar()
-    ensures { (k : Terms) (from : Proto) (a b : Streams) (code : ℕ) → k.doing ≡ Show from → HasLaws from
-        → ((read : List ℕ) → Consumes a.left b.left read → AreBytes read) → Streamed k a b code → GivesByCode (IsListed k (passage_of k from from)) k.limit a b code }
+    ensures { (k : Terms) (from : Proto) (a b : Streams) (ending : Ending) → k.doing ≡ Show from → HasLaws from
+        → ((read : List ℕ) → Consumes a.left b.left read → AreBytes read) → Streamed k a b ending → GivesBy (IsListed k (passage_of k from from)) k.limit a b ending }
 {
     a_frame_is_shown_by_its_grammar();
 }
@@ -60,10 +61,10 @@ pub fn a_stream_is_shown_by_its_grammar()
 /// One that came to an end was sent all that was due, and one that was left open all that the calls allow, where both sides can be written
 /// to and the budget isn't spent.
 pub fn a_session_carries_messages<H: Hub>()
-    ensures { (words : List (List ℕ)) (s : Serving) (d : Declared) (told : Option Holds) (h h' : H) (before now : ℕ) (a b : Streams) (code : ℕ) → command words ≡ Some (Serve s d) → HasLaws s.client → HasLaws s.upstream
-        → ((n : Meaning) → H.tells h' n → ReceivesBytes n)
-        → Starting told d before now a b code (λ declarations service. ServesAll H.tells H.counts s declarations service h h' a b code)
-        → Starting told d before now a b code (λ declarations service. CarriesMessages (H.tells h) (H.tells h') s declarations service a b) }
+    ensures { (words : List (List ℕ)) (s : Serving) (d : Declared) (before after : Outside H) (ending : Ending) → command words ≡ Some (Serve s d) → HasLaws s.client → HasLaws s.upstream
+        → ((n : Meaning) → H.tells after.hub n → ReceivesBytes n) → Runs H.tells H.counts (command words) before after ending
+        → StartsWith before after d (λ declarations service. CarriesMessages (H.tells before.hub) (H.tells after.hub) s declarations service before.streams after.streams)
+        (λ stop. Halts stop before.streams after.streams ending × (after.hub ≡ before.hub)) }
 {
     a_server_carries_messages::<H>();
 }
