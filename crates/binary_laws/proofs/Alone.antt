@@ -10,7 +10,7 @@ use Rattle.protocol_traits.specs.declared.fault.Reason.{Reason}
 use Rattle.protocol_traits.specs.declared.fault.Reason.TheVariants as reasons
 use Rattle.binary_protocol.specs.Codes.{code_of_type}
 use Rattle.binary_protocol.specs.Grammar.{number, size, BinarySpells, SpellsStrictHeader, SpellsOldHeader}
-use Rattle.binary_laws.specs.Bytes.{AreBytes}
+use Rattle.gate_base.specs.Bytes.{AreBytes}
 use Rattle.binary_laws.specs.Called.{IsPart, width_of_all, depth_behind, HasStrictPart, HasItem, HasAt, IsCalled}
 use Rattle.binary_laws.specs.Faults.{extent, IsWhole, IsShallow, StandsAt, FaultAt}
 use Rattle.binary_laws.specs.Refused.{IsViable, IsRefused}

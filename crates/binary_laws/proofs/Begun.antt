@@ -16,7 +16,7 @@ use Rattle.protocol_traits.specs.Follow.{spent, after}
 use Rattle.binary_protocol.specs.Codes.{code_of_kind, kind_of_code}
 use Rattle.binary_protocol.specs.Scan.{Scan, fault, cut, shifted, ◌>>=◌, unsigned_at, signed_at, bool_at, i8_at, i16_at, i32_at, i64_at, double_at, uuid_at, size_at, size_begun, zero_at, string_at, string_of, text_at, elements_at, elements_of, set_at, list_at, map_at, map_of, map_item, is_bad_kind, is_zero_at, value_at, value_in}
 use Rattle.binary_protocol.specs.Grammar.{number, size, string, IsKindByte, SpellsValue}
-use Rattle.binary_laws.specs.Bytes.{AreBytes}
+use Rattle.gate_base.specs.Bytes.{AreBytes}
 use Rattle.binary_laws.proofs.Inverse.{either, is_read, is_fault, same_value, same_size, no_fault, kind_is, front_8, front_16, front_32, front_64, front_size}
 use Rattle.binary_laws.proofs.Levels.{IsTree, Level}
 

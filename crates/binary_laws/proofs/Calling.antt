@@ -17,7 +17,7 @@ use Rattle.binary_protocol.specs.declared.scan.Called.TheVariants as calls
 use Rattle.binary_protocol.specs.Scan.{fault, nests, value_at, value_in, item_called, item_in}
 use Rattle.binary_protocol.specs.Reading.{State, scan_at, reads}
 use Rattle.binary_protocol.specs.Grammar.{size, SpellsValue}
-use Rattle.binary_laws.specs.Bytes.{AreBytes}
+use Rattle.gate_base.specs.Bytes.{AreBytes}
 use Rattle.binary_laws.specs.Called.{width_of_all, depth_behind, HasPart}
 use Rattle.binary_laws.specs.Faults.{extent}
 use Rattle.binary_laws.specs.Reads.{Reads}

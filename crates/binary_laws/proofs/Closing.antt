@@ -9,7 +9,7 @@ use Rattle.thrift_value.specs.Trees.{Tree, truth, whole_8, whole_16, whole_32, w
 use Rattle.protocol_traits.specs.declared.nest.Slot.{Slot}
 use Rattle.protocol_traits.specs.declared.nest.Slot.TheVariants as slots
 use Rattle.binary_protocol.specs.Grammar.{number, size, string, SpellsValue}
-use Rattle.binary_laws.specs.Bytes.{AreBytes}
+use Rattle.gate_base.specs.Bytes.{AreBytes}
 use Rattle.binary_laws.proofs.Levels.{IsTree, AreFields, AreElements, ArePairs, Both, Level, Ends}
 
 pub bytes_join : (xs ys : List ℕ) → AreBytes xs → AreBytes ys → AreBytes (xs ++ ys)

@@ -17,7 +17,7 @@ use Rattle.binary_protocol.specs.Codes.{kind_of_code}
 use Rattle.binary_protocol.specs.Scan.{Scan, fault, cut, shifted, ◌>>=◌, unsigned_at, signed_at, field_at, field_of, bool_at, i8_at, i16_at, i32_at, i64_at, double_at, uuid_at, size_at, size_begun, zero_at, string_at, string_of, text_at, elements_at, elements_of, set_at, list_at, map_at, map_of, map_item, is_bad_kind, is_zero_at, value_at, value_in, nests, item_in, item_called}
 use Rattle.binary_protocol.specs.declared.scan.Called.TheVariants as calls
 use Rattle.binary_protocol.specs.Grammar.{size, IsKindByte}
-use Rattle.binary_laws.specs.Bytes.{AreBytes}
+use Rattle.gate_base.specs.Bytes.{AreBytes}
 use Rattle.binary_laws.proofs.Inverse.{either, is_read, is_fault}
 use Rattle.binary_laws.proofs.Closing.{bytes_join}
 use Rattle.binary_laws.proofs.Leaves.{bool_again, size_again, size_scan, string_scan, elements_scan, elements_again, no_map_again, map_scan, field_scan, stop_again}

@@ -20,7 +20,7 @@ use Rattle.binary_protocol.specs.Scan.{Scan, fault, value_at, value_in, nests}
 use Rattle.binary_protocol.specs.Heads.{head_at}
 use Rattle.binary_protocol.specs.Reading.{State, rest, scan_at, moved, reads, body_open}
 use Rattle.binary_protocol.specs.Grammar.{number, size, SpellsValue, SpellsMembers, SpellsElements, SpellsPairs, BinarySpells}
-use Rattle.binary_laws.specs.Bytes.{AreBytes}
+use Rattle.gate_base.specs.Bytes.{AreBytes}
 use Rattle.binary_laws.specs.Refused.{IsViable, IsRefused}
 use Rattle.binary_laws.specs.Reads.{header_of_message}
 use Rattle.binary_laws.proofs.Leaves.{list_again, set_again, map_again, field_again}

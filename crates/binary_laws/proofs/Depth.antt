@@ -21,7 +21,7 @@ use Rattle.binary_protocol.specs.Scan.{Scan, fault, ◌>>=◌, nests, bool_at, i
 use Rattle.binary_protocol.specs.Heads.{head_at}
 use Rattle.binary_protocol.specs.Reading.{State, rest, scan_at, reads, body_open}
 use Rattle.binary_protocol.specs.Grammar.{BinarySpells, SpellsMembers, SpellsStrictHeader, SpellsOldHeader}
-use Rattle.binary_laws.specs.Bytes.{AreBytes}
+use Rattle.gate_base.specs.Bytes.{AreBytes}
 use Rattle.binary_laws.specs.Called.{width_of_all, depth_behind, HasPart, HasItem, HasAt, IsCalled}
 use Rattle.binary_laws.specs.Reads.{Reads, header_of_message}
 use Rattle.binary_laws.specs.Refused.{IsRefused}

@@ -7,7 +7,7 @@ use Rattle.protocol_traits.specs.declared.fault.Reason.{Reason}
 use Rattle.protocol_traits.specs.declared.fault.Reason.TheVariants as reasons
 use Rattle.protocol_traits.specs.Heads.{Header}
 use Rattle.binary_protocol.specs.Grammar.{BinarySpells}
-use Rattle.binary_laws.specs.Bytes.{AreBytes}
+use Rattle.gate_base.specs.Bytes.{AreBytes}
 use Rattle.binary_laws.specs.Called.{IsCalled}
 use Rattle.binary_laws.specs.Faults.{extent, IsWhole, IsShallow, StandsAt, FaultAt}
 use Rattle.binary_laws.specs.Reads.{IsRead}

@@ -15,7 +15,7 @@ use Rattle.binary_protocol.specs.Scan.{Scan, fault, cut, shifted, ◌>>=◌, uns
 use Rattle.binary_protocol.specs.Heads.{type_of, type_at, seq_at, version_at, strict_at, old_at, head_at}
 use Rattle.binary_protocol.specs.Reading.{State, begun, body_open, reads_head}
 use Rattle.binary_protocol.specs.Grammar.{number, string, BinarySpells}
-use Rattle.binary_laws.specs.Bytes.{AreBytes}
+use Rattle.gate_base.specs.Bytes.{AreBytes}
 use Rattle.binary_laws.specs.Called.{IsPart, HasStrictPart, HasAt, IsCalled}
 use Rattle.binary_laws.specs.Faults.{extent}
 use Rattle.binary_laws.specs.Reads.{Reads}

@@ -15,7 +15,7 @@ use Rattle.binary_protocol.specs.Codes.{code_of_type, type_of_code}
 use Rattle.binary_protocol.specs.Scan.{Scan, fault, cut, shifted, ◌>>=◌, signed_at, size_at, string_at, string_of}
 use Rattle.binary_protocol.specs.Heads.{type_of, type_at, seq_at, version_at, strict_at, old_at, head_at}
 use Rattle.binary_protocol.specs.Grammar.{number, size, string}
-use Rattle.binary_laws.specs.Bytes.{AreBytes}
+use Rattle.gate_base.specs.Bytes.{AreBytes}
 use Rattle.binary_laws.specs.Refused.{IsViable}
 use Rattle.binary_laws.proofs.Heading.{drop_by}
 use Rattle.binary_laws.proofs.Inverse.{either, is_read, front_32, bytes_front}

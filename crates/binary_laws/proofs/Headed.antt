@@ -10,7 +10,7 @@ use Rattle.binary_protocol.specs.Codes.{code_of_type, type_of_code}
 use Rattle.binary_protocol.specs.Scan.{Scan, shifted, ◌>>=◌, signed_at, string_at}
 use Rattle.binary_protocol.specs.Heads.{type_of, type_at, seq_at, version_at, strict_at, old_at, head_at}
 use Rattle.binary_protocol.specs.Grammar.{number, string, SpellsStrictHeader, SpellsOldHeader}
-use Rattle.binary_laws.specs.Bytes.{AreBytes}
+use Rattle.gate_base.specs.Bytes.{AreBytes}
 use Rattle.binary_laws.proofs.Heading.{drop_by}
 use Rattle.binary_laws.proofs.Inverse.{either, is_read, same_value, same_size, no_fault, type_is, front_32, bytes_front}
 use Rattle.binary_laws.proofs.Begun.{past, unless, string_read, long_enough}

@@ -15,7 +15,7 @@ use Rattle.protocol_traits.specs.declared.fault.Fault.{Fault}
 use Rattle.binary_protocol.specs.Codes.{code_of_kind, kind_of_code, code_of_type, type_of_code}
 use Rattle.binary_protocol.specs.Scan.{Scan, unsigned_at, signed_at}
 use Rattle.binary_protocol.specs.Grammar.{number, size}
-use Rattle.binary_laws.specs.Bytes.{AreBytes}
+use Rattle.gate_base.specs.Bytes.{AreBytes}
 
 -- ---- choices and answers
 

@@ -7,7 +7,7 @@ use Rattle.protocol_traits.specs.declared.fault.Fault.{Fault}
 use Rattle.protocol_traits.specs.declared.fault.Reason.{Reason}
 use Rattle.protocol_traits.specs.declared.fault.Reason.TheVariants as reasons
 use Rattle.binary_protocol.specs.Grammar.{BinarySpells}
-use Rattle.binary_laws.specs.Bytes.{AreBytes}
+use Rattle.gate_base.specs.Bytes.{AreBytes}
 use Rattle.binary_laws.specs.Faults.{extent, IsWhole, IsShallow, StandsAt}
 use Rattle.binary_laws.specs.Refused.{IsViable, IsRefused}
 use Rattle.binary_laws.proofs.Either.{one_fault}

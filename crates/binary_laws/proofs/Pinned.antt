@@ -15,7 +15,7 @@ use Rattle.binary_protocol.specs.Scan.{item_in}
 use Rattle.binary_protocol.specs.Heads.{head_at}
 use Rattle.binary_protocol.specs.Reading.{State, scan_at, reads, body_open}
 use Rattle.binary_protocol.specs.Grammar.{BinarySpells, SpellsMembers, SpellsStrictHeader, SpellsOldHeader}
-use Rattle.binary_laws.specs.Bytes.{AreBytes}
+use Rattle.gate_base.specs.Bytes.{AreBytes}
 use Rattle.binary_laws.specs.Called.{width, width_of_all, depth_behind, HasPart, HasItem}
 use Rattle.binary_laws.specs.Faults.{extent, IsShallow}
 use Rattle.binary_laws.specs.Reads.{Reads, header_of_message}

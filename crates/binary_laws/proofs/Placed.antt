@@ -12,7 +12,7 @@ use Rattle.protocol_traits.specs.Heads.{Header}
 use Rattle.binary_protocol.specs.Heads.{head_at}
 use Rattle.binary_protocol.specs.Reading.{State, body_open, reads_end}
 use Rattle.binary_protocol.specs.Grammar.{BinarySpells}
-use Rattle.binary_laws.specs.Bytes.{AreBytes}
+use Rattle.gate_base.specs.Bytes.{AreBytes}
 use Rattle.binary_laws.specs.Faults.{extent, IsWhole}
 use Rattle.binary_laws.specs.Reads.{IsRead, header_of_message}
 use Rattle.binary_laws.specs.Refused.{IsRefused}

@@ -10,7 +10,7 @@ use Rattle.protocol_traits.specs.Stack.{first_of}
 use Rattle.protocol_traits.specs.Follow.{after}
 use Rattle.protocol_traits.specs.Heads.{Header}
 use Rattle.binary_protocol.specs.Reading.{State, rest, scan_at, reads, begun, body_open, reads_head, reads_end}
-use Rattle.binary_laws.specs.Bytes.{AreBytes}
+use Rattle.gate_base.specs.Bytes.{AreBytes}
 use Rattle.binary_laws.specs.Reads.{Reads}
 use Rattle.binary_laws.specs.Refused.{Refuses, IsRefused}
 use Rattle.binary_laws.specs.Faults.{extent}

@@ -15,7 +15,7 @@ use Rattle.binary_protocol.specs.Scan.{Scan}
 use Rattle.binary_protocol.specs.Heads.{head_at}
 use Rattle.binary_protocol.specs.Reading.{State, rest, scan_at, moved, reads, headed, begun, body_open, reads_head, reads_end}
 use Rattle.binary_protocol.specs.Grammar.{SpellsMembers, BinarySpells}
-use Rattle.binary_laws.specs.Bytes.{AreBytes}
+use Rattle.gate_base.specs.Bytes.{AreBytes}
 use Rattle.binary_laws.specs.Reads.{Reads, IsRead, header_of_message}
 use Rattle.binary_laws.proofs.Inverse.{bytes_front, no_fault}
 use Rattle.binary_laws.proofs.Levels.{Ends}

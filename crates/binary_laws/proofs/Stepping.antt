@@ -13,7 +13,7 @@ use Rattle.binary_protocol.specs.Codes.{code_of_kind, kind_of_code}
 use Rattle.binary_protocol.specs.declared.scan.Called.TheVariants as calls
 use Rattle.binary_protocol.specs.Scan.{signed_at, field_at, field_of, value_in, item_in, item_called}
 use Rattle.binary_protocol.specs.Grammar.{number}
-use Rattle.binary_laws.specs.Bytes.{AreBytes}
+use Rattle.gate_base.specs.Bytes.{AreBytes}
 use Rattle.binary_laws.proofs.Inverse.{either, is_read, same_value, same_size, no_fault, kind_is, front_16}
 use Rattle.binary_laws.proofs.Begun.{Next, past, value_begun}
 use Rattle.binary_laws.proofs.Levels.{IsTree, Level, Ends, with_value}

@@ -1,5 +1,4 @@
 -- What it is to read a whole frame.
-pub mod Bytes
 pub mod Called
 pub mod Faults
 pub mod Reads

@@ -10,7 +10,7 @@ ghost use Rattle.protocol_traits.specs.Heads.{Header};
 ghost use Rattle.thrift_value.specs.Items.{Item};
 ghost use Rattle.protocol_traits.specs.declared.fault.Fault.{Fault};
 ghost use Rattle.protocol_traits.specs.declared.fault.Reason.TheVariants as reasons;
-ghost use Rattle.binary_laws.specs.Bytes.{AreBytes};
+ghost use Rattle.gate_base.specs.Bytes.{AreBytes};
 ghost use Rattle.binary_laws.specs.Refused.{IsViable, IsRefused};
 ghost use Rattle.binary_laws.specs.Reads.{header_of_message, IsRead};
 ghost use Rattle.binary_laws.specs.Called.{width_of_all};

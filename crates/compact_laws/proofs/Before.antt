@@ -7,7 +7,7 @@ use Rattle.protocol_traits.specs.declared.fault.Reason.TheVariants as reasons
 use Rattle.protocol_traits.specs.declared.nest.Slot.{Slot}
 use Rattle.compact_protocol.specs.Grammar.{CompactSpells}
 use Rattle.compact_protocol.specs.Reading.{State}
-use Rattle.binary_laws.specs.Bytes.{AreBytes}
+use Rattle.gate_base.specs.Bytes.{AreBytes}
 use Rattle.binary_laws.proofs.Inverse.{bytes_front}
 use Rattle.binary_laws.proofs.Headed.{message_of}
 use Rattle.compact_laws.specs.Extent.{extent}

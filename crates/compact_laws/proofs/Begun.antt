@@ -17,7 +17,7 @@ use Rattle.protocol_traits.specs.declared.nest.Slot.TheVariants as slots
 use Rattle.protocol_traits.specs.Follow.{spent, after}
 use Rattle.compact_protocol.specs.Scan.{fault, varint32_at, varint64_at, id_at, string_at, elements_at, bool_at, i8_at, i16_at, i32_at, i64_at, double_at, uuid_at, text_at, set_at, list_at, map_at, value_at, value_in}
 use Rattle.compact_protocol.specs.Grammar.{IsSize, IsElementsHeader, IsPairsHeader, SpellsValue}
-use Rattle.binary_laws.specs.Bytes.{AreBytes}
+use Rattle.gate_base.specs.Bytes.{AreBytes}
 use Rattle.binary_laws.proofs.Inverse.{is_read, same_value, same_size, no_fault}
 use Rattle.binary_laws.proofs.Begun.{past, long_enough, room_left}
 use Rattle.compact_laws.specs.Fronts.{Begins}

@@ -10,7 +10,7 @@ use Rattle.protocol_traits.specs.declared.nest.Slot.TheVariants as slots
 use Rattle.varint_zigzag.specs.Varint.{Spells}
 use Rattle.compact_protocol.specs.Scan.{is_bool}
 use Rattle.compact_protocol.specs.Grammar.{SpellsValue}
-use Rattle.binary_laws.specs.Bytes.{AreBytes}
+use Rattle.gate_base.specs.Bytes.{AreBytes}
 use Rattle.binary_laws.proofs.Closing.{bytes_join, Closed}
 use Rattle.compact_laws.proofs.Levels.{IsTree, IsFieldValue, AreFields, AreElements, ArePairs, Both, Level, Ends, Outer}
 use Rattle.compact_laws.proofs.Unique.{told_kind}

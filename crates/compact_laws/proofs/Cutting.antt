@@ -16,7 +16,7 @@ use Rattle.protocol_traits.specs.declared.nest.Slot.TheVariants as slots
 use Rattle.compact_protocol.specs.Codes.{kind_of}
 use Rattle.compact_protocol.specs.Scan.{Scan, fault, shifted, varint32_at, varint64_at, id_at, string_at, elements_at, bool_at, i8_at, i16_at, i32_at, i64_at, double_at, uuid_at, text_at, set_at, list_at, map_at, value_at, value_in, opens, is_bool, next_id, short_field, long_field, field_of, field_at, field_value, next_of, item_in}
 use Rattle.compact_protocol.specs.Grammar.{IsSmall, IsWord, IsLong, IsSize, IsString, IsElementsHeader, IsPairsHeader}
-use Rattle.binary_laws.specs.Bytes.{AreBytes}
+use Rattle.gate_base.specs.Bytes.{AreBytes}
 use Rattle.binary_laws.proofs.Inverse.{is_read}
 use Rattle.binary_laws.proofs.Begun.{room_left}
 use Rattle.binary_laws.proofs.Cutting.{never_read, other_reason, cut_place, shorter, zeros, zeros_small, zeros_long}

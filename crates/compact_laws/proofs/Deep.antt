@@ -17,7 +17,7 @@ use Rattle.protocol_traits.specs.Follow.{spent, after}
 use Rattle.compact_protocol.specs.Scan.{Scan, fault, value_at, value_in, opens, field_at, item_in, front_at, string_at}
 use Rattle.compact_protocol.specs.Reading.{scan_at}
 use Rattle.compact_protocol.specs.Grammar.{field_code, is_told, SpellsValue, SpellsMembers, SpellsElements, SpellsPairs, CompactSpells}
-use Rattle.binary_laws.specs.Bytes.{AreBytes}
+use Rattle.gate_base.specs.Bytes.{AreBytes}
 use Rattle.binary_laws.specs.Reads.{header_of_message}
 use Rattle.binary_laws.proofs.Walking.{length-spent}
 use Rattle.compact_laws.specs.Refused.{IsViable, IsRefused}

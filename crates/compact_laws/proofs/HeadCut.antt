@@ -14,7 +14,7 @@ use Rattle.protocol_traits.specs.Heads.{Header}
 use Rattle.compact_protocol.specs.Codes.{type_code, type_of}
 use Rattle.compact_protocol.specs.Scan.{Scan, fault, shifted, ◌>>=◌, varint32_at, string_at, type_or_fault, type_at, front_at}
 use Rattle.compact_protocol.specs.Grammar.{SpellsHeader}
-use Rattle.binary_laws.specs.Bytes.{AreBytes}
+use Rattle.gate_base.specs.Bytes.{AreBytes}
 use Rattle.binary_laws.proofs.Cutting.{never_read, other_reason, cut_place}
 use Rattle.binary_laws.proofs.Headed.{message_of}
 use Rattle.compact_laws.specs.Refused.{IsViable}

@@ -13,7 +13,7 @@ use Rattle.compact_protocol.specs.Codes.{type_code, type_of}
 use Rattle.compact_protocol.specs.Scan.{Scan, shifted, varint32_at, string_at, type_or_fault, type_at, front_at}
 use Rattle.compact_protocol.specs.Grammar.{SpellsHeader}
 use Rattle.compact_protocol.specs.Reading.{State, named, headed, begun, reads_head}
-use Rattle.binary_laws.specs.Bytes.{AreBytes}
+use Rattle.gate_base.specs.Bytes.{AreBytes}
 use Rattle.binary_laws.proofs.Inverse.{is_read, same_value, same_size, no_fault}
 use Rattle.binary_laws.proofs.Begun.{past, unless}
 use Rattle.binary_laws.proofs.Headed.{message_of}

@@ -15,7 +15,7 @@ use Rattle.thrift_value.specs.Items.{Item, field, empty_map, map_begin}
 use Rattle.compact_protocol.specs.Codes.{kind_of, flag_code}
 use Rattle.compact_protocol.specs.Scan.{Scan, shifted, ◌>>=◌, varint_of, varint16_at, varint32_at, varint64_at, id_at, size_at, string_at, next_id, short_field, long_field, field_of, flag_of, elements_of, elements_at, both_kinds, kinds_at, map_at}
 use Rattle.compact_protocol.specs.Grammar.{IsSmall, IsWord, IsLong, IsSize, IsString, IsKind, IsFieldHeader, IsElementsHeader, IsPairsHeader}
-use Rattle.binary_laws.specs.Bytes.{AreBytes}
+use Rattle.gate_base.specs.Bytes.{AreBytes}
 use Rattle.binary_laws.proofs.Heading.{drop_by}
 use Rattle.binary_laws.proofs.Inverse.{either, is_read, same_value, same_size, no_fault, bytes_front}
 use Rattle.binary_laws.proofs.Begun.{past, unless}

@@ -12,7 +12,7 @@ use Rattle.protocol_traits.specs.Heads.{Header}
 use Rattle.compact_protocol.specs.Scan.{flag_of, item_in}
 use Rattle.compact_protocol.specs.Grammar.{SpellsMembers}
 use Rattle.compact_protocol.specs.Reading.{State, scan_at}
-use Rattle.binary_laws.specs.Bytes.{AreBytes}
+use Rattle.gate_base.specs.Bytes.{AreBytes}
 use Rattle.binary_laws.proofs.Inverse.{bytes_front, no_fault}
 use Rattle.binary_laws.proofs.Headed.{message_of}
 use Rattle.compact_laws.specs.Fronts.{Leads}

@@ -7,7 +7,7 @@ use Rattle.protocol_traits.specs.declared.fault.Reason.TheVariants as reasons
 use Rattle.protocol_traits.specs.declared.nest.Slot.{Slot}
 use Rattle.compact_protocol.specs.Scan.{item_in}
 use Rattle.compact_protocol.specs.Reading.{State, reads, begun, reads_head}
-use Rattle.binary_laws.specs.Bytes.{AreBytes}
+use Rattle.gate_base.specs.Bytes.{AreBytes}
 use Rattle.binary_laws.proofs.Inverse.{bytes_front}
 use Rattle.compact_laws.specs.Called.{Part, HeaderCalls, ItemCalls}
 use Rattle.compact_laws.specs.Faulty.{IsFaulty}

@@ -12,7 +12,7 @@ use Rattle.protocol_traits.specs.Heads.{Header}
 use Rattle.compact_protocol.specs.Scan.{front_at, string_at}
 use Rattle.compact_protocol.specs.Reading.{State, reads_end}
 use Rattle.compact_protocol.specs.Grammar.{CompactSpells}
-use Rattle.binary_laws.specs.Bytes.{AreBytes}
+use Rattle.gate_base.specs.Bytes.{AreBytes}
 use Rattle.binary_laws.specs.Reads.{header_of_message}
 use Rattle.binary_laws.proofs.Inverse.{bytes_front}
 use Rattle.binary_laws.proofs.Placed.{short_take, fault_reason}

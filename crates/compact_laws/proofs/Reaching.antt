@@ -10,7 +10,7 @@ use Rattle.protocol_traits.specs.Stack.{first_of}
 use Rattle.protocol_traits.specs.Heads.{Header}
 use Rattle.compact_protocol.specs.Scan.{Scan, shifted, ◌>>=◌, string_at, item_in}
 use Rattle.compact_protocol.specs.Reading.{State, rest, scan_at, reads, begun, reads_head, reads_end}
-use Rattle.binary_laws.specs.Bytes.{AreBytes}
+use Rattle.gate_base.specs.Bytes.{AreBytes}
 use Rattle.binary_laws.proofs.Heading.{drop_front}
 use Rattle.binary_laws.proofs.Inverse.{bytes_front}
 use Rattle.compact_laws.specs.Extent.{extent}

@@ -17,7 +17,7 @@ use Rattle.protocol_traits.specs.declared.nest.Slot.TheVariants as slots
 use Rattle.compact_protocol.specs.Codes.{type_of, type_code}
 use Rattle.compact_protocol.specs.Scan.{Scan, fault, opens, value_at, value_in, field_value, next_of, item_in, varint32_at, string_at, type_or_fault, type_at, front_at}
 use Rattle.compact_protocol.specs.Reading.{State, reads}
-use Rattle.binary_laws.specs.Bytes.{AreBytes}
+use Rattle.gate_base.specs.Bytes.{AreBytes}
 use Rattle.binary_laws.specs.Reads.{header_of_message}
 use Rattle.binary_laws.proofs.Heading.{drop_front}
 use Rattle.compact_laws.specs.Called.{Part, protocol_byte, version_byte, varint_part, size_part, level_part, HeaderCalls, ValueCalls, ItemCalls, BodyCalls, IsCalled}

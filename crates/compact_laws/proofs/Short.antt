@@ -17,7 +17,7 @@ use Rattle.protocol_traits.specs.declared.fault.Reason.TheVariants as reasons
 use Rattle.compact_protocol.specs.Codes.{kind_of}
 use Rattle.compact_protocol.specs.Scan.{Scan, fault, shifted, ◌>>=◌, varint_of, varint16_at, varint32_at, varint64_at, id_at, size_at, string_at, elements_of, elements_at, both_kinds, kinds_at, map_at}
 use Rattle.compact_protocol.specs.Grammar.{IsSmall, IsSize, IsString, IsElementsHeader, IsPairsHeader}
-use Rattle.binary_laws.specs.Bytes.{AreBytes}
+use Rattle.gate_base.specs.Bytes.{AreBytes}
 use Rattle.binary_laws.proofs.Inverse.{is_read}
 use Rattle.binary_laws.proofs.Closing.{bytes_join}
 use Rattle.binary_laws.proofs.Cutting.{same_fault, never_read, other_reason, cut_place, shorter, zeros, zeros_small, zeros_long}

@@ -12,7 +12,7 @@ use Rattle.protocol_traits.specs.Heads.{Header}
 use Rattle.compact_protocol.specs.Scan.{Scan, flag_of}
 use Rattle.compact_protocol.specs.Reading.{State, rest, scan_at, moved, reads, reads_end}
 use Rattle.compact_protocol.specs.Grammar.{SpellsMembers, CompactSpells}
-use Rattle.binary_laws.specs.Bytes.{AreBytes}
+use Rattle.gate_base.specs.Bytes.{AreBytes}
 use Rattle.binary_laws.specs.Reads.{header_of_message}
 use Rattle.binary_laws.proofs.Inverse.{bytes_front, no_fault}
 use Rattle.binary_laws.proofs.Headed.{message_of}

@@ -21,7 +21,7 @@ use Rattle.protocol_traits.specs.declared.nest.Slot.TheVariants as slots
 use Rattle.compact_protocol.specs.Codes.{kind_of, type_of}
 use Rattle.compact_protocol.specs.Scan.{Scan, fault, shifted, ◌>>=◌, varint_of, varint16_at, varint32_at, varint64_at, id_at, size_at, string_at, next_id, short_field, long_field, field_of, field_at, bool_at, i8_at, i16_at, i32_at, i64_at, double_at, text_at, uuid_at, elements_of, elements_at, set_at, list_at, both_kinds, kinds_at, map_at, value_at, value_in, opens, is_bool, field_value, next_of, item_in, type_or_fault, type_at, front_at}
 use Rattle.compact_protocol.specs.Grammar.{IsSize}
-use Rattle.binary_laws.specs.Bytes.{AreBytes}
+use Rattle.gate_base.specs.Bytes.{AreBytes}
 use Rattle.binary_laws.proofs.Inverse.{bytes_front}
 use Rattle.binary_laws.proofs.Leaves.{take_front}
 use Rattle.compact_laws.specs.Called.{Part, protocol_byte, version_byte, field_byte, bool_byte, elements_byte, kinds_byte, varint_part, size_part, level_part, HeaderCalls, FieldCalls, ElementsCall, PairsCall, ValueCalls, ItemCalls}

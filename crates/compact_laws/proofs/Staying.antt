@@ -14,7 +14,7 @@ use Rattle.protocol_traits.specs.Heads.{Header}
 use Rattle.compact_protocol.specs.Scan.{Scan, shifted, front_at, string_at, flag_of}
 use Rattle.compact_protocol.specs.Reading.{State, rest, scan_at, moved, reads, named, headed, begun, reads_head, reads_end}
 use Rattle.compact_protocol.specs.Grammar.{CompactSpells}
-use Rattle.binary_laws.specs.Bytes.{AreBytes}
+use Rattle.gate_base.specs.Bytes.{AreBytes}
 use Rattle.binary_laws.proofs.Inverse.{is_read, bytes_front, no_fault}
 use Rattle.compact_laws.specs.Reads.{Reads}
 use Rattle.compact_laws.specs.Refused.{Refuses, IsRefused}

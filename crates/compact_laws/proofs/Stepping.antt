@@ -14,7 +14,7 @@ use Rattle.compact_protocol.specs.Codes.{kind_of, code_of, flag_code}
 use Rattle.compact_protocol.specs.Scan.{is_bool, field_at, field_of, flag_of, field_value, next_of, value_in, item_in}
 use Rattle.compact_protocol.specs.Reading.{scan_at}
 use Rattle.compact_protocol.specs.Grammar.{field_code, is_told, IsKind, IsFieldHeader, SpellsValue}
-use Rattle.binary_laws.specs.Bytes.{AreBytes}
+use Rattle.gate_base.specs.Bytes.{AreBytes}
 use Rattle.binary_laws.proofs.Inverse.{either, is_read, same_value, same_size}
 use Rattle.binary_laws.proofs.Begun.{past}
 use Rattle.binary_laws.proofs.Walking.{length-spent}

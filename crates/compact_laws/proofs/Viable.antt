@@ -12,7 +12,7 @@ use Rattle.protocol_traits.specs.Follow.{after}
 use Rattle.compact_protocol.specs.Scan.{item_in, flag_of}
 use Rattle.compact_protocol.specs.Reading.{State, scan_at, reads_end}
 use Rattle.compact_protocol.specs.Grammar.{SpellsMembers}
-use Rattle.binary_laws.specs.Bytes.{AreBytes}
+use Rattle.gate_base.specs.Bytes.{AreBytes}
 use Rattle.binary_laws.proofs.Inverse.{bytes_front, no_fault}
 use Rattle.binary_laws.proofs.Closing.{bytes_join}
 use Rattle.binary_laws.proofs.Headed.{message_of}

@@ -13,7 +13,7 @@ use Rattle.protocol_traits.specs.declared.fault.Reason.{Reason}
 use Rattle.protocol_traits.specs.declared.fault.Reason.TheVariants as reasons
 use Rattle.compact_protocol.specs.Codes.{kind_of}
 use Rattle.compact_protocol.specs.Scan.{Scan, fault, varint_of, varint16_at, varint32_at, varint64_at, id_at, size_at, string_at, long_field, field_of, field_at, bool_at, i16_at, i32_at, i64_at, text_at, elements_of, elements_at, set_at, list_at, both_kinds, kinds_at, map_at, value_at}
-use Rattle.binary_laws.specs.Bytes.{AreBytes}
+use Rattle.gate_base.specs.Bytes.{AreBytes}
 use Rattle.binary_laws.proofs.Heading.{drop_front}
 use Rattle.compact_laws.specs.Called.{Part, field_byte, bool_byte, elements_byte, kinds_byte, varint_part, size_part, FieldCalls, ElementsCall, PairsCall, LevelCalls, ValueCalls}
 use Rattle.compact_laws.specs.Faulty.{IsFaulty}

@@ -11,7 +11,7 @@ ghost use Rattle.protocol_traits.specs.declared.fault.Fault.{Fault};
 ghost use Rattle.protocol_traits.specs.declared.fault.Reason.TheVariants as reasons;
 ghost use Rattle.protocol_traits.specs.declared.nest.Slot.TheVariants as slots;
 ghost use Rattle.compact_protocol.specs.Grammar.{CompactSpells, SpellsMembers};
-ghost use Rattle.binary_laws.specs.Bytes.{AreBytes};
+ghost use Rattle.gate_base.specs.Bytes.{AreBytes};
 ghost use Rattle.binary_laws.specs.Reads.{header_of_message};
 ghost use Rattle.binary_laws.specs.Written.{IsMessage};
 ghost use Rattle.compact_laws.specs.Faults.{IsWhole, with_item, FaultAt};

@@ -11,7 +11,7 @@ use Rattle.session_core.proofs.Greatest.{StandsAtFront}
 use Rattle.session_core.proofs.Fronts.{fronts}
 use Rattle.session_judge.specs.Setting.{Setting}
 use Rattle.session_judge.specs.Rules.{rules_of}
-use Rattle.binary_laws.specs.Bytes.{AreBytes}
+use Rattle.gate_base.specs.Bytes.{AreBytes}
 use Rattle.session_laws.specs.Saying.{HasLaws, Said}
 use Rattle.session_laws.specs.Exchange.{Ends, done, calls, EndsUpstream}
 use Rattle.session_laws.specs.Carrying.{Carries}

@@ -12,7 +12,7 @@ use Rattle.session_core.specs.declared.judge.UpstreamJudged.TheVariants as upstr
 use Rattle.session_core.proofs.Greatest.{StandsAtFront}
 use Rattle.session_judge.specs.Setting.{Setting}
 use Rattle.session_judge.specs.Rules.{rules_of}
-use Rattle.binary_laws.specs.Bytes.{AreBytes}
+use Rattle.gate_base.specs.Bytes.{AreBytes}
 use Rattle.binary_laws.proofs.Inverse.{bytes_front}
 use Rattle.session_laws.specs.Saying.{HasLaws, Said, Says}
 use Rattle.session_laws.specs.Exchange.{Done, Waits, Tells, Ends, done, calls, asking, replying, EndsUpstream}

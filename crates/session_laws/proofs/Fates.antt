@@ -25,7 +25,7 @@ use Rattle.session_judge.specs.Setting.{Setting}
 use Rattle.session_judge.specs.Client.{is_answered, call_of, passed_on, refused, of_client, answer_by}
 use Rattle.session_judge.specs.Client as judging
 use Rattle.session_judge.specs.Rules.{asked, rules_of}
-use Rattle.binary_laws.specs.Bytes.{AreBytes}
+use Rattle.gate_base.specs.Bytes.{AreBytes}
 use Rattle.binary_laws.specs.Reads.{header_of_message}
 use Rattle.verdict_laws.specs.Verdicts.{IsVerdict, IsPlain}
 use Rattle.verdict_laws.specs.Verdicts.IsVerdict.{Passes, IsBarred, IsFaulty, IsUnread}

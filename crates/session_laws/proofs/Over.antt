@@ -18,7 +18,7 @@ use Rattle.session_core.proofs.Fitting.{get_dropped}
 use Rattle.session_core.proofs.Greatest.{StandsAtFront}
 use Rattle.session_judge.specs.Setting.{Setting}
 use Rattle.session_judge.specs.Rules.{rules_of}
-use Rattle.binary_laws.specs.Bytes.{AreBytes}
+use Rattle.gate_base.specs.Bytes.{AreBytes}
 use Rattle.binary_laws.proofs.Inverse.{bytes_front}
 use Rattle.session_laws.specs.Saying.{HasLaws}
 use Rattle.session_laws.specs.Exchange.{calls}

@@ -15,7 +15,7 @@ use Rattle.session_judge.specs.Client.{call_of}
 use Rattle.session_judge.specs.Upstream.{of_type, of_upstream, back}
 use Rattle.session_judge.specs.Upstream as judging
 use Rattle.session_judge.specs.Rules.{told, rules_of}
-use Rattle.binary_laws.specs.Bytes.{AreBytes}
+use Rattle.gate_base.specs.Bytes.{AreBytes}
 use Rattle.session_laws.specs.Saying.{HasLaws, Said, GoesOn, Says}
 use Rattle.session_laws.specs.Saying as saying
 use Rattle.session_laws.specs.Exchange.{replying, method_of, is_reply, returned, EndsUpstream}

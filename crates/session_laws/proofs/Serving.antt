@@ -1,5 +1,6 @@
 -- The course of each session of a server.
 use Rattle.std.proofs.Common.{◌≡◌, ℕ, ◌<◌, ◌^◌, ◌⊎◌, inl, inr, List, [], Some, None, refl, sym, subst}
+use Rattle.gate_base.specs.Bytes.{AreBytes}
 use Rattle.gate_hub.specs.Meaning.{Told, Meaning, link_of}
 use Rattle.gate_hub.specs.declared.hub.Side.{Side}
 use Rattle.gate_hub.specs.declared.hub.Side.TheVariants as side
@@ -18,12 +19,16 @@ use Rattle.proxy_server.specs.Serving.{Entry, Closing, IsHeld, IsOutcome, NotOpe
 use Rattle.proxy_server.specs.Steps.{Outside, Serves, IsLeft}
 use Rattle.proxy_server.specs.Turning.{IsSettled}
 use Rattle.session_laws.specs.Saying.{HasLaws}
-use Rattle.session_laws.specs.Serving.{sessions_of, ReceivesBytes, IsWritable, Course, HasCourse, CarriesAll}
+use Rattle.session_laws.specs.Serving.{sessions_of, IsWritable, Course, HasCourse, CarriesAll}
 use Rattle.session_laws.specs.Serving as course
 use Rattle.session_laws.proofs.Existing.{IsSplit}
 use Rattle.session_laws.proofs.Carrying.{Both, both, carried}
 use Rattle.session_laws.proofs.Standing.{completed}
 use Rattle.session_laws.proofs.Over.{ended}
+
+-- what was received of each session consists of bytes
+abbrev pub ReceivesBytes : Meaning → Type 0
+ReceivesBytes m = (k : ℕ) (x : Side) → AreBytes (link_of (m.session k) x).received
 
 by_either : (due : List ℕ) (t : Told) (x : Side) → IsWritable t → (due ≡ []) ⊎ ((link_of t x).last_write ≡ Some put.NotReady) → due ≡ []
 by_either due t x writable (inl e) = e

@@ -16,7 +16,6 @@ use Rattle.proxy_server.specs.Serving.{Entry, Closing, KeepsFrom, IsFresh}
 use Rattle.proxy_server.specs.Serving.{Setting as Sessions}
 use Rattle.proxy_server.specs.Steps.{Outside, LinesEnd, WritesLines, AnswersLines}
 use Rattle.proxy_server.specs.Turning.{HasFailed}
-use Rattle.binary_laws.specs.Bytes.{AreBytes}
 use Rattle.session_laws.specs.Carrying.{Carries, IsComplete, IsEnded}
 
 -- the sessions of a server go between these protocols, each with frames of so many bytes and so many open calls at most; so many are
@@ -27,10 +26,6 @@ sessions_of s limit most sessions events = record { rules = rules_of s; limit = 
 -- a hub and an output, as they tell
 abbrev pub leaving : (Meaning → Type 0) → Counts → Option (List ℕ) → ℕ → Outside
 leaving told counts written faults = record { told = told; counts = counts; written = written; faults = faults }
-
--- what was received of each session consists of bytes
-abbrev pub ReceivesBytes : Meaning → Type 0
-ReceivesBytes m = (k : ℕ) (x : Side) → AreBytes (link_of (m.session k) x).received
 
 -- neither side's last write was refused for want of room
 abbrev pub IsWritable : Told → Type 0

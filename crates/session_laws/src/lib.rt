@@ -10,7 +10,6 @@ ghost use Rattle.type_tables.specs.Declarations.{Declarations};
 ghost use Rattle.translate_core.specs.declared.route.Route.{Route};
 ghost use Rattle.translate_core.specs.declared.verdict.Cause.{Cause};
 ghost use Rattle.protocol_pairs.specs.Pairs.{answered};
-ghost use Rattle.gate_hub.specs.Meaning.{Meaning};
 ghost use Rattle.gate_hub.specs.declared.hub.Served.{Served};
 ghost use Rattle.session_core.specs.Standing.{Standing, History};
 ghost use Rattle.session_core.specs.Fits.{Fits};
@@ -20,11 +19,11 @@ ghost use Rattle.session_core.specs.declared.outcome.Outcome.{Outcome};
 ghost use Rattle.session_judge.specs.Setting.{Setting};
 ghost use Rattle.session_judge.specs.Rules.{rules_of};
 ghost use Rattle.proxy_server.specs.Steps.{Serves};
-ghost use Rattle.binary_laws.specs.Bytes.{AreBytes};
+ghost use Rattle.gate_base.specs.Bytes.{AreBytes};
 ghost use Rattle.verdict_laws.specs.Rounds.{SpellsIn, plain_in};
 ghost use Rattle.session_laws.specs.Saying.{HasLaws, BeginsWith, failure_of};
 ghost use Rattle.session_laws.specs.Carrying.{Carries, IsComplete, IsEnded};
-ghost use Rattle.session_laws.specs.Serving.{sessions_of, leaving, ReceivesBytes, CarriesAll};
+ghost use Rattle.session_laws.specs.Serving.{sessions_of, leaving, CarriesAll};
 
 use framed_transport::{a_stream_is_split, frame_stands_at_the_front};
 use gate_hub::Hub;
@@ -70,10 +69,10 @@ pub fn an_outcome_says_why()
 /// its protocol, the other side's messages, in order. A refused call or reply is answered in its place by an exception, and a refused oneway
 /// message is left out. A session that came to an end was sent all that was due for the frames that were taken, and its outcome says which
 /// frame, length or end was met. One that was left open was sent all that the order of the calls and the most of them that may be open
-/// allow, where both sides can be written to and the budget isn't spent. What the hub tells that it received consists of bytes.
+/// allow, where both sides can be written to and the budget isn't spent.
 pub fn a_server_carries_messages<H: Hub>()
     ensures { (s : Setting) (limit most sessions events : ℕ) (h h' : H) (written written' : Option (List ℕ)) (faults faults' : ℕ) (result : Served)
-        → HasLaws s.client → HasLaws s.upstream → limit < 2 ^ 31 → 0 < most → ((n : Meaning) → H.tells h' n → ReceivesBytes n)
+        → HasLaws s.client → HasLaws s.upstream → limit < 2 ^ 31 → 0 < most
         → Serves Setting rules_of (sessions_of s limit most sessions events) (leaving (H.tells h) (H.counts h) written faults) (leaving (H.tells h') (H.counts h') written' faults') result
         → CarriesAll s limit most (leaving (H.tells h) (H.counts h) written faults) (leaving (H.tells h') (H.counts h') written' faults') result }
 {

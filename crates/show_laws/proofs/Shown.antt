@@ -14,7 +14,7 @@ use Rattle.message_show.specs.Line.{begun, head_text, line_end}
 use Rattle.message_show.specs.Shown.{Line, Refused, place, line_target, shown_by}
 use Rattle.binary_protocol.specs.Grammar.{BinarySpells}
 use Rattle.compact_protocol.specs.Grammar.{CompactSpells}
-use Rattle.binary_laws.specs.Bytes.{AreBytes}
+use Rattle.gate_base.specs.Bytes.{AreBytes}
 use Rattle.binary_laws.specs.Faults as binary_faults
 use Rattle.binary_laws.specs.Reads.{IsRead}
 use Rattle.binary_laws.specs.Refused.{Refuses, IsRefused}

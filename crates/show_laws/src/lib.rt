@@ -10,7 +10,7 @@ ghost use Rattle.protocol_traits.specs.declared.proto.Proto.TheVariants as proto
 ghost use Rattle.binary_protocol.specs.Grammar.{BinarySpells};
 ghost use Rattle.compact_protocol.specs.Grammar.{CompactSpells};
 ghost use Rattle.message_show.specs.Shown.{shown};
-ghost use Rattle.binary_laws.specs.Bytes.{AreBytes};
+ghost use Rattle.gate_base.specs.Bytes.{AreBytes};
 ghost use Rattle.binary_laws.specs.Faults as binary_faults;
 ghost use Rattle.compact_laws.specs.Faults as compact_faults;
 ghost use Rattle.verdict_laws.specs.Verdicts.{BinaryHead, CompactHead};

@@ -1,7 +1,7 @@
 -- What a stream gives, from its clause.
-use Rattle.std.proofs.Common.{◌≡◌, ℕ, ◌+◌, Bool, true, false, List, [], ◌∷◌, ◌++◌, Option, refl, ap, ◌∙◌, sym, subst}
+use Rattle.std.proofs.Common.{◌≡◌, ℕ, ◌+◌, Bool, true, false, List, [], ◌∷◌, ◌++◌, Option, None, Some, refl, ap, ◌∙◌, sym, subst}
 use Rattle.std.proofs.lemmas.List.{append-nil}
-use Rattle.std.specs.Prelude.{⊤, not, ◌||◌}
+use Rattle.std.specs.Prelude.{⊤, not, ◌||◌, IfSome, IsSome}
 use Rattle.std.specs.List.{flat_map}
 use Rattle.std.specs.Io.KnownBytes.{Consumes}
 use Rattle.type_tables.specs.declared.declared.ServiceId.{ServiceId}
@@ -12,7 +12,7 @@ use Rattle.translate_core.specs.declared.verdict.Cause.TheVariants.{Grammar}
 use Rattle.protocol_pairs.specs.Pairs.{answered}
 use Rattle.framed_transport.specs.Frames.{framed}
 use Rattle.message_show.specs.Shown.{Showing, shown}
-use Rattle.binary_laws.specs.Bytes.{AreBytes}
+use Rattle.gate_base.specs.Bytes.{AreBytes}
 use Rattle.binary_laws.proofs.Inverse.{bytes_front}
 use Rattle.verdict_laws.specs.Rounds.{SpellsIn}
 use Rattle.session_laws.specs.Saying.{HasLaws, FaultBy, SpellsHead}
@@ -28,6 +28,12 @@ use Rattle.gate_run.specs.declared.status.Ending.TheVariants as endings
 use Rattle.gate_run.specs.Terms.{Terms, judged_by, shown_by}
 use Rattle.stream_laws.specs.Streams.{AreFrames}
 use Rattle.stream_laws.specs.Covering.{passage_of, IsConverted, IsWritten, IsReported, IsListed, HasLine, HasFault, GiveInOrder, CoversBy, GivesSome, GivesBy}
+
+-- what is read of a source that tells what is left of it consists of bytes
+pub are_read : {source : Option (List ℕ)} (left now : Option (List ℕ)) → IfSome source AreBytes → left ≡ source → IsSome left → (read : List ℕ) → Consumes left now read → AreBytes read
+are_read None now are same told read c = absurd told
+are_read (Some x) None are same told read c = absurd c
+are_read (Some x) (Some y) are same told read c = (bytes_front read y (subst AreBytes c (subst (λ l. IfSome l AreBytes) (sym same) are))).0
 
 -- what is written and reported of one frame by the program
 abbrev Holds : (ℕ → List ℕ → List ℕ → List ℕ → Type 0) → ℕ → List ℕ → Treated → Type 0

@@ -14,7 +14,7 @@ use Rattle.translate_core.specs.declared.verdict.HeadInfo.{HeadInfo}
 use Rattle.translate_core.specs.declared.verdict.Verdict.TheVariants.{Refused}
 use Rattle.translate_core.specs.Judged.{Judged, judged}
 use Rattle.framed_transport.specs.Frames.{framed}
-use Rattle.binary_laws.specs.Bytes.{AreBytes}
+use Rattle.gate_base.specs.Bytes.{AreBytes}
 use Rattle.verdict_laws.specs.Bars.{Spot}
 use Rattle.verdict_laws.specs.Rounds.{SpellsIn, plain_in}
 use Rattle.verdict_laws.specs.Verdicts.{IsPlain, IsVerdict}

@@ -9,11 +9,11 @@ use Rattle.gate_hub.specs.declared.hub.Served.{Served}
 use Rattle.session_judge.specs.Setting.{Setting}
 use Rattle.session_judge.specs.Rules.{rules_of}
 use Rattle.proxy_server.specs.Serving.{IsFresh}
-use Rattle.proxy_server.specs.Steps.{Serves}
+use Rattle.proxy_server.specs.Steps.{Outside, Serves}
 use Rattle.gate_words.specs.declared.options.Declared.{Declared}
 use Rattle.gate_words.specs.declared.serving.Serving.{Serving}
 use Rattle.gate_run.specs.Outcome.{Streams}
-use Rattle.gate_run.specs.Serving.{ServesAll, Began, NotBegun, NoMemory, started_by, setting_by, settings}
+use Rattle.gate_run.specs.Serving.{ServesAll, Began, NotBegun, NoMemory, started_by, setting_by, settings, served_from}
 use Rattle.gate_run.specs.declared.start.NoStart.{NoStart}
 use Rattle.gate_run.specs.declared.status.Ending.{Ending}
 use Rattle.gate_run.specs.Starting.{Holds, Starting, Goes, Stops}
@@ -24,23 +24,23 @@ fresh : (s : Serving) (m n : Meaning) → IsUntouched m → StartLeads (started_
 fresh s m n before e = subst (λ (x : Meaning). IsFresh x) (sym e) (record { started = refl; unasked = before.unstarted.1; none = before.none })
 
 -- the law of a server of these sessions
-abbrev pub IsServer : (Meaning → Type 0) → (Meaning → Type 0) → Serving → Declarations → Option ServiceId → Streams → Streams → Type 0
-IsServer told told' s d service a b =
-    (result : Served) → Serves Setting rules_of told told' a.written b.written a.output_faults b.output_faults (settings s d service) result
-    → CarriesAll (setting_by s d service) s.limit s.calls told told' a.written b.written a.output_faults b.output_faults result
+abbrev pub IsServer : Serving → Declarations → Option ServiceId → Outside → Outside → Type 0
+IsServer s d service a b = (result : Served) → Serves Setting rules_of (settings s d service) a b result → CarriesAll (setting_by s d service) s.limit s.calls a b result
 
 module _ {H : Type 0} (tells : H → Meaning → Type 0) (counts : H → Counts) (s : Serving) (d : Declarations) (service : Option ServiceId) (h h' : H) (a b : Streams) (ending : Ending) where
-  pub carried : ((mid : H) → IsServer (tells mid) (tells h') s d service a b) → ServesAll tells counts s d service h h' a b ending → CarriesMessages (tells h) (tells h') s d service a b
+  pub carried : ((mid : H) → IsServer s d service (served_from (tells mid) (counts mid) a) (served_from (tells h') (counts h') b)) → ServesAll tells counts s d service h h' a b ending → CarriesMessages (tells h) (tells h') s d service a b
   carried law (Began mid result left later leads serves ends) =
       let all = law mid result serves in
       inl (record {
         result = result;
-        held = all.0;
-        ended = all.1;
-        lines = all.2;
+        held = all.held;
+        ended = all.ended;
+        lines = all.lines;
+        writes = all.writes;
+        answers = all.answers;
         sessions = λ m told before.
             let begun = leads m told before.unstarted in
-            all.3 begun.0 begun.1 (fresh s m begun.0 before begun.2);
+            all.sessions begun.0 begun.1 (fresh s m begun.0 before begun.2);
       })
   carried law (NotBegun leads rose says) = inr (record { keeps = leads; written = says.written })
   carried law (NoMemory leads says) = inr (record { keeps = leads; written = says.written })

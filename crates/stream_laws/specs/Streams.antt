@@ -4,7 +4,7 @@ use Rattle.thrift_value.specs.Trees.{Message, depth_of_members}
 use Rattle.protocol_traits.specs.declared.proto.Proto.{Proto}
 use Rattle.translate_core.specs.declared.route.Route.TheVariants.{ByName}
 use Rattle.framed_transport.specs.Frames.{framed}
-use Rattle.binary_laws.specs.Bytes.{AreBytes}
+use Rattle.gate_base.specs.Bytes.{AreBytes}
 use Rattle.verdict_laws.specs.Rounds.{SpellsIn, plain_in}
 use Rattle.gate_run.specs.Terms.{Terms}
 

@@ -3,12 +3,10 @@
 //! Each law is the contract of a function that does nothing. The code rests on none of them.
 #![tactic(auto)]
 
-ghost use Rattle.std.specs.Prelude.{◌≡◌, List, ℕ, Option, Some};
-ghost use Rattle.std.specs.Io.KnownBytes.{Consumes};
+ghost use Rattle.std.specs.Prelude.{◌≡◌, List, ℕ, Some, IsSome};
 ghost use Rattle.std.specs.List.{flat_map};
 ghost use Rattle.protocol_traits.specs.declared.proto.Proto.{Proto};
 ghost use Rattle.protocol_traits.specs.declared.proto.Proto.TheVariants as protocols;
-ghost use Rattle.gate_hub.specs.Meaning.{Meaning};
 ghost use Rattle.gate_words.specs.Commands.{command};
 ghost use Rattle.gate_words.specs.declared.command.Command.TheVariants.{Serve};
 ghost use Rattle.gate_words.specs.declared.options.Declared.{Declared};
@@ -18,16 +16,15 @@ ghost use Rattle.gate_run.specs.Running.{Outside, Runs, StartsWith};
 ghost use Rattle.gate_run.specs.declared.status.Ending.{Ending};
 ghost use Rattle.gate_run.specs.Starting.{Halts};
 ghost use Rattle.session_laws.specs.Saying.{HasLaws};
-ghost use Rattle.session_laws.specs.Serving.{ReceivesBytes};
 ghost use Rattle.gate_run.specs.declared.task.Doing.TheVariants.{Convert, Show};
 ghost use Rattle.gate_run.specs.Handling.{output_of};
 ghost use Rattle.gate_run.specs.Terms.{Terms};
-ghost use Rattle.binary_laws.specs.Bytes.{AreBytes};
 ghost use Rattle.stream_laws.specs.Covering.{passage_of, IsConverted, IsListed, GivesBy};
 ghost use Rattle.stream_laws.specs.Sessions.{CarriesMessages};
 ghost use Rattle.stream_laws.specs.Streams.{GiveAll, AreFrames};
 
 use gate_hub::Hub;
+use gate_io::Source;
 use session_laws::a_server_carries_messages;
 use show_laws::a_frame_is_shown_by_its_grammar;
 
@@ -39,18 +36,18 @@ pub fn frames_are_converted_by_their_grammar()
 {}
 
 /// What is written and reported of a stream that is converted between Binary and Compact, or from one of them to itself: of each frame, in
-/// order, the frame of the plain spelling of its message, or a line with the place and the cause for which it can't go on. What was read
-/// consists of bytes.
-pub fn a_stream_is_converted_by_its_grammar()
-    ensures { (k : Terms) (from to : Proto) (a b : Streams) (ending : Ending) → k.doing ≡ Convert from to → HasLaws from → HasLaws to
-        → ((read : List ℕ) → Consumes a.left b.left read → AreBytes read) → Streamed k a b ending → GivesBy (IsConverted (passage_of k from to)) k.limit a b ending }
+/// order, the frame of the plain spelling of its message, or a line with the place and the cause for which it can't go on. The input tells
+/// what is left of it.
+pub fn a_stream_is_converted_by_its_grammar<I: Source>()
+    ensures { (k : Terms) (from to : Proto) (input : I) (a b : Streams) (ending : Ending) → k.doing ≡ Convert from to → HasLaws from → HasLaws to
+        → a.left ≡ I.left input → IsSome a.left → Streamed k a b ending → GivesBy (IsConverted (passage_of k from to)) k.limit a b ending }
 {}
 
 /// What is written and reported of a stream of Binary or Compact that is shown: of each frame, in order, the line of its message, or a line
-/// with the fault that stands in it. What was read consists of bytes.
-pub fn a_stream_is_shown_by_its_grammar()
-    ensures { (k : Terms) (from : Proto) (a b : Streams) (ending : Ending) → k.doing ≡ Show from → HasLaws from
-        → ((read : List ℕ) → Consumes a.left b.left read → AreBytes read) → Streamed k a b ending → GivesBy (IsListed k (passage_of k from from)) k.limit a b ending }
+/// with the fault that stands in it. The input tells what is left of it.
+pub fn a_stream_is_shown_by_its_grammar<I: Source>()
+    ensures { (k : Terms) (from : Proto) (input : I) (a b : Streams) (ending : Ending) → k.doing ≡ Show from → HasLaws from
+        → a.left ≡ I.left input → IsSome a.left → Streamed k a b ending → GivesBy (IsListed k (passage_of k from from)) k.limit a b ending }
 {
     a_frame_is_shown_by_its_grammar();
 }
@@ -62,7 +59,7 @@ pub fn a_stream_is_shown_by_its_grammar()
 /// to and the budget isn't spent.
 pub fn a_session_carries_messages<H: Hub>()
     ensures { (words : List (List ℕ)) (s : Serving) (d : Declared) (before after : Outside H) (ending : Ending) → command words ≡ Some (Serve s d) → HasLaws s.client → HasLaws s.upstream
-        → ((n : Meaning) → H.tells after.hub n → ReceivesBytes n) → Runs H.tells H.counts (command words) before after ending
+        → Runs H.tells H.counts (command words) before after ending
         → StartsWith before after d (λ declarations service. CarriesMessages (H.tells before.hub) (H.tells after.hub) s declarations service before.streams after.streams)
         (λ stop. Halts stop before.streams after.streams ending × (after.hub ≡ before.hub)) }
 {

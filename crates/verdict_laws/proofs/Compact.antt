@@ -25,7 +25,7 @@ use Rattle.protocol_pairs.specs.Pairs as pairs
 use Rattle.compact_protocol.specs.Grammar.{CompactSpells}
 use Rattle.compact_protocol.specs.Reading.{State, begun, reads, reads_head, reads_end}
 use Rattle.compact_protocol.specs.Laws.{reads_pays, reads_nests, reads_none, reads_head_pays, begins}
-use Rattle.binary_laws.specs.Bytes.{AreBytes}
+use Rattle.gate_base.specs.Bytes.{AreBytes}
 use Rattle.compact_laws.specs.Reads.{Reads, IsRead}
 use Rattle.binary_laws.specs.Reads.{header_of_message}
 use Rattle.compact_laws.specs.Refused.{Refuses, IsRefused}

@@ -17,7 +17,7 @@ use Rattle.binary_protocol.specs.Reading as binary_reading
 use Rattle.compact_protocol.specs.Grammar.{CompactSpells}
 use Rattle.compact_protocol.specs.Scan.{front_at, string_at}
 use Rattle.compact_protocol.specs.Reading as compact_reading
-use Rattle.binary_laws.specs.Bytes.{AreBytes}
+use Rattle.gate_base.specs.Bytes.{AreBytes}
 use Rattle.binary_laws.specs.Faults as binary_faults
 use Rattle.binary_laws.proofs.Faults as binary_proofs
 use Rattle.binary_laws.proofs.Heading as binary_heading

@@ -12,7 +12,7 @@ ghost use Rattle.translate_core.specs.declared.route.Route.{Route};
 ghost use Rattle.protocol_pairs.specs.Pairs.{judged};
 ghost use Rattle.binary_protocol.specs.Grammar.{BinarySpells};
 ghost use Rattle.compact_protocol.specs.Grammar.{CompactSpells};
-ghost use Rattle.binary_laws.specs.Bytes.{AreBytes};
+ghost use Rattle.gate_base.specs.Bytes.{AreBytes};
 ghost use Rattle.binary_laws.specs.Faults as binary_faults;
 ghost use Rattle.compact_laws.specs.Faults as compact_faults;
 ghost use Rattle.verdict_laws.specs.Bars.{BinaryPlace, CompactPlace};

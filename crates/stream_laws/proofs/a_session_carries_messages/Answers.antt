@@ -6,12 +6,12 @@ use Rattle.stream_laws.proofs.Words.{small_server}
 use Rattle.stream_laws.proofs.a_session_carries_messages.Goals as goal
 
 pub returns : goal.returns
-returns g c words s d before after ending named from to bytes runs =
+returns g c words s d before after ending named from to runs =
     then before.holds d before.file_faults after.file_faults _ _ _
     (λ declared service serves.
     carried g.H.Hub.tells g.H.Hub.counts s declared service before.hub after.hub before.streams after.streams ending
     (λ mid result is.
     c.a_server_carries_messages.ensures (setting_by s declared service) s.limit s.calls s.sessions s.events mid after.hub before.streams.written after.streams.written before.streams.output_faults after.streams.output_faults result from to
-    (small_server s d words named).0 (small_server s d words named).1 bytes is)
+    (small_server s d words named).0 (small_server s d words named).1 is)
     serves)
     (subst (λ named. Runs g.H.Hub.tells g.H.Hub.counts named before after ending) named runs)

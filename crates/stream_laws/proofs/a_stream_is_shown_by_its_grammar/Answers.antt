@@ -1,12 +1,12 @@
 use Rattle.std.proofs.Common.{refl}
 use Rattle.protocol_traits.specs.declared.proto.Proto.TheVariants as protocols
 use Rattle.stream_laws.specs.Covering.{passage_of, IsListed}
-use Rattle.stream_laws.proofs.Covering.{IsShowLaw, listed, by_ending}
+use Rattle.stream_laws.proofs.Covering.{IsShowLaw, listed, by_ending, are_read}
 use Rattle.stream_laws.proofs.a_stream_is_shown_by_its_grammar.Goals as goal
 
 pub returns : goal.returns
-returns c k from a b ending doing source bytes streamed =
-    by_ending k (IsListed k (passage_of k from from)) (λ number frame are. listed law k from doing source number frame are) a b ending bytes streamed
+returns g c k from input a b ending doing source tells told streamed =
+    by_ending k (IsListed k (passage_of k from from)) (λ number frame are. listed law k from doing source number frame are) a b ending (are_read a.left b.left (g.I.Source.bytes input) tells told) streamed
   where
     law : IsShowLaw
     law d service protocols.Binary frame are laws = c.a_frame_is_shown_by_its_grammar.ensures.binary d service frame are

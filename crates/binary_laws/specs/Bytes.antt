@@ -1,2 +1,0 @@
--- Bytes.
-pub use Rattle.gate_base.specs.Bytes.{AreBytes}
