@@ -1,10 +1,10 @@
 -- One more value, or pair, has its items at the end.
 use Rattle.std.proofs.Common.{◌≡◌, List, [], ◌∷◌, ◌++◌, ap, ◌∙◌, sym, append_assoc}
 use Rattle.std.proofs.lemmas.List.{append-nil}
-use Rattle.idl_parser.specs.Item.{ValueItem}
-use Rattle.idl_parser.specs.declared.value.Pair.{Pair}
-use Rattle.idl_parser.specs.declared.value.ValueExpr.{ValueExpr}
-use Rattle.idl_parser.specs.Items.{items_of_value, items_of_values, items_of_pair, items_of_pairs}
+use Rattle.idl_document.specs.Item.{ValueItem}
+use Rattle.idl_document.specs.declared.value.Pair.{Pair}
+use Rattle.idl_document.specs.declared.value.ValueExpr.{ValueExpr}
+use Rattle.idl_document.specs.Items.{items_of_value, items_of_values, items_of_pair, items_of_pairs}
 
 pub items-pushed : (vs : List ValueExpr) (v : ValueExpr) → items_of_values (vs ++ v ∷ []) ≡ items_of_values vs ++ items_of_value v
 items-pushed [] v = append-nil (items_of_value v)

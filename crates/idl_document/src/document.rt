@@ -18,7 +18,7 @@ pub struct Document {
 }
 
 /// The three kinds of structs.
-#[derive(Clone, Copy, Debug, PartialEq, Eq)]
+#[derive(Clone, Copy)]
 pub enum Kin {
     Struct,
     Union,
@@ -26,7 +26,7 @@ pub enum Kin {
 }
 
 /// What is said of a field's presence.
-#[derive(Clone, Copy, Debug, PartialEq, Eq)]
+#[derive(Clone, Copy)]
 pub enum Asked {
     Required,
     Optional,
@@ -72,7 +72,7 @@ pub struct Function {
 }
 
 /// A type that has a word of its own. `byte` is `I8`, `string` is `Text`, `binary` is `Blob`.
-#[derive(Clone, Copy, Debug, PartialEq, Eq)]
+#[derive(Clone, Copy, PartialEq, Eq)]
 pub enum BaseWord {
     Bool,
     I8,

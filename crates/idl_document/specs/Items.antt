@@ -1,10 +1,10 @@
 -- The items that values are seen as.
 use Rattle.std.specs.Prelude.{ℕ, List, [], ◌∷◌, ◌++◌}
-use Rattle.idl_parser.specs.Item.{ValueItem, whole, double, literal, named, list_begin, list_end, map_begin, map_end}
-use Rattle.idl_parser.specs.declared.value.Pair.{Pair}
-use Rattle.idl_parser.specs.declared.value.ValueExpr.{ValueExpr}
-use Rattle.idl_parser.specs.declared.value.ValueForm.{ValueForm}
-use Rattle.idl_parser.specs.declared.value.ValueForm.TheVariants as forms
+use Rattle.idl_document.specs.Item.{ValueItem, whole, double, literal, named, list_begin, list_end, map_begin, map_end}
+use Rattle.idl_document.specs.declared.value.Pair.{Pair}
+use Rattle.idl_document.specs.declared.value.ValueExpr.{ValueExpr}
+use Rattle.idl_document.specs.declared.value.ValueForm.{ValueForm}
+use Rattle.idl_document.specs.declared.value.ValueForm.TheVariants as forms
 
 -- a list is seen as the items of its elements already
 abbrev pub items_of_form : ℕ → ValueForm → List ValueItem

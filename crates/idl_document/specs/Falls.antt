@@ -1,14 +1,14 @@
 -- Each value has fewer items than what holds it.
 use Rattle.std.proofs.Common.{ℕ, ◌≤◌, List, [], ◌∷◌, length, arith, length-append}
-use Rattle.idl_parser.specs.Item.{ValueItem}
-use Rattle.idl_parser.specs.declared.value.Pair.{Pair}
-use Rattle.idl_parser.specs.declared.value.ValueExpr.{ValueExpr}
-use Rattle.idl_parser.specs.declared.value.ValueForm.{ValueForm}
-use Rattle.idl_parser.specs.declared.value.ValueForm.TheVariants as forms
-use Rattle.idl_parser.specs.declared.value.PairList.TheInside as pairs
-use Rattle.idl_parser.specs.declared.value.PairList.TheDeep.{deep-Pair, deep-PairList, deep-ValueExpr, deep-ValueForm, deep-ValueList}
-use Rattle.idl_parser.specs.declared.value.ValueList.TheInside as values
-use Rattle.idl_parser.specs.Items.{items_of_form, items_of_value, items_of_values, items_of_pair, items_of_pairs}
+use Rattle.idl_document.specs.Item.{ValueItem}
+use Rattle.idl_document.specs.declared.value.Pair.{Pair}
+use Rattle.idl_document.specs.declared.value.ValueExpr.{ValueExpr}
+use Rattle.idl_document.specs.declared.value.ValueForm.{ValueForm}
+use Rattle.idl_document.specs.declared.value.ValueForm.TheVariants as forms
+use Rattle.idl_document.specs.declared.value.PairList.TheInside as pairs
+use Rattle.idl_document.specs.declared.value.PairList.TheDeep.{deep-Pair, deep-PairList, deep-ValueExpr, deep-ValueForm, deep-ValueList}
+use Rattle.idl_document.specs.declared.value.ValueList.TheInside as values
+use Rattle.idl_document.specs.Items.{items_of_form, items_of_value, items_of_values, items_of_pair, items_of_pairs}
 use denote.Param.Weighed.{most}
 
 form_falls : (at : ℕ) (f : ValueForm) → deep-ValueForm f ≤ length (items_of_form at f)

@@ -1,6 +1,6 @@
 //! Constant values, which contracts see as their items one after another.
 ghost use Rattle.std.specs.Prelude.{◌≡◌, ◌++◌, [], OnOk, OnErr};
-ghost use Rattle.idl_parser.specs.Items.{items_of_value, items_of_values, items_of_pair, items_of_pairs};
+ghost use Rattle.idl_document.specs.Items.{items_of_value, items_of_values, items_of_pair, items_of_pairs};
 
 use gate_base::{OutOfMemory, Text};
 use std::alloc::Global;
@@ -50,36 +50,36 @@ pub struct PairList {
 
 impl Model for ValueList {
     ghost use Rattle.std.specs.Prelude.{List};
-    ghost use Rattle.idl_parser.specs.Item.{ValueItem};
+    ghost use Rattle.idl_document.specs.Item.{ValueItem};
 
     ghost Value = { List ValueItem };
 
-    ghost use Rattle.idl_parser.specs.Items.{items_of_values};
+    ghost use Rattle.idl_document.specs.Items.{items_of_values};
     ghost use Rattle.std.specs.Prelude.{length};
 
     ghost view = { λ v. items_of_values v.list.items };
 
     ghost size = { length };
 
-    ghost use Rattle.idl_parser.specs.Falls.{values_fall};
+    ghost use Rattle.idl_document.specs.Falls.{values_fall};
 
     ghost size_decreases = { λ a h. values_fall a };
 }
 
 impl Model for PairList {
     ghost use Rattle.std.specs.Prelude.{List};
-    ghost use Rattle.idl_parser.specs.Item.{ValueItem};
+    ghost use Rattle.idl_document.specs.Item.{ValueItem};
 
     ghost Value = { List ValueItem };
 
-    ghost use Rattle.idl_parser.specs.Items.{items_of_pairs};
+    ghost use Rattle.idl_document.specs.Items.{items_of_pairs};
     ghost use Rattle.std.specs.Prelude.{length};
 
     ghost view = { λ v. items_of_pairs v.list.items };
 
     ghost size = { length };
 
-    ghost use Rattle.idl_parser.specs.Falls.{pairs_fall};
+    ghost use Rattle.idl_document.specs.Falls.{pairs_fall};
 
     ghost size_decreases = { λ a h. pairs_fall a };
 }
