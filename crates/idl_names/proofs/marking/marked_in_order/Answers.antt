@@ -2,7 +2,7 @@ use Rattle.std.proofs.Common.{sym, subst}
 use Rattle.idl_names.specs.Files.{file_trees}
 use Rattle.idl_names.specs.Marks.{AreMarked}
 use Rattle.idl_names.proofs.Reaching.{none_marked}
-use Rattle.idl_names.proofs.marking.marked.Goals as goal
+use Rattle.idl_names.proofs.marking.marked_in_order.Goals as goal
 
 pub loop-spot-init : goal.loop-spot-init
 loop-spot-init c =

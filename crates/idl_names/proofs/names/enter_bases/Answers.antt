@@ -2,7 +2,7 @@ use Rattle.std.proofs.Common.{◌∙◌, ap}
 use Rattle.std.specs.Option.{option_copied}
 use Rattle.idl_names.specs.Paths.{base_name}
 use Rattle.idl_names.proofs.First.{tells_more}
-use Rattle.idl_names.proofs.names.bases.Goals as goal
+use Rattle.idl_names.proofs.names.enter_bases.Goals as goal
 
 pub loop-place-preserved : goal.loop-place-preserved
 loop-place-preserved c =

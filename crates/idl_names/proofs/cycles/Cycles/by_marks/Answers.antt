@@ -1,12 +1,12 @@
 use Rattle.std.proofs.Common.{◌∙◌, ap, sym, length, List, arith}
 use Rattle.std.proofs.lemmas.List.{length-map}
-use Rattle.idl_parser.specs.declared.document.Definition.{Definition}
-use Rattle.idl_parser.specs.Declarations.{definition_tree}
+use Rattle.idl_document.specs.declared.document.Definition.{Definition}
+use Rattle.idl_document.specs.Trees.{definition_tree}
 use Rattle.idl_names.specs.Files.{file_tree, file_trees}
 use Rattle.idl_names.proofs.Counting.{few_here}
 use Rattle.idl_names.proofs.Looking.{made_at}
 use Rattle.idl_names.proofs.Rounds.{rows_none, rows_more, rows_all}
-use Rattle.idl_names.proofs.cycles.Cycles.find.Goals as goal
+use Rattle.idl_names.proofs.cycles.Cycles.by_marks.Goals as goal
 
 pub loop-place-init : goal.loop-place-init
 loop-place-init c = rows_none (file_trees c.args.names.now.files.now) c.new-rows.result.items c.new-rows.ensures.items

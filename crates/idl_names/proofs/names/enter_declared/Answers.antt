@@ -1,8 +1,8 @@
 use Rattle.std.specs.Option.{option_copied}
-use Rattle.idl_parser.specs.Declarations.{definition_tree}
+use Rattle.idl_document.specs.Trees.{definition_tree}
 use Rattle.idl_names.specs.Meaning.{name_in}
 use Rattle.idl_names.proofs.First.{tells_more, tells_all}
-use Rattle.idl_names.proofs.names.declared.Goals as goal
+use Rattle.idl_names.proofs.names.enter_declared.Goals as goal
 
 pub loop-place-preserved : goal.loop-place-preserved
 loop-place-preserved c =
