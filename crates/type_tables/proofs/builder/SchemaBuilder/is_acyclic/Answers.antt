@@ -1,7 +1,7 @@
 use Rattle.std.proofs.Common.{◌≡◌, subst, rules}
 use Rattle.type_tables.specs.Known.{IsAcyclic}
 use Rattle.type_tables.proofs.Ending.{ending}
-use Rattle.type_tables.proofs.builder.SchemaBuilder.is_ending.Goals as goal
+use Rattle.type_tables.proofs.builder.SchemaBuilder.is_acyclic.Goals as goal
 
 pub returns : goal.returns
 returns c is =
