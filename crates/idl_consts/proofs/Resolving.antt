@@ -1,14 +1,13 @@
 -- Over typedefs that are names alone.
 use Rattle.std.proofs.Common.{◌≡◌, ◌∙◌, ℕ, zero, suc, ◌+◌, ◌≤◌, List, Option, Some, None, ap, sym, refl, arith}
 use Rattle.std.specs.Prelude.{option_and_then}
-use Rattle.idl_parser.specs.Declarations.{DefinitionTree, const_of, typedef_of, enum_of, struct_of, service_of}
-use Rattle.idl_parser.specs.Trees.{TypeTree, base_at, named_at, map_at, set_at, list_at}
+use Rattle.idl_document.specs.Trees.{DefinitionTree, const_of, typedef_of, enum_of, struct_of, service_of, TypeTree, base_at, named_at, map_at, set_at, list_at}
 use Rattle.idl_rules.specs.declared.scopes.Scope.TheVariants as scopes
 use Rattle.idl_names.specs.declared.documents.Spot.{Spot}
 use Rattle.idl_names.specs.Files.{FileTree}
 use Rattle.idl_names.specs.Meaning.{meaning}
-use Rattle.idl_typedefs.specs.Hops.{LandsAt, alias_in, alias_of, next, reached}
-use Rattle.idl_typedefs.specs.declared.typedefs.Landing.{Landing}
+use Rattle.idl_typedefs.specs.AliasLinks.{ResolvesTo, alias_in, alias_of, next, reached}
+use Rattle.idl_typedefs.specs.declared.typedefs.ResolvedAlias.{ResolvedAlias}
 use Rattle.idl_consts.specs.Meant.{definition_of, defined_type, named_type, spot_type, left_below}
 use Rattle.idl_consts.specs.declared.types.Step.{Step}
 use Rattle.idl_consts.specs.declared.types.Step.TheVariants as steps
@@ -52,8 +51,8 @@ over_names d (suc k) n s l e = by (λ mid. over_names d k n mid l) (next d s) re
         let inner : reached d k mid ≡ Some l = ap (λ (x : Option Spot). option_and_then (reached d k) x) (sym is) ∙ e in
         ap (λ (j : ℕ). defined_type (named_type d j) s (definition_of d s)) more ∙ one_name d (k + n) s mid is ∙ further mid inner
 
-pub landed : (d : List FileTree) (left : ℕ) (s : Spot) (l : Landing) → LandsAt d s left l → defined_type (named_type d l.left) l.spot (definition_of d l.spot) ≡ defined_type (named_type d left) s (definition_of d s)
-landed d left s l lands = sym (over_names d lands.0 l.left s l.spot lands.1) ∙ ap (λ (j : ℕ). defined_type (named_type d j) s (definition_of d s)) lands.2
+pub resolved : (d : List FileTree) (left : ℕ) (s : Spot) (l : ResolvedAlias) → ResolvesTo d s left l → defined_type (named_type d l.left) l.spot (definition_of d l.spot) ≡ defined_type (named_type d left) s (definition_of d s)
+resolved d left s l lands = sym (over_names d lands.0 l.left s l.spot lands.1) ∙ ap (λ (j : ℕ). defined_type (named_type d j) s (definition_of d s)) lands.2
 
 pub below_more : (a b : ℕ) (s : Step) → a ≤ b → left_below a s → left_below b s
 below_more a b (steps.Done shape) few below = tt
