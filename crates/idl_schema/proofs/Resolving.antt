@@ -1,15 +1,14 @@
 -- Over typedefs that are names alone.
 use Rattle.std.proofs.Common.{◌≡◌, ◌∙◌, ℕ, zero, suc, ◌+◌, List, Option, Some, None, ap, sym, refl, arith}
 use Rattle.std.specs.Prelude.{option_and_then}
-use Rattle.idl_parser.specs.Declarations.{DefinitionTree, const_of, typedef_of, enum_of, struct_of, service_of}
-use Rattle.idl_parser.specs.Trees.{TypeTree, base_at, named_at, map_at, set_at, list_at}
+use Rattle.idl_document.specs.Trees.{DefinitionTree, const_of, typedef_of, enum_of, struct_of, service_of, TypeTree, base_at, named_at, map_at, set_at, list_at}
 use Rattle.idl_rules.specs.declared.scopes.Scope.TheVariants as scopes
 use Rattle.idl_names.specs.declared.documents.Spot.{Spot}
 use Rattle.idl_names.specs.Files.{FileTree}
 use Rattle.idl_names.specs.Meaning.{meaning}
 use Rattle.idl_names.specs.Targets.{definition_at}
-use Rattle.idl_typedefs.specs.Hops.{LandsAt, alias_in, alias_of, next, reached}
-use Rattle.idl_typedefs.specs.declared.typedefs.Landing.{Landing}
+use Rattle.idl_typedefs.specs.AliasLinks.{ResolvesTo, alias_in, alias_of, next, reached}
+use Rattle.idl_typedefs.specs.declared.typedefs.ResolvedAlias.{ResolvedAlias}
 use Rattle.type_tables.specs.declared.declared.Ty.{Ty}
 use Rattle.idl_schema.specs.declared.numbers.First.{First}
 use Rattle.idl_schema.specs.Numbers.{first_of}
@@ -68,5 +67,5 @@ over_names files (suc k) n s l e = by (λ mid. over_names files k n mid l) (next
         let inner : reached files k mid ≡ Some l = ap (λ (x : Option Spot). option_and_then (reached files k) x) (sym is) ∙ e in
         ap (λ (j : ℕ). means files j s) more ∙ one_name files (k + n) s mid is ∙ further mid inner
 
-pub landed : (files : List FileTree) (left : ℕ) (s : Spot) (l : Landing) → LandsAt files s left l → means files l.left l.spot ≡ means files left s
-landed files left s l lands = sym (over_names files lands.0 l.left s l.spot lands.1) ∙ ap (λ (j : ℕ). means files j s) lands.2
+pub resolved : (files : List FileTree) (left : ℕ) (s : Spot) (l : ResolvedAlias) → ResolvesTo files s left l → means files l.left l.spot ≡ means files left s
+resolved files left s l lands = sym (over_names files lands.0 l.left s l.spot lands.1) ∙ ap (λ (j : ℕ). means files j s) lands.2

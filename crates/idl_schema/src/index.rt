@@ -1,25 +1,24 @@
 //! What names and types mean in the files of an IDL.
 ghost use Rattle.std.specs.Prelude.{◌≡◌, ◌≤◌, ◌++◌, ◌∷◌, [], IfOk, Some, option_map, option_copied};
-ghost use Rattle.idl_parser.specs.Declarations.{definition_tree};
-ghost use Rattle.idl_parser.specs.Trees.{type_tree};
+ghost use Rattle.idl_document.specs.Trees.{definition_tree, type_tree};
 ghost use Rattle.idl_names.specs.Files.{file_trees};
-ghost use Rattle.idl_typedefs.specs.Hops.{Follows, Follows-prop};
+ghost use Rattle.idl_typedefs.specs.AliasLinks.{Follows, Follows-prop};
 ghost use Rattle.idl_schema.specs.Numbers.{first_of, number_in, numbers_of};
 ghost use Rattle.idl_schema.specs.Shares.{base_of, base_by, is_place, prefix_of, prefix_in};
-ghost use Rattle.idl_schema.specs.Types.{base_ty, plain_ty, target_of, target, target_at, target_by, ty_ahead, ty_by, ty_in, followed};
+ghost use Rattle.idl_schema.specs.Types.{base_ty, plain_ty, target_of, target, target_at, target_by, ty_resolution, ty_by, ty_in, followed};
 
 use crate::numbers::{First, numbers_of, sum};
-use crate::types::{Ahead, Expression, Meant};
+use crate::types::{Resolution, Expression, TypeOrAlias};
 use gate_base::{OutOfMemory, Text};
 use idl_names::{Names, Scope, Spot, base_name, definition_at};
-use idl_parser::{BaseWord, Definition, Name, Seq, TypeExpr, TypeForm};
-use idl_typedefs::{Landing, Typedefs};
+use idl_document::{BaseWord, Definition, Name, Seq, TypeExpr, TypeForm};
+use idl_typedefs::{ResolvedAlias, Typedefs};
 use std::alloc::Global;
 use type_tables::{EnumId, ServiceId, StructId, Ty, TyId};
 
 /// The names of the files of an IDL, with the numbers of their definitions and the ends of their typedefs.
 #[derive(Drop)]
-pub(crate) struct Sight<'s, 'd> {
+pub(crate) struct SchemaIndex<'s, 'd> {
     pub(crate) names: &'s Names<'d>,
     numbers: Seq<Seq<First>>,
     typedefs: Typedefs,
@@ -27,18 +26,18 @@ pub(crate) struct Sight<'s, 'd> {
     ghost numbered: { numbers ≡ numbers_of (file_trees names.now.files.now) },
 }
 
-impl<'s, 'd> Sight<'s, 'd> {
-    ghost use Rattle.idl_schema.specs.Sights.{files_of};
+impl<'s, 'd> SchemaIndex<'s, 'd> {
+    ghost use Rattle.idl_schema.specs.Indexes.{files_of};
 
     /// Numbers the definitions of these files, and follows their typedefs.
     ///
     /// `OutOfMemory`: the memory for it was not found.
-    pub(crate) fn new(alloc: Global, names: &'s Names<'d>) -> Result<Sight<'s, 'd>, OutOfMemory>
+    pub(crate) fn new(alloc: Global, names: &'s Names<'d>) -> Result<SchemaIndex<'s, 'd>, OutOfMemory>
         ensures { IfOk result (λ s. files_of s ≡ file_trees names.now.files.now) }
     {
         let numbers = numbers_of(alloc, names.files)?;
         let typedefs = Typedefs::build(alloc, names)?;
-        Ok(Sight {
+        Ok(SchemaIndex {
             names,
             numbers,
             typedefs,
@@ -53,46 +52,46 @@ impl<'s, 'd> Sight<'s, 'd> {
 
     // What a name of a type means in the file at this place, behind the typedefs that are names alone.
     #[tactic(auto, unfolding(crate::specs::Types::target))]
-    fn ahead(&self, file: u32, word: &[u8], left: usize) -> Ahead<'d>
-        ensures meant { ty_ahead (files_of self.now) result ≡ ty_by (target (files_of self.now) file word.now) (followed left (files_of self.now)) }
+    fn resolution(&self, file: u32, word: &[u8], left: usize) -> Resolution<'d>
+        ensures meant { ty_resolution (files_of self.now) result ≡ ty_by (target (files_of self.now) file word.now) (followed left (files_of self.now)) }
         ensures fewer { result.left ≤ left }
     {
         match self.names.look_up(file, Scope::Types, word) {
-            Some(spot) => self.landed(spot, left),
-            None => Ahead {
-                meant: Meant::Found(Ty::Unknown),
+            Some(spot) => self.resolved(spot, left),
+            None => Resolution {
+                meant: TypeOrAlias::Found(Ty::Unknown),
                 left,
             },
         }
     }
 
-    fn landed(&self, spot: Spot, left: usize) -> Ahead<'d>
-        ensures meant { ty_ahead (files_of self.now) result ≡ ty_by (target_at (files_of self.now) (Some spot)) (followed left (files_of self.now)) }
+    fn resolved(&self, spot: Spot, left: usize) -> Resolution<'d>
+        ensures meant { ty_resolution (files_of self.now) result ≡ ty_by (target_at (files_of self.now) (Some spot)) (followed left (files_of self.now)) }
         ensures fewer { result.left ≤ left }
     {
-        let landing = self.typedefs.land(spot, left);
-        self.ahead_at(landing)
+        let resolved_alias = self.typedefs.resolve_chain(spot, left);
+        self.resolution_at(resolved_alias)
     }
 
-    fn ahead_at(&self, landing: Landing) -> Ahead<'d>
-        ensures meant { ty_ahead (files_of self.now) result ≡ ty_by (target_at (files_of self.now) (Some landing.spot)) (followed landing.left (files_of self.now)) }
-        ensures left { result.left ≡ landing.left }
+    fn resolution_at(&self, resolved_alias: ResolvedAlias) -> Resolution<'d>
+        ensures meant { let d = files_of self.now in ty_resolution d result ≡ ty_by (target_at d (Some resolved_alias.spot)) (followed resolved_alias.left d) }
+        ensures left { result.left ≡ resolved_alias.left }
     {
-        let spot = landing.spot;
+        let spot = resolved_alias.spot;
         let meant = meant(
             spot.file,
             definition_at(self.names.files, spot),
             self.first_of(spot),
         );
-        Ahead {
+        Resolution {
             meant,
-            left: landing.left,
+            left: resolved_alias.left,
         }
     }
 
     /// The type that an expression of the file at this place means, where the first of its parts has the number `base`.
     #[tactic(auto, unfolding(crate::specs::Types::ty_in))]
-    pub(crate) fn ty(&self, file: u32, base: u32, tree: &TypeExpr) -> Result<Ty, OutOfMemory>
+    pub(crate) fn type_of(&self, file: u32, base: u32, tree: &TypeExpr) -> Result<Ty, OutOfMemory>
         ensures { IfOk result (λ ty. ty ≡ ty_in (files_of self.now) file base (type_tree tree.now)) }
     {
         let mut left = self.names.definition_count() + 1;
@@ -104,12 +103,12 @@ impl<'s, 'd> Sight<'s, 'd> {
             if left == 0 {
                 return Ok(Ty::Unknown);
             }
-            let ahead = self.ahead(at.file, word.as_slice(), left - 1);
-            match ahead.meant {
-                Meant::Found(ty) => return Ok(ty),
-                Meant::Further(next) => at = next,
+            let resolution = self.resolution(at.file, word.as_slice(), left - 1);
+            match resolution.meant {
+                TypeOrAlias::Found(ty) => return Ok(ty),
+                TypeOrAlias::Alias(next) => at = next,
             }
-            left = ahead.left;
+            left = resolution.left;
         }
     }
 
@@ -171,20 +170,20 @@ fn first_in(numbers: &[Seq<First>], spot: Spot) -> Option<First>
     row.as_slice().get(spot.definition as usize).copied()
 }
 
-fn meant<'d>(file: u32, definition: Option<&'d Definition>, first: Option<First>) -> Meant<'d>
+fn meant<'d>(file: u32, definition: Option<&'d Definition>, first: Option<First>) -> TypeOrAlias<'d>
     ensures { target_of result ≡ target_by file (option_map definition_tree (option_copied definition.entry)) first }
 {
     match (definition, first) {
-        (Some(Definition::Typedef(_, tree)), Some(n)) => Meant::Further(Expression {
+        (Some(Definition::Typedef(_, tree)), Some(n)) => TypeOrAlias::Alias(Expression {
             file,
             base: n.types,
             tree,
         }),
-        (Some(Definition::Enum(_, _)), Some(n)) => Meant::Found(Ty::Enum(EnumId(n.enums))),
+        (Some(Definition::Enum(_, _)), Some(n)) => TypeOrAlias::Found(Ty::Enum(EnumId(n.enums))),
         (Some(Definition::Struct(_, _, _)), Some(n)) => {
-            Meant::Found(Ty::Struct(StructId(n.structs)))
+            TypeOrAlias::Found(Ty::Struct(StructId(n.structs)))
         }
-        _ => Meant::Found(Ty::Unknown),
+        _ => TypeOrAlias::Found(Ty::Unknown),
     }
 }
 

@@ -1,10 +1,10 @@
 use Rattle.std.proofs.Common.{◌≡◌, ◌<◌, ◌∙◌, ap, sym, arith, ℕ, suc, ◌+◌, ◌-◌, List, add-one}
 use Rattle.idl_names.specs.Targets.{definition_count}
-use Rattle.idl_schema.specs.Sights.{files_of}
+use Rattle.idl_schema.specs.Indexes.{files_of}
 use Rattle.idl_schema.specs.Types.{target, target_of, ty_by, ty_in, followed}
-use Rattle.idl_parser.specs.Trees.{type_tree}
+use Rattle.idl_document.specs.Trees.{type_tree}
 use Rattle.idl_schema.proofs.Following.{found_here, goes_on, plain_here, plain_result}
-use Rattle.idl_schema.proofs.sight.Sight.ty.Goals as goal
+use Rattle.idl_schema.proofs.index.SchemaIndex.type_of.Goals as goal
 
 pub returns-in-Found : goal.returns-in-Found
 returns-in-Found c =
@@ -12,18 +12,18 @@ returns-in-Found c =
     let tree = c.typedefs.at.tree.now in
     let whole = ty_in files c.args.file c.args.base (type_tree c.args.tree.now) in
     let some : 0 < c.typedefs.left = omega arith in
-    found_here files c.typedefs.left c.typedefs.at.file c.typedefs.at.base tree.at tree.form whole c.typedefs.invariant c.in-Named.word c.in-Found.ty c.ahead-ahead.result c.in-Named.is some (sym (ap target_of c.in-Found.is))
-    (c.ahead-ahead.ensures.meant ∙ ap (λ (w : List ℕ). ty_by (target files c.typedefs.at.file w) (followed (c.typedefs.left - 1) files)) c.as_slice.ensures)
+    found_here files c.typedefs.left c.typedefs.at.file c.typedefs.at.base tree.at tree.form whole c.typedefs.invariant c.in-Named.word c.in-Found.ty c.resolution-resolution.result c.in-Named.is some (sym (ap target_of c.in-Found.is))
+    (c.resolution-resolution.ensures.meant ∙ ap (λ (w : List ℕ). ty_by (target files c.typedefs.at.file w) (followed (c.typedefs.left - 1) files)) c.as_slice.ensures)
 
 pub typedefs-preserved : goal.typedefs-preserved
 typedefs-preserved c =
     let files = files_of c.args.self.now in
     let tree = c.typedefs.at.tree.now in
-    let next = c.in-Further.next in
+    let next = c.in-Alias.next in
     let whole = ty_in files c.args.file c.args.base (type_tree c.args.tree.now) in
     let some : 0 < c.typedefs.left = omega arith in
-    goes_on files c.typedefs.left c.typedefs.at.file c.typedefs.at.base tree.at tree.form whole c.typedefs.invariant c.in-Named.word next.file next.base (type_tree next.tree.now) c.ahead-ahead.result c.in-Named.is some (sym (ap target_of c.in-Further.is))
-    (c.ahead-ahead.ensures.meant ∙ ap (λ (w : List ℕ). ty_by (target files c.typedefs.at.file w) (followed (c.typedefs.left - 1) files)) c.as_slice.ensures)
+    goes_on files c.typedefs.left c.typedefs.at.file c.typedefs.at.base tree.at tree.form whole c.typedefs.invariant c.in-Named.word next.file next.base (type_tree next.tree.now) c.resolution-resolution.result c.in-Named.is some (sym (ap target_of c.in-Alias.is))
+    (c.resolution-resolution.ensures.meant ∙ ap (λ (w : List ℕ). ty_by (target files c.typedefs.at.file w) (followed (c.typedefs.left - 1) files)) c.as_slice.ensures)
 
 pub returns-in_default : goal.returns-in_default
 returns-in_default c =
