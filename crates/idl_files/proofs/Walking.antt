@@ -1,10 +1,9 @@
 -- The steps of the walk.
 use Rattle.std.proofs.Common.{◌≡◌, ℕ, zero, suc, ◌+◌, ◌-◌, ◌<◌, ◌≤◌, ◌^◌, List, [], ◌∷◌, ◌++◌, length, map, drop, get_or, slice_index_or, Option, Result, Ok, Err, Bool, true, false, cond, refl, ap, sym, ◌∙◌, arith, subst, append_assoc, length-append, drop-cons}
 use Rattle.std.proofs.lemmas.List.{append-nil}
-use Rattle.idl_parser.specs.declared.document.Name.{Name}
-use Rattle.idl_parser.specs.declared.document.Definition.{Definition}
-use Rattle.idl_parser.specs.Declarations.{definition_trees}
-use Rattle.idl_parser.specs.Documents.{DocumentTree}
+use Rattle.idl_document.specs.declared.document.Name.{Name}
+use Rattle.idl_document.specs.declared.document.Definition.{Definition}
+use Rattle.idl_document.specs.Trees.{definition_trees, DocumentTree}
 use Rattle.idl_names.specs.declared.documents.FileDoc.{FileDoc}
 use Rattle.idl_names.specs.Files.{FileTree, file_trees}
 use Rattle.idl_rules.specs.declared.row.IdlFault.{IdlFault}

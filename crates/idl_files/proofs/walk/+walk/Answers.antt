@@ -1,5 +1,5 @@
 use Rattle.std.proofs.Common.{◌∷◌, ◌++◌, [], List, ℕ, length, length-append, arith, ap, sym, ◌∙◌, refl, subst}
-use Rattle.idl_parser.specs.Documents.{document_tree}
+use Rattle.idl_document.specs.Trees.{document_tree}
 use Rattle.idl_names.specs.Files.{file_trees}
 use Rattle.idl_files.specs.Answers.{Gives}
 use Rattle.idl_files.specs.Listing.{fresh}
