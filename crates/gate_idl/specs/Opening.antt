@@ -14,7 +14,7 @@ use Rattle.type_tables.specs.Declarations.{Declarations}
 use Rattle.gate_idl.specs.declared.opening.Stop.{Stop}
 use Rattle.gate_idl.specs.declared.opening.Stop.TheVariants.{Refused, FileFault, OutOfMemory}
 use Rattle.gate_idl.specs.declared.refusal.Refusal.{Refusal}
-use Rattle.gate_idl.specs.declared.refusal.Row.TheVariants as rows
+use Rattle.gate_idl.specs.declared.refusal.ErrorCode.TheVariants as rows
 
 abbrev pub Opened : Type 0
 Opened = Result Declarations Refusal
