@@ -1,15 +1,14 @@
 -- Typedefs that are written as nothing but a name, and what they lead to.
 use Rattle.std.specs.Prelude.{◌≡◌, ℕ, zero, suc, ◌+◌, List, Option, Some, None, option_and_then, slice_get}
 use Rattle.std.proofs.Props.{props}
-use Rattle.idl_parser.specs.Declarations.{DefinitionTree, typedef_of}
-use Rattle.idl_parser.specs.Trees.{TypeTree, named_at}
+use Rattle.idl_document.specs.Trees.{DefinitionTree, typedef_of, TypeTree, named_at}
 use Rattle.idl_rules.specs.declared.scopes.Scope.TheVariants as scopes
 use Rattle.idl_names.specs.declared.documents.Spot.{Spot}
 use Rattle.idl_names.specs.Files.{FileTree}
 use Rattle.idl_names.specs.Meaning.{meaning}
 use Rattle.idl_names.specs.Targets.{definition_at}
-use Rattle.idl_typedefs.specs.declared.typedefs.Hop.{Hop}
-use Rattle.idl_typedefs.specs.declared.typedefs.Landing.{Landing}
+use Rattle.idl_typedefs.specs.declared.typedefs.AliasLink.{AliasLink}
+use Rattle.idl_typedefs.specs.declared.typedefs.ResolvedAlias.{ResolvedAlias}
 use Rattle.idl_typedefs.specs.declared.typedefs.Typedefs.{Typedefs}
 
 -- a type that is nothing but a name
@@ -30,19 +29,19 @@ abbrev pub reached : List FileTree → ℕ → Spot → Option Spot
 reached files zero spot = Some spot
 reached files (suc steps) spot = option_and_then (reached files steps) (next files spot)
 
-abbrev pub IsHop : List FileTree → Hop → Type 0
-IsHop files hop = reached files hop.steps hop.first ≡ Some hop.last
+abbrev pub IsAliasLink : List FileTree → AliasLink → Type 0
+IsAliasLink files link = reached files link.steps link.first ≡ Some link.last
 
--- all hops of a list are so
-abbrev pub AreHops : List FileTree → List (Option Hop) → Type 0
-AreHops files hops = (place : ℕ) (hop : Hop) → slice_get hops place ≡ Some (Some hop) → IsHop files hop
+-- all links of a list are so
+abbrev pub AreAliasLinks : List FileTree → List (Option AliasLink) → Type 0
+AreAliasLinks files links = (place : ℕ) (link : AliasLink) → slice_get links place ≡ Some (Some link) → IsAliasLink files link
 
 abbrev pub Follows : List FileTree → Typedefs → Type 0
-Follows files typedefs = AreHops files typedefs.hops.items
+Follows files typedefs = AreAliasLinks files typedefs.links.items
 
 -- over so many of the names that may be followed
-abbrev pub LandsAt : List FileTree → Spot → ℕ → Landing → Type 0
-LandsAt files spot left l = (steps : ℕ) × (reached files steps spot ≡ Some l.spot) × (steps + l.left ≡ left)
+abbrev pub ResolvesTo : List FileTree → Spot → ℕ → ResolvedAlias → Type 0
+ResolvesTo files spot left l = (steps : ℕ) × (reached files steps spot ≡ Some l.spot) × (steps + l.left ≡ left)
 
 pub Follows-prop : (files : List FileTree) (typedefs : Typedefs) → IsProp (Follows files typedefs)
 Follows-prop files typedefs = hlevel props

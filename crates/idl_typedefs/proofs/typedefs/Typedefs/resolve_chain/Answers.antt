@@ -1,5 +1,5 @@
 use Rattle.std.proofs.Common.{◌≡◌, ◌+◌, refl, arith}
-use Rattle.idl_typedefs.proofs.typedefs.Typedefs.land.Goals as goal
+use Rattle.idl_typedefs.proofs.typedefs.Typedefs.resolve_chain.Goals as goal
 
 pub returns-in-None : goal.returns-in-None
 returns-in-None c = λ files kept.
