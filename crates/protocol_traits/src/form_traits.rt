@@ -1,7 +1,7 @@
 //! A protocol's quick reader and quick writer: one call an item, by value, and no fault told.
 //!
 //! The quick way is right where it answers. What isn't plain good is left to `WireRead` and `WireWrite`.
-ghost use Rattle.std.specs.Prelude.{◌≡◌, ℕ, ℤ, pos, ◌+◌, ◌-◌, ◌≤◌, ◌<◌, ◌^◌, List, [], ◌∷◌, length, Bool, true, Option, Some, None, Ok, IfOk, IfSome};
+ghost use Rattle.std.specs.Prelude.{◌≡◌, ℕ, ℤ, pos, ◌+◌, ◌-◌, ◌≤◌, ◌<◌, ◌^◌, List, [], ◌∷◌, ◌++◌, length, Bool, true, Option, Some, None, Ok, IfSome};
 ghost use Rattle.std.specs.Int.{w64, to_be_bytes};
 ghost use Rattle.thrift_value.specs.declared.kind.Kind.{Kind};
 ghost use Rattle.thrift_value.specs.Items.{Item, field, stop, bool_value, i8_value, i16_value, i32_value, i64_value, double_value, text, struct_begin, empty_map, map_begin, end, uuid_value};
@@ -12,13 +12,15 @@ ghost use Rattle.protocol_traits.specs.declared.nest.Slot.{Slot};
 ghost use Rattle.protocol_traits.specs.declared.nest.Slot.TheVariants.{Fields, Value};
 ghost use Rattle.protocol_traits.specs.declared.proto.Hint.{Hint};
 ghost use Rattle.protocol_traits.specs.declared.proto.Mark.{Mark};
+ghost use Rattle.protocol_traits.specs.Heads.{header_of};
 ghost use Rattle.protocol_traits.specs.Steps.{told};
 ghost use Rattle.protocol_traits.specs.Follow.{after as levels_after};
 ghost use Rattle.protocol_traits.specs.Forms.{lead_item, elements_item, container_kind, pairs_item, part, text_weight, opening_after, Calls, IsDone, IsPast, Steps, StepsTwice, StepsValue, StepsInto, Spells, SpellsTwice, SpellsValue};
 ghost use Rattle.protocol_traits.specs.Room.{weight};
 
 use crate::forms::{Container, Lead, Opening, Pairs, Span, Stand};
-use crate::{Hint, Mark, ReadRules, WireWrite};
+use crate::{Head, Hint, Mark, ReadRules, WireWrite};
+use gate_io::Out;
 use thrift_value::Kind;
 
 /// How many cells behind a place an item other than a text may write to: its spelling, and what a wide copy overwrites
@@ -34,19 +36,19 @@ pub trait FormRead: ReadRules {
     /// The reader stands at this place of this frame, with so much read of the innermost of these levels.
     ghost stands_at: { Self → List ℕ → ℕ → Opening → List Slot → Type 0 };
 
-    /// The place of the next item.
-    ghost next_place: { Self → ℕ };
-
     /// Whether how a string is read depends on its position.
     ghost hinted: { Bool };
-
-    /// The place of the next item.
-    fn next_place(&self) -> usize
-        ensures { result ≡ next_place self.now };
 
     /// Whether how a string is read depends on its position.
     fn is_hinted() -> bool
         ensures { result ≡ hinted };
+
+    /// The header at the beginning of a frame, and the place behind it, where the body begins.
+    fn front(frame: &[u8]) -> Option<(Head<'_>, usize)>
+        requires { length frame.now < 2 ^ 31 }
+        ensures reads { IfSome result (λ x. (new : Self) × (Self.reads_head (Self.begun frame.now) ≡ Ok (header_of x.0, new)) × stands_at new frame.now x.1 Opening.Body (Fields (pos 0) ∷ [])) }
+        ensures sized { IfSome result (λ x. length x.0.name.now < 2 ^ 31) }
+        ensures place { IfSome result (λ x. (length x.0.name.now ≤ x.1) × (x.1 ≤ length frame.now)) };
 
     /// What stands next in a struct, a field's id, and the place behind.
     fn next_field(
@@ -146,10 +148,6 @@ pub trait FormRead: ReadRules {
         ensures within { IfSome result (λ x. (at ≤ x) × (x ≤ length frame.now)) }
         ensures steps { IfSome result (λ x. (opening : Opening) (nest : List Slot) (hint : Hint) → IsDone container nest → Steps Self.reads stands_at frame.now at opening nest hint end x) };
 
-    /// Behind the header the reader stands in the body.
-    ghost headed: { (frame : List ℕ) → IfOk (Self.reads_head (Self.begun frame)) (λ x.
-        stands_at x.1 frame (next_place x.1) Opening.Body (Fields (pos 0) ∷ []) × (length x.0.name ≤ next_place x.1) × (next_place x.1 ≤ length frame)) };
-
     /// Behind the body, at the end of the frame, the message is whole.
     ghost ended: { (s : Self) (frame : List ℕ) (opening : Opening) → stands_at s frame (length frame) opening [] → told (Self.reads_end s) ≡ Ok tt };
 }
@@ -173,6 +171,13 @@ pub trait FormWrite: WireWrite {
     /// Whether how an empty map is written depends on its position.
     fn is_marked() -> bool
         ensures { result ≡ marked };
+
+    /// Appends a header.
+    fn front(head: &Head<'_>, out: &mut Out)
+        requires sized { length head.now.name.now < 2 ^ 31 }
+        requires taken { Self.name_bar head.now.name.now ≡ None }
+        requires room { length out.old.bytes + length (Self.plain_head (header_of head.now)) ≤ out.old.room }
+        ensures { out.new ≡ record out.old { bytes = out.old.bytes ++ Self.plain_head (header_of head.now) } };
 
     /// A field's id and kind, where its value is no bool.
     fn field(cells: &mut [u8], to: usize, opening: Opening, last: i16, id: i16, kind: Kind) -> usize

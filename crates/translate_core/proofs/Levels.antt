@@ -1,7 +1,8 @@
 -- Fields, structs and containers that were taken part by part.
-use Rattle.std.proofs.Common.{◌≡◌, ◌+◌, ◌<◌, ◌≤◌, Bool, ℕ, ℤ, zero, suc, List, ◌∷◌, length, Option, Some, None, arith, refl, subst}
+use Rattle.std.proofs.Common.{◌≡◌, ◌+◌, ◌<◌, ◌≤◌, Bool, ℕ, ℤ, zero, suc, List, ◌∷◌, length, take, Option, Some, None, arith, refl, subst}
 use Rattle.std.specs.Prelude.{IfOk, IfSome}
 use Rattle.std.proofs.lemmas.Bool.{ne_eqb}
+use Rattle.std.proofs.lemmas.List.{length-take}
 use Rattle.thrift_value.specs.declared.kind.Kind.{Kind}
 use Rattle.thrift_value.specs.declared.kind.Kind.TheVariants as kinds
 use Rattle.thrift_value.specs.Items.{Item, field, bool_value, map_begin}
@@ -18,13 +19,14 @@ use Rattle.protocol_traits.specs.declared.proto.Mark.{Mark}
 use Rattle.protocol_traits.specs.Follow.{after as levels_after, spent}
 use Rattle.protocol_traits.specs.Forms.{IsDone, Spells, SpellsTwice, SpellsValue, Steps, StepsInto, StepsTwice, elements_item, opening_after, pairs_item}
 use Rattle.protocol_traits.specs.Room.{weight}
+use Rattle.type_tables.specs.declared.declared.StructId.{StructId}
 use Rattle.type_tables.specs.declared.declared.Ty.{Ty}
 use Rattle.type_tables.specs.declared.declared.Ty.TheVariants as types
 use Rattle.type_tables.specs.Declarations.{Declarations}
 use Rattle.type_walk.specs.declared.levels.Level.{Level}
-use Rattle.type_walk.specs.Positions.{Position, after, field_type, hint_of, in_list, in_map, in_set, in_struct, mark_of, passed, standing}
+use Rattle.type_walk.specs.Positions.{Position, after, field_type, hint_of, in_list, in_map, in_set, in_struct, mark_of, passed, standing, struct_level}
 use Rattle.translate_core.specs.Body.{Source, Target}
-use Rattle.translate_core.specs.Quick.{IsFlat, Spot, Takes, TakesField, TakesValue, Turns, called, in_elements, spot}
+use Rattle.translate_core.specs.Quick.{IsFlat, Spot, Takes, TakesField, TakesValue, Turns, body_type, called, in_elements, spot}
 use Rattle.translate_core.proofs.Taking.{calls_some, spent_length, takes_item, takes_then, takes_twice}
 
 pub flat_struct : (ty : Ty) → IsFlat (in_struct ty)
@@ -187,3 +189,12 @@ pub elements_weight : (container : Container) (kind : Kind) (size : ℕ) → wei
 elements_weight containers.Map kind size = refl
 elements_weight containers.Set kind size = refl
 elements_weight containers.List kind size = refl
+
+-- the level of a body's struct
+pub body_level : (body : Option StructId) → struct_level body ≡ in_struct (body_type body)
+body_level None = refl
+body_level (Some s) = refl
+
+-- what is cut is no longer than that
+pub cut_short : (bytes : List ℕ) (n : ℕ) → length (take n bytes) ≤ n
+cut_short bytes n = omega (arith, length-take n bytes)

@@ -1,5 +1,5 @@
 -- The quick way through a body: what is taken from one place of a frame to another, and how the cells grow by it.
-use Rattle.std.specs.Prelude.{◌≡◌, ℕ, ℤ, ◌+◌, ◌*◌, ◌≤◌, List, Bool, true, ◌∷◌, ◌++◌, length, pos, Some, None}
+use Rattle.std.specs.Prelude.{◌≡◌, ℕ, ℤ, ◌+◌, ◌*◌, ◌≤◌, List, [], Bool, true, ◌∷◌, ◌++◌, length, pos, Option, Some, None, Ok}
 use Rattle.thrift_value.specs.declared.kind.Kind.{Kind}
 use Rattle.protocol_traits.specs.declared.forms.Container.{Container}
 use Rattle.protocol_traits.specs.declared.forms.Container.TheVariants as containers
@@ -9,10 +9,13 @@ use Rattle.protocol_traits.specs.declared.forms.Stand.{Stand}
 use Rattle.protocol_traits.specs.declared.nest.Slot.{Slot}
 use Rattle.protocol_traits.specs.declared.nest.Slot.TheVariants as slots
 use Rattle.protocol_traits.specs.Follow.{spent}
+use Rattle.protocol_traits.specs.Steps.{told}
 use Rattle.protocol_traits.specs.declared.proto.Hint.{Hint}
 use Rattle.protocol_traits.specs.Forms.{Appends, Calls, Steps}
 use Rattle.thrift_value.specs.Items.{Item}
+use Rattle.type_tables.specs.declared.declared.StructId.{StructId}
 use Rattle.type_tables.specs.declared.declared.Ty.{Ty}
+use Rattle.type_tables.specs.declared.declared.Ty.TheVariants as types
 use Rattle.type_tables.specs.Declarations.{Declarations}
 use Rattle.type_walk.specs.declared.levels.Level.{Level}
 use Rattle.type_walk.specs.declared.levels.Level.TheVariants as levels
@@ -43,6 +46,11 @@ in_elements d container ty kind = in_list d ty kind
 abbrev pub turned : Level → Level
 turned (levels.Keys key value) = levels.Values key value
 turned level = level
+
+-- the type of a body of this struct, if any
+abbrev pub body_type : Option StructId → Ty
+body_type None = types.Unknown
+body_type (Some s) = types.Struct s
 
 -- a value within leaves the level as it was
 abbrev pub IsFlat : Level → Type 0
@@ -107,3 +115,10 @@ module _ {S T : Type 0} (source : Source S) (target : Target T) (reader_at : S �
   TakesFields d ty depth frame at opening old to new read written =
       (up : List Slot) (outer : List Level) → length up + 1 ≡ depth
       → Takes frame (spot at opening (slots.Fields (pos 0) ∷ up) (standing d (in_struct ty ∷ outer))) (spot read openings.Old up (standing d outer)) old to new written
+
+module _ {S T : Type 0} (source : Source S) (target : Target T) where
+  -- The body from here on passes whole, with the end of the message behind it, and these are its bytes.
+  abbrev pub Passes : S → Position → List ℕ → List ℕ → Type 0
+  Passes s position old new =
+      (read : S) × (wrote : T) × (behind : Position) × (added : List ℕ) × (whole source typed target (going s position target.begun 1 None []) ≡ Ok (going read behind wrote 0 None added))
+      × (told (source.reads_end read) ≡ Ok tt) × (new ≡ old ++ added)

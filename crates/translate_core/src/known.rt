@@ -3,12 +3,17 @@ ghost use Rattle.std.specs.Prelude.{◌≡◌, ⊤, Bool, true, false, Some, ref
 ghost use Rattle.type_tables.specs.declared.declared.Ty.{Ty};
 ghost use Rattle.type_tables.specs.Declarations.{Declarations};
 ghost use Rattle.type_tables.specs.Known.{IsKnown};
+ghost use Rattle.type_walk.specs.Known.{IsKnownLevel};
 ghost use Rattle.type_walk.specs.Positions.{field_type, hint_at, in_map, in_struct, called_for, mark_at};
 ghost use Rattle.translate_core.specs.Quick.{in_elements, turned};
 
 use protocol_traits::{Container, Hint, Mark};
 use thrift_value::Kind;
-use type_tables::Schema;
+use type_tables::{Schema, Ty};
+use type_walk::{
+    Level, called_for, declared_in, declared_type, hint_at, in_list, in_map, in_set, in_struct,
+    mark_at,
+};
 
 /// What is known of the declared type of a value, or of the struct whose fields stand next.
 pub trait Known: Copy {
@@ -98,5 +103,61 @@ impl Known for Nothing {
             key: Kind::I8,
             value: Kind::I8,
         }
+    }
+}
+
+/// The declared type itself.
+#[derive(Clone, Copy)]
+pub struct Declared(pub Ty);
+
+impl Known for Declared {
+    ghost means = { λ known ty. known.0 ≡ ty };
+
+    ghost sound = { λ known d. IsKnown d known.0 };
+
+    ghost tells = { true };
+
+    #[inline(always)]
+    fn field(self, schema: &Schema, id: i16, kind: Kind) -> Self {
+        let level = in_struct(self.0);
+        Declared(declared_type(declared_in(schema, &level, id, kind)))
+    }
+
+    fn element(self, schema: &Schema, container: Container, kind: Kind) -> Self {
+        let level = match container {
+            Container::Set => in_set(schema, self.0, kind),
+            Container::List | Container::Map => in_list(schema, self.0, kind),
+        };
+        Declared(called_for(Some(&level)))
+    }
+
+    fn key(self, schema: &Schema, key: Kind, value: Kind) -> Self {
+        Declared(called_for(Some(&in_map(schema, self.0, key, value))))
+    }
+
+    fn value(self, schema: &Schema, key: Kind, value: Kind) -> Self {
+        let level = turn(in_map(schema, self.0, key, value));
+        Declared(called_for(Some(&level)))
+    }
+
+    #[inline(always)]
+    fn hint(self) -> Hint {
+        hint_at(self.0)
+    }
+
+    #[inline(always)]
+    fn mark(self, schema: &Schema) -> Mark {
+        mark_at(schema, self.0)
+    }
+}
+
+/// The level of a map between a key and its value.
+fn turn(level: Level) -> Level
+    ensures value { result ≡ turned level }
+    ensures known { (d : Declarations) → IsKnownLevel d level → IsKnownLevel d result }
+{
+    match level {
+        Level::Keys(key, value) => Level::Values(key, value),
+        other => other,
     }
 }

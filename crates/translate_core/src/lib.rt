@@ -11,6 +11,7 @@ mod known;
 mod laws;
 mod leaves;
 mod message;
+mod passing;
 mod quick;
 mod route;
 mod texts;
@@ -18,7 +19,7 @@ mod verdict;
 
 pub use answering::answer;
 pub use laws::an_answer_is_a_declared_failure;
-pub use message::{head_type, translate};
+pub use message::{head_type, translate, translate_quickly};
 pub use route::Route;
 pub use texts::{bar_text, reason_text};
 pub use verdict::{Cause, HeadInfo, Verdict};

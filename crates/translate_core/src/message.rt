@@ -11,10 +11,11 @@ ghost use Rattle.translate_core.specs.Body.{first_cause, source_of, target_of, g
 ghost use Rattle.translate_core.specs.Judged.{judge, IsJudged, after_body, body_bytes, kept, Grows, IsLeft, type_of};
 
 use crate::body::{body, first_cause};
+use crate::passing::pass_quickly;
 use crate::route::{Route, Told, told_of};
 use crate::verdict::{Cause, HeadInfo, Verdict};
 use gate_io::Out;
-use protocol_traits::{Bar, Fault, Head, WireRead, WireWrite};
+use protocol_traits::{Bar, Fault, FormRead, FormWrite, Head, WireRead, WireWrite};
 use thrift_value::MessageType;
 use type_tables::Schema;
 use type_walk::{Undeclared, Walk, Walking};
@@ -26,6 +27,7 @@ use type_walk::{Undeclared, Walk, Walking};
 /// `room` is the reader's, at least as long as the frame. The verdict is `Unread` where no front of the frame is a
 /// whole header, else `Refused` with the fault where the frame is no message, else `Refused` with the first value that
 /// is barred, the name before the others, and else `Passed`.
+#[inline(never)]
 pub fn translate<'f, R: WireRead<'f>, W: WireWrite>(
     schema: &Schema,
     route: Route,
@@ -58,6 +60,31 @@ pub fn translate<'f, R: WireRead<'f>, W: WireWrite>(
     let verdict = verdict_by(schema, told, &mut reader, &mut writer, barred, out);
     keep(&verdict, start, out);
     verdict
+}
+
+/// The same, by the quick way where it leads to the end, and else event by event.
+pub fn translate_quickly<'f, R: WireRead<'f> + FormRead, W: FormWrite>(
+    schema: &Schema,
+    route: Route,
+    frame: &'f [u8],
+    room: &'f mut [u8],
+    out: &mut Out,
+) -> Verdict
+    requires known { IsKnownRoute schema.now route }
+    requires room { length frame.now ≤ length room.old }
+    requires size { length frame.now < 2 ^ 31 }
+    requires fits { length out.old.bytes + (24 * length frame.now + 256) ≤ out.old.room }
+    ensures exact { IsJudged result out.old.bytes out.new.bytes
+        (judge (source_of R.begun R.reads_head R.reads R.reads_end R.value_place R.ahead) typed (start_of schema.now route) (info_of schema.now route)
+        (target_of W.begun W.name_bar W.plain_head W.bar W.plain W.after) frame.now) }
+    ensures left { IsLeft result out.old.bytes out.new.bytes }
+    ensures room { out.new.room ≡ out.old.room }
+    ensures short { length out.new.bytes ≤ length out.old.bytes + (24 * length frame.now + 256) }
+{
+    match pass_quickly::<R, W>(schema, route, frame, out) {
+        Some(info) => Verdict::Passed(info),
+        None => translate::<R, W>(schema, route, frame, room, out),
+    }
 }
 
 /// The type that a frame's header tells, or the fault that stands in the header.

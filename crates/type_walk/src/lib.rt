@@ -16,7 +16,7 @@ mod walking;
 
 pub use levels::Level;
 pub use types::{
-    called_for, declared_in, declared_type, hint_at, in_list, in_map, in_set, in_struct,
+    called_for, declared_in, declared_type, hint_at, in_list, in_map, in_set, in_struct, mark_at,
 };
 pub use undeclared::Undeclared;
 pub use walk::Walk;
