@@ -9,10 +9,12 @@ use crate::lay::{
     container_end, flag_word, lay_both, lay_field, lay_whole, quoted_name, stand_key, stand_lead,
     stop_marks,
 };
+use crate::put::put_head;
 use crate::writer::{JsonWrite, is_text, is_uuid};
 use cell_writes::lay;
+use gate_io::Out;
 use json_text::{lay_int, lay_text};
-use protocol_traits::{Container, FormWrite, Hint, Mark, Opening, Stand};
+use protocol_traits::{Container, FormWrite, Head, Hint, Mark, Opening, Stand};
 use thrift_value::Kind;
 
 impl FormWrite for JsonWrite {
@@ -34,6 +36,11 @@ impl FormWrite for JsonWrite {
     #[inline(always)]
     fn is_marked() -> bool {
         true
+    }
+
+    #[inline(always)]
+    fn front(head: &Head<'_>, out: &mut Out) {
+        put_head(head, out);
     }
 
     #[inline(always)]
