@@ -6,7 +6,7 @@ ghost use Rattle.compact_protocol.specs.Codes.{code_of};
 ghost use Rattle.compact_protocol.specs.Plain.{field_spelling, elements_spelling};
 ghost use Rattle.compact_protocol.specs.WriteForms.{stands_at, starts_at, goes_on};
 
-use crate::writer::{CompactWrite, code_of, flag_code, short_step};
+use crate::writer::{CompactWrite, code_of, flag_code, put_head, short_step};
 use cell_writes::{lay, lay_part};
 use gate_io::Out;
 use protocol_traits::{Container, FormWrite, Head, Hint, Mark, Opening, Stand, UUID};
