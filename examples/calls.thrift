@@ -1,12 +1,13 @@
-// The services of the sample messages that make_messages writes.
-struct Order {
-  1: i8 urgency, 2: i16 shelf, 3: i32 amount, 4: i64 account, 5: bool paid,
-  6: string customer, 7: string street, 8: binary seal,
-  9: list<i32> marks, 10: map<string, i64> prices
-}
-service Shop {
-  Order place(1: Order order, 2: string note),
-  Order find(1: i64 account, 2: string customer, 3: i16 shelf, 4: i8 urgency, 5: i32 amount,
-             6: list<string> words, 7: map<i32, string> notes),
-  oneway void log(1: string line, 2: i32 level)
+// The methods of the ten calls in calls.binary.
+service Calls {
+  void ping(),
+  i32 add(1: i32 first, 2: i32 second),
+  string find(1: i64 account, 2: string words, 3: i16 shelf),
+  void log(1: string line, 2: i32 level),
+  void name(1: string name),
+  i64 count(1: i8 small, 2: i16 middle, 3: i32 large, 4: i64 largest),
+  void store(1: string key, 2: string value, 3: i64 until),
+  void move(1: i16 from_shelf, 2: i16 to_shelf, 3: string label, 4: i8 urgency),
+  void mark(1: i64 account, 2: i64 mark),
+  void end(1: string first, 2: i8 tiny, 3: string second, 4: i16 short, 5: string third, 6: i32 whole, 7: string fourth, 8: i64 long)
 }

@@ -64,7 +64,7 @@ step_wide z s next nest bytes a step = by_nest nest (reads_read s nest bytes z n
     by_nest [] (taken, scan, is) = absurd (no_fault _ (z, taken) scan)
     by_nest (slot ∷ up) (taken, scan, is) = ap (λ (x : State). x.place) is ∙ ap (λ n. s.place + n) (item_wide (suc (length up)) slot bytes z taken scan)
 
-reads_wide : (zs : List Item) (s last : State) (nest : List Slot) (bytes : List ℕ) → At s nest bytes → AreBytes bytes → length nest ≤ 256 → Reads s zs last → last.place ≡ s.place + width_of_all zs
+pub reads_wide : (zs : List Item) (s last : State) (nest : List Slot) (bytes : List ℕ) → At s nest bytes → AreBytes bytes → length nest ≤ 256 → Reads s zs last → last.place ≡ s.place + width_of_all zs
 reads_wide [] s last nest bytes a are most r = let same = ap (λ (x : State). x.place) r in omega (arith, same)
 reads_wide (z ∷ zs) s last nest bytes a are most (next, step, more) =
     let one = step_wide z s next nest bytes a step in

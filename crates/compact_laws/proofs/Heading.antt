@@ -8,7 +8,8 @@ use Rattle.thrift_value.specs.declared.kind.MessageType.TheVariants as types
 use Rattle.thrift_value.specs.Trees.{Message}
 use Rattle.compact_protocol.specs.Codes.{type_code}
 use Rattle.compact_protocol.specs.Scan.{varint32_at, type_at, front_at, string_at}
-use Rattle.compact_protocol.specs.Grammar.{SpellsHeader}
+use Rattle.varint_zigzag.specs.Varint.{Spells}
+use Rattle.compact_protocol.specs.Grammar.{IsString, SpellsHeader}
 use Rattle.binary_laws.proofs.Heading.{drop_front}
 use Rattle.compact_laws.proofs.Leaves.{varint32_again, string_again}
 
@@ -30,6 +31,13 @@ pub record IsHeaded (m : Message) (header body : List ℕ) : Type 0 where
   pub front : front_at (header ++ body) ≡ Ok ((m.mtype, m.seq), at)
   pub name : string_at (drop at (header ++ body)) ≡ Ok (m.name, long)
   pub whole : at + long ≡ length header
+  -- the name stands behind the two first bytes and the sequence number
+  pub number : List ℕ
+  pub text : List ℕ
+  pub seq : Spells 5 32 number (cast_unsigned w32 m.seq)
+  pub named : IsString m.name text
+  pub laid : header ≡ 130 ∷ (32 * type_code m.mtype + 1) ∷ (number ++ text)
+  pub behind : at ≡ length number + 2
 
 pub head_again : (m : Message) (header body : List ℕ) → SpellsHeader m header → IsHeaded m header body
 head_again m header body (fits, (number, name, seq, named, laid)) =
@@ -47,4 +55,10 @@ head_again m header body (fits, (number, name, seq, named, laid)) =
       front = ap front_at is ∙ front ∙ ap (λ z. Ok ((t, z), 2 + length number)) (to_z-of_z w32 m.seq fits);
       name = ap (λ l. string_at (drop (2 + length number) l)) is ∙ ap string_at behind ∙ string_again m.name name body named;
       whole = omega (arith, ap length laid, length-append number name);
+      number = number;
+      text = name;
+      seq = seq;
+      named = named;
+      laid = laid;
+      behind = omega arith;
     }

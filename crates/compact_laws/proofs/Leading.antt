@@ -68,7 +68,7 @@ one_led item items s next last (slot ∷ up) flag bytes a (taken, scan, is) go =
       onward = (λ others tail ends. subst (Ends 257 flag nest (item ∷ (items ++ others))) (sym (append_assoc st.front more.front tail)) (st.onward 257 (omega arith) (items ++ others) (more.front ++ tail) (more.onward others tail ends)));
     }
 
-led : (items : List Item) (s last : State) (nest : List Slot) (flag : Bool) (bytes : List ℕ) → Stands s nest flag bytes → Reads s items last → Led items last nest flag bytes
+pub led : (items : List Item) (s last : State) (nest : List Slot) (flag : Bool) (bytes : List ℕ) → Stands s nest flag bytes → Reads s items last → Led items last nest flag bytes
 led [] s last nest flag bytes a r = record { front = []; left = bytes; inner = nest; flag = flag; laid = refl; leads = (refl, refl); stands = subst (λ x. Stands x nest flag bytes) r a; onward = (λ others tail ends. ends) }
 led (item ∷ items) s last nest flag bytes a (next, step, more) = one_led item items s next last nest flag bytes a (reads_read s nest flag bytes item next a.at step) (λ inner told rest b. led items next last inner told rest b more)
 

@@ -6,6 +6,7 @@ use Rattle.std.specs.Io.KnownBytes.{Appends, append_known}
 use Rattle.std.proofs.lemmas.Grind.{flat_map-append}
 use Rattle.std.proofs.lemmas.List.Sums.{sum_by_push}
 use Rattle.framed_transport.specs.Frames.{framed}
+use Rattle.drill_messages.specs.declared.sizes.TheConstants.{MESSAGE_ROOM}
 use Rattle.drill_messages.specs.declared.totals.Totals.{Totals}
 use Rattle.drill_messages.specs.Messages.{Put, message, behind_message, messages_from, messages}
 use Rattle.drill_messages.specs.Outcome.{stream_of, totals_of}
@@ -54,7 +55,7 @@ pub record Going (seed : ℕ) (before now : Option (List ℕ)) (n : ℕ) (totals
   pub gathered : Appends before (append_known now waiting) (stream_of (messages_from n 0 seed))
   pub sent : List ℕ
   pub was_sent : Appends before now sent
-  pub within : IsWithin totals (n * 3244)
+  pub within : IsWithin totals (n * MESSAGE_ROOM)
 
 pub going_from : (seed : ℕ) (written : Option (List ℕ)) (waiting : List ℕ) → waiting ≡ [] → Going seed written written 0 (record { binary = 0; compact = 0; json = 0 }) seed waiting
 going_from seed written waiting none =
@@ -80,7 +81,7 @@ module _ (seed : ℕ) (before now : Option (List ℕ)) (n : ℕ) (totals : Total
       }
 
   pub going_on : (totals' more : Totals) (state' : ℕ) (waiting' : List ℕ) → waiting' ≡ waiting ++ framed (binary_of (message n state)) → more ≡ lengths_of (message n state)
-      → IsWithin more 3244 → totals' ≡ sum_of totals more → state' ≡ behind_message state → Going seed before now (n + 1) totals' state' waiting'
+      → IsWithin more MESSAGE_ROOM → totals' ≡ sum_of totals more → state' ≡ behind_message state → Going seed before now (n + 1) totals' state' waiting'
   going_on totals' more state' waiting' waits long short both next =
       let made : message n state ≡ message n (behind_messages n seed) = ap (message n) g.state_is in
       let all : messages_from (suc n) 0 seed ≡ messages_from n 0 seed ++ message n state ∷ [] =

@@ -3,6 +3,7 @@ ghost use Rattle.std.specs.Prelude.{◌≡◌, ◌<◌, ◌^◌, map};
 ghost use Rattle.drill_messages.specs.Draws.{stepped, draw, some, behind_some};
 ghost use Rattle.drill_messages.specs.Messages.{id_of, letter_of, byte_of, mark_of, flag_of, name_from};
 
+use crate::sizes::{MOST_FLAGS, MOST_LETTERS, MOST_MARKS, MOST_RAW};
 use arrayvec::ArrayVec;
 
 /// A linear congruential generator modulo 2^64, with the constants of Knuth's MMIX.
@@ -46,7 +47,7 @@ impl Draws {
 
     /// Fewer than 12 small letters.
     #[inline]
-    pub fn letters(&mut self) -> ArrayVec<u8, 11>
+    pub fn letters(&mut self) -> ArrayVec<u8, MOST_LETTERS>
         ensures drawn { result.items ≡ map letter_of (some 12 self.old.state) }
         ensures state { self.new.state ≡ behind_some 12 self.old.state }
     {
@@ -60,7 +61,7 @@ impl Draws {
 
     /// Fewer than 16 bytes.
     #[inline]
-    pub fn bytes(&mut self) -> ArrayVec<u8, 15>
+    pub fn bytes(&mut self) -> ArrayVec<u8, MOST_RAW>
         ensures drawn { result.items ≡ map byte_of (some 16 self.old.state) }
         ensures state { self.new.state ≡ behind_some 16 self.old.state }
     {
@@ -72,9 +73,9 @@ impl Draws {
         bytes
     }
 
-    /// Fewer than 6 numbers.
+    /// The numbers of an item's list `marks`, fewer than 6.
     #[inline]
-    pub fn marks(&mut self) -> ArrayVec<i32, 5>
+    pub fn marks(&mut self) -> ArrayVec<i32, MOST_MARKS>
         ensures drawn { result.items ≡ map mark_of (some 6 self.old.state) }
         ensures state { self.new.state ≡ behind_some 6 self.old.state }
     {
@@ -88,7 +89,7 @@ impl Draws {
 
     /// Fewer than 4 flags.
     #[inline]
-    pub fn flags(&mut self) -> ArrayVec<bool, 3>
+    pub fn flags(&mut self) -> ArrayVec<bool, MOST_FLAGS>
         ensures drawn { result.items ≡ map flag_of (some 4 self.old.state) }
         ensures state { self.new.state ≡ behind_some 4 self.old.state }
     {

@@ -10,7 +10,8 @@ ghost use Rattle.drill_messages.specs.Rooms.{IsOpen};
 
 use crate::Totals;
 use crate::draws::Draws;
-use crate::rooms::{FRAME_ROOM, Rooms, added, make_one, open};
+use crate::rooms::{Rooms, added, make_one, open};
+use crate::sizes::{FRAME_ROOM, MOST_MESSAGES, STREAM_ROOM};
 use gate_base::OutOfMemory;
 use gate_io::{Out, Sink, Wrote, flush};
 use std::alloc::Global;
@@ -31,8 +32,9 @@ pub enum Drilled {
 /// `WriteFault`: the output failed, and a front of these bytes was written. `OutOfMemory`: memory is taken before the
 /// first message is made, and wasn't found.
 pub fn drill<O: Sink>(alloc: Global, seed: u64, count: u64, output: &mut O) -> Drilled
-    requires { count ≤ 1000000 }
-    ensures done { IfDone result (λ totals. (totals ≡ totals_of (messages seed count)) × Appends (O.written output.old) (O.written output.new) (stream_of (messages seed count))) }
+    requires { count ≤ MOST_MESSAGES }
+    ensures done { let made = messages seed count in
+        IfDone result (λ totals. (totals ≡ totals_of made) × Appends (O.written output.old) (O.written output.new) (stream_of made)) }
     ensures front { AppendsFront (O.written output.old) (O.written output.new) (stream_of (messages seed count)) }
     ensures memory { result ≡ Drilled.OutOfMemory → output.new ≡ output.old }
     ensures later { O.faults output.old ≤ O.faults output.new }
@@ -49,10 +51,11 @@ pub fn drill<O: Sink>(alloc: Global, seed: u64, count: u64, output: &mut O) -> D
 
 /// Makes and writes all messages, or gives up where the output fails.
 fn make_all<O: Sink>(rooms: &mut Rooms, seed: u64, count: u64, output: &mut O) -> Option<Totals>
-    requires count { count ≤ 1000000 }
+    requires count { count ≤ MOST_MESSAGES }
     requires open { IsOpen rooms.old }
     requires nothing { rooms.old.stream.bytes ≡ [] }
-    ensures done { IfSome result (λ totals. (totals ≡ totals_of (messages seed count)) × Appends (O.written output.old) (O.written output.new) (stream_of (messages seed count))) }
+    ensures done { let made = messages seed count in
+        IfSome result (λ totals. (totals ≡ totals_of made) × Appends (O.written output.old) (O.written output.new) (stream_of made)) }
     ensures front { AppendsFront (O.written output.old) (O.written output.new) (stream_of (messages seed count)) }
     ensures later { O.faults output.old ≤ O.faults output.new }
     ensures cause { result ≡ None → Rose (O.faults output.old) (O.faults output.new) }
@@ -79,8 +82,8 @@ fn make_all<O: Sink>(rooms: &mut Rooms, seed: u64, count: u64, output: &mut O) -
 
 /// Writes what was gathered where there is no room for one message more.
 fn make_room<O: Sink>(stream: &mut Out, output: &mut O) -> Wrote
-    requires { stream.old.room ≡ 65536 }
-    ensures all { result ≡ Wrote.All → length stream.new.bytes + FRAME_ROOM ≤ 65536 }
+    requires { stream.old.room ≡ STREAM_ROOM }
+    ensures all { result ≡ Wrote.All → length stream.new.bytes + FRAME_ROOM ≤ STREAM_ROOM }
     ensures flushed { result ≡ Wrote.All → Flushed (O.written output.old) stream.old.bytes (O.written output.new) stream.new.bytes }
     ensures room { stream.new.room ≡ stream.old.room }
     ensures front { AppendsFront (O.written output.old) (O.written output.new) stream.old.bytes }

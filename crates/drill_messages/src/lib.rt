@@ -14,6 +14,7 @@ mod item;
 mod making;
 mod putting;
 mod rooms;
+mod sizes;
 mod totals;
 
 pub use drilling::{Drilled, drill};

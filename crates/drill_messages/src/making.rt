@@ -6,10 +6,8 @@ ghost use Rattle.drill_messages.specs.Views.{fields_of, all_fields};
 
 use crate::draws::Draws;
 use crate::item::Item;
+use crate::sizes::MOST_ITEMS;
 use arrayvec::ArrayVec;
-
-/// The most items in a message.
-pub const MOST: usize = 7;
 
 /// The next item.
 #[inline]
@@ -33,7 +31,7 @@ fn draw_item(draws: &mut Draws) -> Item
 }
 
 /// The items of the next message.
-pub fn draw_items(draws: &mut Draws) -> ArrayVec<Item, MOST>
+pub fn draw_items(draws: &mut Draws) -> ArrayVec<Item, MOST_ITEMS>
     ensures drawn { all_fields result.items ≡ items (draw draws.old.state % 8) (stepped draws.old.state) }
     ensures state { draws.new.state ≡ behind_message draws.old.state }
 {

@@ -12,12 +12,14 @@ ghost use Rattle.drill_messages.specs.Views.{fields_of, all_fields};
 ghost use Rattle.drill_messages.specs.Writers.{TakesAll, Writes};
 
 use crate::item::Item;
+use crate::sizes::{
+    FLAGS_ROOM, ID_ROOM, ITEM_ROOM, ITEMS_ROOM, MARKS_ROOM, MESSAGE_ROOM, MOST_FLAGS, MOST_ITEMS,
+    MOST_LETTERS, MOST_MARKS, MOST_MESSAGES, MOST_RAW, NAME_ROOM, NUMBERS_ROOM, PAIRS_ROOM,
+    RAW_ROOM,
+};
 use gate_io::Out;
 use protocol_traits::{Head, Hint, Mark, WireWrite};
 use thrift_value::{Event, Kind, MessageType};
-
-/// The most bytes that any protocol spells a message in.
-pub const MESSAGE_ROOM: usize = 3244;
 
 /// Nothing about the position matters to the event.
 const OTHER: Mark = Mark {
@@ -46,11 +48,12 @@ const FLAGS: Mark = Mark {
 
 /// Appends a call of `put` with these items.
 pub fn put_message<W: WireWrite>(seq: u64, items: &[Item], out: &mut Out)
-    requires seq { seq < 1000000 }
+    requires seq { seq < MOST_MESSAGES }
     requires takes { TakesAll W.name_bar W.bar }
-    requires few { length items.now ≤ 7 }
+    requires few { length items.now ≤ MOST_ITEMS }
     requires room { length out.old.bytes + MESSAGE_ROOM ≤ out.old.room }
-    ensures out { out.new ≡ record out.old { bytes = out.old.bytes ++ (W.plain_head (call (pos seq)) ++ spelled W.plain W.after W.begun (body_events (all_fields items.now))) } }
+    ensures out { let body = spelled W.plain W.after W.begun (body_events (all_fields items.now)) in
+        out.new ≡ record out.old { bytes = out.old.bytes ++ (W.plain_head (call (pos seq)) ++ body) } }
     ensures short { length out.new.bytes ≤ length out.old.bytes + MESSAGE_ROOM }
 {
     let mut writer = W::over();
@@ -69,7 +72,7 @@ pub fn put_message<W: WireWrite>(seq: u64, items: &[Item], out: &mut Out)
 
 /// The header of a call of `put`.
 fn call(seq: u64) -> Head<'static>
-    requires { seq < 1000000 }
+    requires { seq < MOST_MESSAGES }
     ensures head { header_of result ≡ call (pos seq) }
     ensures name { length result.name.now ≡ 3 }
 {
@@ -82,12 +85,12 @@ fn call(seq: u64) -> Head<'static>
 
 fn put_items<W: WireWrite>(items: &[Item], writer: &mut W, out: &mut Out)
     requires takes { TakesAll W.name_bar W.bar }
-    requires few { length items.now ≤ 7 }
+    requires few { length items.now ≤ MOST_ITEMS }
     requires open { W.depth writer.old ≡ 2 }
-    requires room { length out.old.bytes + 3164 ≤ out.old.room }
+    requires room { length out.old.bytes + ITEMS_ROOM ≤ out.old.room }
     ensures written { Writes W.plain W.after writer.old out.old writer.new out.new (flat_map item_events (all_fields items.now)) }
     ensures depth { W.depth writer.new ≡ 2 }
-    ensures short { length out.new.bytes ≤ length out.old.bytes + 3164 }
+    ensures short { length out.new.bytes ≤ length out.old.bytes + ITEMS_ROOM }
 {
     for item in items {
         put_item(item, writer, out);
@@ -97,10 +100,10 @@ fn put_items<W: WireWrite>(items: &[Item], writer: &mut W, out: &mut Out)
 fn put_item<W: WireWrite>(item: &Item, writer: &mut W, out: &mut Out)
     requires takes { TakesAll W.name_bar W.bar }
     requires open { W.depth writer.old ≡ 2 }
-    requires room { length out.old.bytes + 452 ≤ out.old.room }
+    requires room { length out.old.bytes + ITEM_ROOM ≤ out.old.room }
     ensures written { Writes W.plain W.after writer.old out.old writer.new out.new (item_events (fields_of item.now)) }
     ensures depth { W.depth writer.new ≡ 2 }
-    ensures short { length out.new.bytes ≤ length out.old.bytes + 452 }
+    ensures short { length out.new.bytes ≤ length out.old.bytes + ITEM_ROOM }
 {
     put_event(&Event::StructBegin, OTHER, writer, out);
     put_id(item.id, writer, out);
@@ -115,10 +118,10 @@ fn put_item<W: WireWrite>(item: &Item, writer: &mut W, out: &mut Out)
 fn put_id<W: WireWrite>(id: i64, writer: &mut W, out: &mut Out)
     requires takes { TakesAll W.name_bar W.bar }
     requires open { W.depth writer.old ≡ 3 }
-    requires room { length out.old.bytes + 41 ≤ out.old.room }
+    requires room { length out.old.bytes + ID_ROOM ≤ out.old.room }
     ensures written { Writes W.plain W.after writer.old out.old writer.new out.new (id_events id) }
     ensures depth { W.depth writer.new ≡ 3 }
-    ensures short { length out.new.bytes ≤ length out.old.bytes + 41 }
+    ensures short { length out.new.bytes ≤ length out.old.bytes + ID_ROOM }
 {
     put_event(&Event::Field(1, Kind::I64), OTHER, writer, out);
     put_event(&Event::I64(id), OTHER, writer, out);
@@ -128,12 +131,12 @@ fn put_id<W: WireWrite>(id: i64, writer: &mut W, out: &mut Out)
 fn put_name<W: WireWrite>(name: &[u8], writer: &mut W, out: &mut Out)
     requires takes { TakesAll W.name_bar W.bar }
     requires text { IsAscii name.now }
-    requires few { length name.now ≤ 11 }
+    requires few { length name.now ≤ MOST_LETTERS }
     requires open { W.depth writer.old ≡ 3 }
-    requires room { length out.old.bytes + 88 ≤ out.old.room }
+    requires room { length out.old.bytes + NAME_ROOM ≤ out.old.room }
     ensures written { Writes W.plain W.after writer.old out.old writer.new out.new (name_events name.now) }
     ensures depth { W.depth writer.new ≡ 3 }
-    ensures short { length out.new.bytes ≤ length out.old.bytes + 88 }
+    ensures short { length out.new.bytes ≤ length out.old.bytes + NAME_ROOM }
 {
     put_event(&Event::Field(2, Kind::Str), OTHER, writer, out);
     put_event(&Event::Str(name), TEXT, writer, out);
@@ -142,12 +145,12 @@ fn put_name<W: WireWrite>(name: &[u8], writer: &mut W, out: &mut Out)
 #[inline(always)]
 fn put_raw<W: WireWrite>(raw: &[u8], writer: &mut W, out: &mut Out)
     requires takes { TakesAll W.name_bar W.bar }
-    requires few { length raw.now ≤ 15 }
+    requires few { length raw.now ≤ MOST_RAW }
     requires open { W.depth writer.old ≡ 3 }
-    requires room { length out.old.bytes + 112 ≤ out.old.room }
+    requires room { length out.old.bytes + RAW_ROOM ≤ out.old.room }
     ensures written { Writes W.plain W.after writer.old out.old writer.new out.new (raw_events raw.now) }
     ensures depth { W.depth writer.new ≡ 3 }
-    ensures short { length out.new.bytes ≤ length out.old.bytes + 112 }
+    ensures short { length out.new.bytes ≤ length out.old.bytes + RAW_ROOM }
 {
     put_event(&Event::Field(3, Kind::Str), OTHER, writer, out);
     put_event(&Event::Str(raw), BYTES, writer, out);
@@ -156,12 +159,12 @@ fn put_raw<W: WireWrite>(raw: &[u8], writer: &mut W, out: &mut Out)
 #[inline(always)]
 fn put_marks<W: WireWrite>(marks: &[i32], writer: &mut W, out: &mut Out)
     requires takes { TakesAll W.name_bar W.bar }
-    requires few { length marks.now ≤ 5 }
+    requires few { length marks.now ≤ MOST_MARKS }
     requires open { W.depth writer.old ≡ 3 }
-    requires room { length out.old.bytes + 113 ≤ out.old.room }
+    requires room { length out.old.bytes + MARKS_ROOM ≤ out.old.room }
     ensures written { Writes W.plain W.after writer.old out.old writer.new out.new (marks_events marks.now) }
     ensures depth { W.depth writer.new ≡ 3 }
-    ensures short { length out.new.bytes ≤ length out.old.bytes + 113 }
+    ensures short { length out.new.bytes ≤ length out.old.bytes + MARKS_ROOM }
 {
     put_event(&Event::Field(4, Kind::List), OTHER, writer, out);
     put_event(
@@ -176,12 +179,12 @@ fn put_marks<W: WireWrite>(marks: &[i32], writer: &mut W, out: &mut Out)
 #[inline(always)]
 fn put_numbers<W: WireWrite>(marks: &[i32], writer: &mut W, out: &mut Out)
     requires takes { TakesAll W.name_bar W.bar }
-    requires few { length marks.now ≤ 5 }
+    requires few { length marks.now ≤ MOST_MARKS }
     requires open { W.depth writer.old ≡ 4 }
-    requires room { length out.old.bytes + 77 ≤ out.old.room }
+    requires room { length out.old.bytes + NUMBERS_ROOM ≤ out.old.room }
     ensures written { Writes W.plain W.after writer.old out.old writer.new out.new (numbers marks.now ++ (end, other) ∷ []) }
     ensures depth { W.depth writer.new ≡ 3 }
-    ensures short { length out.new.bytes ≤ length out.old.bytes + 77 }
+    ensures short { length out.new.bytes ≤ length out.old.bytes + NUMBERS_ROOM }
 {
     for mark in marks {
         put_event(&Event::I32(*mark), OTHER, writer, out);
@@ -192,12 +195,12 @@ fn put_numbers<W: WireWrite>(marks: &[i32], writer: &mut W, out: &mut Out)
 #[inline(always)]
 fn put_flags<W: WireWrite>(flags: &[bool], writer: &mut W, out: &mut Out)
     requires takes { TakesAll W.name_bar W.bar }
-    requires few { length flags.now ≤ 3 }
+    requires few { length flags.now ≤ MOST_FLAGS }
     requires open { W.depth writer.old ≡ 3 }
-    requires room { length out.old.bytes + 92 ≤ out.old.room }
+    requires room { length out.old.bytes + FLAGS_ROOM ≤ out.old.room }
     ensures written { Writes W.plain W.after writer.old out.old writer.new out.new (flags_events flags.now) }
     ensures depth { W.depth writer.new ≡ 3 }
-    ensures short { length out.new.bytes ≤ length out.old.bytes + 92 }
+    ensures short { length out.new.bytes ≤ length out.old.bytes + FLAGS_ROOM }
 {
     put_event(&Event::Field(5, Kind::Map), OTHER, writer, out);
     if flags.is_empty() {
@@ -216,12 +219,12 @@ fn put_flags<W: WireWrite>(flags: &[bool], writer: &mut W, out: &mut Out)
 #[inline(always)]
 fn put_pairs<W: WireWrite>(flags: &[bool], writer: &mut W, out: &mut Out)
     requires takes { TakesAll W.name_bar W.bar }
-    requires few { length flags.now ≤ 3 }
+    requires few { length flags.now ≤ MOST_FLAGS }
     requires open { W.depth writer.old ≡ 4 }
-    requires room { length out.old.bytes + 50 ≤ out.old.room }
+    requires room { length out.old.bytes + PAIRS_ROOM ≤ out.old.room }
     ensures written { Writes W.plain W.after writer.old out.old writer.new out.new (pairs 97 flags.now ++ (end, other) ∷ []) }
     ensures depth { W.depth writer.new ≡ 3 }
-    ensures short { length out.new.bytes ≤ length out.old.bytes + 50 }
+    ensures short { length out.new.bytes ≤ length out.old.bytes + PAIRS_ROOM }
 {
     let mut key = b'a';
     for flag in flags {

@@ -12,7 +12,8 @@ use crate::Totals;
 use crate::draws::Draws;
 use crate::item::Item;
 use crate::making::draw_items;
-use crate::putting::{MESSAGE_ROOM, put_message};
+use crate::putting::put_message;
+use crate::sizes::{FRAME_ROOM, MESSAGE_ROOM, MOST_ITEMS, MOST_MESSAGES, STREAM_ROOM, TOTAL_ROOM};
 use binary_protocol::BinaryWrite;
 use compact_protocol::CompactWrite;
 use framed_transport::{begin, close};
@@ -21,12 +22,6 @@ use gate_io::Out;
 use json_protocol::JsonWrite;
 use protocol_traits::WireWrite;
 use std::alloc::Global;
-
-/// So many bytes are gathered for one write.
-const STREAM_ROOM: usize = 64 << 10;
-
-/// The most bytes of a message's frame.
-pub const FRAME_ROOM: usize = 3248;
 
 /// Where messages are spelled: the frames that wait to be written, and the last message in the other protocols.
 #[derive(Drop)]
@@ -51,9 +46,9 @@ pub fn open(alloc: Global) -> Result<Rooms, OutOfMemory>
 
 /// Makes the next message, appends its frame to those that wait and says how long it is.
 pub fn make_one(rooms: &mut Rooms, draws: &mut Draws, seq: u64) -> Totals
-    requires seq { seq < 1000000 }
+    requires seq { seq < MOST_MESSAGES }
     requires open { IsOpen rooms.old }
-    requires room { length rooms.old.stream.bytes + FRAME_ROOM ≤ 65536 }
+    requires room { length rooms.old.stream.bytes + FRAME_ROOM ≤ STREAM_ROOM }
     ensures open { IsOpen rooms.new }
     ensures stream { rooms.new.stream.bytes ≡ rooms.old.stream.bytes ++ framed (binary_of (message seq draws.old.state)) }
     ensures lengths { result ≡ lengths_of (message seq draws.old.state) }
@@ -71,10 +66,10 @@ pub fn make_one(rooms: &mut Rooms, draws: &mut Draws, seq: u64) -> Totals
 /// Appends the message's frame in the Binary protocol, and says how long the message is.
 #[tactic(auto, unfolding(crate::specs::Spellings::binary_of))]
 fn put_frame(seq: u64, items: &[Item], out: &mut Out) -> u64
-    requires seq { seq < 1000000 }
-    requires few { length items.now ≤ 7 }
+    requires seq { seq < MOST_MESSAGES }
+    requires few { length items.now ≤ MOST_ITEMS }
     requires room { length out.old.bytes + FRAME_ROOM ≤ out.old.room }
-    requires small { out.old.room ≤ 65536 }
+    requires small { out.old.room ≤ STREAM_ROOM }
     ensures out { out.new ≡ record out.old { bytes = out.old.bytes ++ framed (binary_of (record { seq = seq; items = all_fields items.now })) } }
     ensures length { result ≡ length (binary_of (record { seq = seq; items = all_fields items.now })) }
     ensures within { result ≤ MESSAGE_ROOM }
@@ -88,9 +83,9 @@ fn put_frame(seq: u64, items: &[Item], out: &mut Out) -> u64
 
 /// How long the message is in a protocol.
 fn length_in<W: WireWrite>(seq: u64, items: &[Item], room: &mut Out) -> u64
-    requires seq { seq < 1000000 }
+    requires seq { seq < MOST_MESSAGES }
     requires takes { TakesAll W.name_bar W.bar }
-    requires few { length items.now ≤ 7 }
+    requires few { length items.now ≤ MOST_ITEMS }
     requires room { MESSAGE_ROOM ≤ room.old.room }
     ensures room { room.new.room ≡ room.old.room }
     ensures length { result ≡ length (W.plain_head (call (pos seq)) ++ spelled W.plain W.after W.begun (body_events (all_fields items.now))) }
@@ -103,7 +98,7 @@ fn length_in<W: WireWrite>(seq: u64, items: &[Item], room: &mut Out) -> u64
 
 /// Both together.
 pub fn added(totals: Totals, more: Totals) -> Totals
-    requires totals { IsWithin totals 3244000000 }
+    requires totals { IsWithin totals TOTAL_ROOM }
     requires more { IsWithin more MESSAGE_ROOM }
     ensures { result ≡ sum_of totals more }
 {

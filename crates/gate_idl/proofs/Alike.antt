@@ -1,9 +1,7 @@
 -- What files are refused for, by how their definitions stand to cycles, whichever way that is written down.
 use Rattle.std.proofs.Common.{◌≡◌, ℕ, suc, List, [], ◌∷◌, ◌++◌, Bool, not, Option, Some, None, slice_get, refl, ap, sym, ◌∙◌}
-use Rattle.idl_parser.specs.declared.document.Name.{Name}
-use Rattle.idl_parser.specs.Declarations.{DefinitionTree, FunctionTree, const_of, typedef_of, enum_of, struct_of, service_of}
-use Rattle.idl_parser.specs.Fields.{FieldTree}
-use Rattle.idl_parser.specs.Trees.{TypeTree, base_at, named_at, map_at, set_at, list_at}
+use Rattle.idl_document.specs.declared.document.Name.{Name}
+use Rattle.idl_document.specs.Trees.{DefinitionTree, FunctionTree, const_of, typedef_of, enum_of, struct_of, service_of, FieldTree, TypeTree, base_at, named_at, map_at, set_at, list_at}
 use Rattle.idl_names.specs.declared.cycles.Cycle.{Cycle}
 use Rattle.idl_names.specs.declared.cycles.Cycle.TheVariants as cycles
 use Rattle.idl_rules.specs.declared.scopes.Scope.TheVariants as scopes

@@ -8,7 +8,7 @@ use Rattle.idl_schema.specs.Schema.{declarations_of}
 use Rattle.idl_consts.specs.declared.row.ConstFault.{ConstFault}
 use Rattle.idl_consts.specs.Told.{Told, IsTold}
 use Rattle.gate_idl.specs.declared.refusal.Refusal.{Refusal}
-use Rattle.gate_idl.specs.declared.refusal.Row.TheVariants as rows
+use Rattle.gate_idl.specs.declared.refusal.ErrorCode.TheVariants as rows
 use Rattle.gate_idl.specs.Opening.{IsOpened, Opened, Unloaded, Unlawful, Unfit, Good, misfit, refused}
 use Rattle.gate_idl.proofs.Alike.{first_once}
 

@@ -37,6 +37,13 @@ opens_stopped holds root errors.FileFault h = tt
 opens_stopped holds root errors.OutOfMemory h = tt
 
 pub cause_of : (error : LoadError) (before now : ℕ) → load_cause {X = Loaded} (Err error) before now → HasCause {X = Declarations} (Err (stop_by error)) before now
-cause_of (errors.Idl fault) before now h = tt
+cause_of (errors.Idl fault) before now h = h
 cause_of errors.FileFault before now h = h
-cause_of errors.OutOfMemory before now h = tt
+cause_of errors.OutOfMemory before now h = h
+
+-- values are checked without a look at the files
+pub cause_behind : (files : List FileTree) (schema : Declarations) (r : Result Declarations Stop) (before now : ℕ) → now ≡ before → Checks files schema r → HasCause r before now
+cause_behind files schema (Ok d) before now e h = e
+cause_behind files schema (Err (Refused r)) before now e h = e
+cause_behind files schema (Err FileFault) before now e h = absurd h
+cause_behind files schema (Err OutOfMemory) before now e h = e

@@ -14,7 +14,7 @@ use Rattle.type_tables.specs.Declarations.{Declarations}
 use Rattle.gate_idl.specs.declared.opening.Stop.{Stop}
 use Rattle.gate_idl.specs.declared.opening.Stop.TheVariants.{Refused, FileFault, OutOfMemory}
 use Rattle.gate_idl.specs.declared.refusal.Refusal.{Refusal}
-use Rattle.gate_idl.specs.declared.refusal.Row.TheVariants as rows
+use Rattle.gate_idl.specs.declared.refusal.ErrorCode.TheVariants as rows
 
 abbrev pub Opened : Type 0
 Opened = Result Declarations Refusal
@@ -60,8 +60,9 @@ Checks files schema (Err (Refused refusal)) = (fault : ConstFault) × IsMisfit f
 Checks files schema (Err FileFault) = ⊥
 Checks files schema (Err OutOfMemory) = ⊤
 
+-- the files' count of faults rose where a fetch failed, and stands as it was where none did
 abbrev pub HasCause : {X : Type 0} → Result X Stop → ℕ → ℕ → Type 0
-HasCause (Ok x) before now = ⊤
-HasCause (Err (Refused refusal)) before now = ⊤
+HasCause (Ok x) before now = now ≡ before
+HasCause (Err (Refused refusal)) before now = now ≡ before
 HasCause (Err FileFault) before now = Rose before now
-HasCause (Err OutOfMemory) before now = ⊤
+HasCause (Err OutOfMemory) before now = now ≡ before

@@ -7,4 +7,4 @@ mod refusal;
 
 pub use laws::files_give_one_answer;
 pub use opening::{Stop, check_consts, open};
-pub use refusal::{Refusal, Row};
+pub use refusal::{ErrorCode, Refusal};

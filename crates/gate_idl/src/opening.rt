@@ -5,7 +5,7 @@ ghost use Rattle.idl_consts.specs.Told.{Answers};
 ghost use Rattle.idl_resolve.specs.Loads.{IsResolved};
 ghost use Rattle.gate_idl.specs.Opening.{Opens, Checks, HasCause, IsOpened, stop_by};
 
-use crate::refusal::{Refusal, Row};
+use crate::refusal::{ErrorCode, Refusal};
 use gate_io::Files;
 use idl_consts::{ConstError, check_documents};
 use idl_resolve::{LoadError, Loaded, load};
@@ -46,7 +46,7 @@ fn stop_by(error: LoadError) -> Stop
         LoadError::Idl(fault) => Stop::Refused(Refusal {
             file: fault.file,
             offset: fault.offset,
-            row: Row::Declared(fault.row),
+            row: ErrorCode::Declared(fault.row),
         }),
         LoadError::FileFault => Stop::FileFault,
         LoadError::OutOfMemory => Stop::OutOfMemory,
@@ -63,7 +63,7 @@ fn schema_of(alloc: Global, loaded: Loaded) -> Result<Schema, Stop>
         Err(ConstError::Idl(fault)) => Err(Stop::Refused(Refusal {
             file: fault.file,
             offset: fault.offset,
-            row: Row::Value(fault.row),
+            row: ErrorCode::Value(fault.row),
         })),
         Err(ConstError::OutOfMemory) => Err(Stop::OutOfMemory),
     }

@@ -16,8 +16,8 @@ const LINE_ROOM: usize = 64;
 const MOST_NAME: usize = 1 << 40;
 
 /// What is refused: a declaration, or the value of a constant or a preset.
-#[derive(Clone, Copy, Debug, PartialEq, Eq)]
-pub enum Row {
+#[derive(Clone, Copy)]
+pub enum ErrorCode {
     Declared(IdlRow),
     Value(ConstRow),
 }
@@ -27,18 +27,18 @@ pub enum Row {
 pub struct Refusal {
     pub file: Text,
     pub offset: usize,
-    pub row: Row,
+    pub row: ErrorCode,
 }
 
-impl Row {
+impl ErrorCode {
     /// The row's number and its words: `I10 typedef cycle`.
     pub fn text(self) -> &'static [u8]
         ensures text { result.now ≡ row_text self }
         ensures short { length result.now ≤ 32 }
     {
         match self {
-            Row::Declared(row) => row.text(),
-            Row::Value(row) => row.text(),
+            ErrorCode::Declared(row) => row.text(),
+            ErrorCode::Value(row) => row.text(),
         }
     }
 }

@@ -4,4 +4,5 @@ pub mod Fetching
 pub mod Fronts
 pub mod Reading
 pub mod Tails
+pub mod Told
 pub mod Writing

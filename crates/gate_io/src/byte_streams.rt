@@ -1,5 +1,6 @@
 //! Where bytes come from and where they go, by what is left of them, what was written and how often it failed.
-ghost use Rattle.std.specs.Prelude.{◌≡◌, ◌<◌, ◌≤◌, ℕ, List, length, Option};
+ghost use Rattle.std.specs.Prelude.{◌≡◌, ◌<◌, ◌≤◌, ℕ, List, length, Option, IfSome};
+ghost use Rattle.gate_base.specs.Bytes.{AreBytes};
 ghost use Rattle.gate_base.specs.Causes.{Rose};
 ghost use Rattle.gate_io.specs.Reading.{Reads};
 ghost use Rattle.gate_io.specs.Writing.{Writes};
@@ -36,6 +37,9 @@ pub trait Source {
         ensures bytes { Reads (left self.old) (left self.new) into.new result }
         ensures later { faults self.old ≤ faults self.new }
         ensures cause { result ≡ Got.Failed → Rose (faults self.old) (faults self.new) };
+
+    /// What it tells that is left consists of bytes.
+    ghost bytes: { (source : Self) → IfSome (left source) AreBytes };
 }
 
 /// Where bytes go.

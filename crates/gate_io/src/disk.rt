@@ -5,7 +5,7 @@ ghost use Rattle.gate_io.specs.Fetching.{IsShort};
 use crate::{Fetched, Files, Got, Source, StdSource};
 use gate_base::Text;
 use std::alloc::{AllocError, Global};
-use std::fs::{File, OpenFile};
+use std::fs::{self, File, OpenFile};
 use std::io::{ErrorKind, Read};
 use std::rt;
 
@@ -15,7 +15,7 @@ const LONGEST_FILE: usize = 16_777_216;
 /// The files that the system has under their names.
 ///
 /// A name that isn't UTF-8, or that holds a NUL byte, is of no file. A file that may not be read, a
-/// folder and a file of over 16,777,216 bytes are faults.
+/// file of over 16,777,216 bytes, and what is no regular file, as a folder or a FIFO, are faults.
 #[derive(Drop)]
 pub struct DiskFiles<R> {
     rt: R,
@@ -55,6 +55,17 @@ fn read_named<R: rt::Files>(rt: &R, alloc: Global, name: &[u8]) -> Fetched
     if name.contains(&0) {
         return Fetched::Absent;
     }
+    match fs::metadata(rt, path) {
+        Ok(metadata) if metadata.is_file() => open_regular(rt, alloc, path),
+        Ok(_) => Fetched::Failed,
+        Err(error) => unopened(error.kind()),
+    }
+}
+
+// The bytes of a regular file. To open another one, as a FIFO, could wait for ever.
+fn open_regular<R: rt::Files>(rt: &R, alloc: Global, path: &str) -> Fetched
+    ensures { IsShort result }
+{
     match File::open(rt, path) {
         Ok(file) => read_whole(alloc, file),
         Err(error) => unopened(error.kind()),

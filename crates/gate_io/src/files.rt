@@ -26,11 +26,12 @@ pub trait Files {
 
     /// The bytes of the file of this name, at most 16,777,216 (`longest_file`) of them.
     ///
-    /// `Absent`: there is no file of this name. `Failed`: the count of faults rose.
+    /// `Absent`: there is no file of this name. `Failed`: the count of faults rose; else it stands as it was.
     fn fetch(&mut self, alloc: Global, name: &[u8]) -> Fetched
         ensures same { holds self.new ≡ holds self.old }
         ensures bytes { Fetches (holds self.old) name.now result }
         ensures short { IsShort result }
         ensures later { faults self.old ≤ faults self.new }
-        ensures cause { result ≡ Fetched.Failed → Rose (faults self.old) (faults self.new) };
+        ensures cause { result ≡ Fetched.Failed → Rose (faults self.old) (faults self.new) }
+        ensures steady { (result ≡ Fetched.Failed → ⊥) → faults self.new ≡ faults self.old };
 }

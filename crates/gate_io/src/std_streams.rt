@@ -1,6 +1,9 @@
 //! Streams of std. They tell what their readers and writers tell: those of slices and vectors all, and the standard
 //! streams nothing.
-ghost use Rattle.std.specs.Prelude.{◌≡◌};
+ghost use Rattle.std.specs.Prelude.{◌≡◌, ◌<◌, ◌≤◌, length};
+ghost use Rattle.gate_base.specs.Causes.{Rose};
+ghost use Rattle.gate_io.specs.Reading.{Reads};
+ghost use Rattle.gate_io.specs.Told.{known_bytes, known_are_bytes};
 
 use crate::{Got, Put, Sink, Source};
 use std::io::{ErrorKind, Read, Write};
@@ -25,12 +28,14 @@ impl<R> StdSource<R> {
     }
 }
 
-impl<R: Read> Source for StdSource<R> {
-    ghost left = { λ s. R.remaining s.reader };
-
-    ghost faults = { λ s. s.faults };
-
-    fn read(&mut self, into: &mut [u8]) -> Got {
+impl<R: Read> StdSource<R> {
+    // Reads, by all that is known of the reader.
+    fn take(&mut self, into: &mut [u8]) -> Got
+        requires { 0 < length into.old }
+        ensures bytes { Reads (R.remaining self.old.reader) (R.remaining self.new.reader) into.new result }
+        ensures later { self.old.faults ≤ self.new.faults }
+        ensures cause { result ≡ Got.Failed → Rose self.old.faults self.new.faults }
+    {
         for _ in 0..MOST_TRIES {
             match self.reader.read(into) {
                 Ok(0) => return Got::End,
@@ -42,6 +47,19 @@ impl<R: Read> Source for StdSource<R> {
         self.faults = self.faults.saturating_add(1);
         Got::Failed
     }
+}
+
+impl<R: Read> Source for StdSource<R> {
+    ghost left = { λ s. known_bytes (R.remaining s.reader) };
+
+    ghost faults = { λ s. s.faults };
+
+    #[tactic(auto, using(crate::specs::Told::known_reads))]
+    fn read(&mut self, into: &mut [u8]) -> Got {
+        self.take(into)
+    }
+
+    ghost bytes = { λ s. known_are_bytes (R.remaining s.reader) };
 }
 
 /// A writer of std, such as the standard output. A write that takes nothing is a fault.

@@ -1,5 +1,5 @@
 -- What the hub in memory holds stays bytes.
-use Rattle.std.proofs.Common.{◌≡◌, ℕ, zero, suc, ◌+◌, List, [], ◌∷◌, ◌++◌, take, drop, Bool, true, false, Option, None, Some, IfSome, ap, sym, subst, inl, inr, option_map, if◌then◌else◌}
+use Rattle.std.proofs.Common.{◌≡◌, ℕ, zero, suc, ◌+◌, List, [], ◌∷◌, ◌++◌, take, drop, Bool, true, false, Option, None, Some, IfSome, ap, sym, subst, inl, inr, option_map, if◌then◌else◌, slice_index_or, Fits, w8}
 use Rattle.std.specs.List.{slice_get}
 use Rattle.std.proofs.Math.ListN.{set}
 use Rattle.std.proofs.lemmas.List.{drop-drop}
@@ -19,6 +19,11 @@ use Rattle.gate_memory.specs.declared.hub.Stepped.{Stepped}
 use Rattle.gate_memory.specs.declared.hub.Stepped.TheVariants as stepped
 use Rattle.gate_memory.specs.declared.steps.HubStep.{HubStep}
 use Rattle.gate_memory.specs.declared.steps.HubStep.TheVariants as step
+
+-- a slice whose elements have the width of a byte
+pub all_bytes : (xs : List ℕ) → ((i : ℕ) → Fits w8 (slice_index_or xs i 0)) → AreBytes xs
+all_bytes [] fits = tt
+all_bytes (x ∷ xs) fits = ((fits 0).fits, all_bytes xs (λ i. fits (suc i)))
 
 bytes_both : (xs ys : List ℕ) → AreBytes xs → AreBytes ys → AreBytes (xs ++ ys)
 bytes_both [] ys p q = q

@@ -83,6 +83,7 @@ impl Files for MemFiles {
         ensures short { IsShort result }
         ensures later { self.old.faults ≤ self.new.faults }
         ensures cause { result ≡ Fetched.Failed → Rose self.old.faults self.new.faults }
+        ensures steady { (result ≡ Fetched.Failed → ⊥) → self.new.faults ≡ self.old.faults }
         ensures exact { MemoryFetches self.old self.new name.now result }
     {
         if self.fail.as_slice().contains(&self.calls) {

@@ -1,7 +1,9 @@
 //! A source and a sink in memory, which move so many bytes at a time and fail at the calls that they are told.
 ghost use Rattle.std.specs.Prelude.{◌≡◌, ◌<◌, ◌≤◌, [], length, IfOk, Some};
+ghost use Rattle.gate_base.specs.Bytes.{AreBytes};
 ghost use Rattle.gate_base.specs.Causes.{Rose};
 ghost use Rattle.gate_io.specs.Reading.{Reads};
+ghost use Rattle.gate_io.specs.Told.{known_bytes, known_are_bytes};
 ghost use Rattle.gate_io.specs.Writing.{Writes};
 ghost use Rattle.gate_memory.specs.Streams.{MemoryReads, MemoryWrites};
 
@@ -45,10 +47,11 @@ impl MemSource {
         fail: Fails,
     ) -> Result<MemSource, OutOfMemory>
         requires { 0 < chunk }
-        ensures { IfOk result (λ source. source ≡ record { left = bytes.now; chunk = chunk; calls = 0; fail = fail; faults = 0 }) }
+        ensures state { IfOk result (λ source. source ≡ record { left = bytes.now; chunk = chunk; calls = 0; fail = fail; faults = 0 }) }
+        ensures bytes { IfOk result (λ _. AreBytes bytes.now) }
     {
         Ok(MemSource {
-            bytes: Vec::from_slice(alloc, bytes)?,
+            bytes: copied(alloc, bytes)?,
             place: 0,
             chunk,
             calls: 0,
@@ -63,14 +66,9 @@ impl MemSource {
     {
         0
     }
-}
 
-impl Source for MemSource {
-    ghost left = { λ s. Some s.left };
-
-    ghost faults = { λ s. s.faults };
-
-    fn read(&mut self, into: &mut [u8]) -> Got
+    // Reads, by all that is left.
+    fn take(&mut self, into: &mut [u8]) -> Got
         requires { 0 < length into.old }
         ensures bytes { Reads (Some self.old.left) (Some self.new.left) into.new result }
         ensures later { self.old.faults ≤ self.new.faults }
@@ -92,6 +90,39 @@ impl Source for MemSource {
         self.place += count;
         Got::Bytes(count)
     }
+}
+
+// A copy of these bytes. Each is read on the way, and so known to be one.
+fn copied(alloc: Global, bytes: &[u8]) -> Result<Vec<u8>, OutOfMemory>
+    ensures whole { IfOk result (λ copy. copy.items ≡ bytes.now) }
+    ensures bytes { IfOk result (λ _. AreBytes bytes.now) }
+{
+    let mut copy = Vec::new(alloc);
+    for byte in bytes {
+        copy.push(*byte)?;
+    }
+    Ok(copy)
+}
+
+/// It tells all that is left: what `new` was handed are bytes, as its clause says, and a read leaves the end of them.
+impl Source for MemSource {
+    ghost left = { λ s. known_bytes (Some s.left) };
+
+    ghost faults = { λ s. s.faults };
+
+    #[tactic(auto, using(gate_io::specs::Told::known_reads))]
+    fn read(&mut self, into: &mut [u8]) -> Got
+        requires { 0 < length into.old }
+        ensures bytes { Reads (known_bytes (Some self.old.left)) (known_bytes (Some self.new.left)) into.new result }
+        ensures moved { Reads (Some self.old.left) (Some self.new.left) into.new result }
+        ensures later { self.old.faults ≤ self.new.faults }
+        ensures cause { result ≡ Got.Failed → Rose self.old.faults self.new.faults }
+        ensures exact { MemoryReads self.old self.new into.new result }
+    {
+        self.take(into)
+    }
+
+    ghost bytes = { λ s. known_are_bytes (Some s.left) };
 }
 
 /// A sink into memory. It tells what was written, takes at most `chunk` bytes a call, and fails at the calls that `fail`

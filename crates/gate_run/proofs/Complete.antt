@@ -1,8 +1,7 @@
 -- What a command does where nothing fails.
-use Rattle.std.proofs.Common.{◌≡◌, ℕ, ◌==◌, ◌-◌, ◌^◌, ◌<◌, ◌⊎◌, inl, inr, ℤ, List, [], ◌∷◌, ◌++◌, length, true, false, Option, None, Some, arith, refl, sym, ◌∙◌, ap, subst, append_assoc, length-append, IsTrue, codes}
-use Rattle.std.specs.List.{flat_map, list_any}
+use Rattle.std.proofs.Common.{◌≡◌, ℕ, ◌^◌, ◌<◌, ◌⊎◌, inl, inr, ℤ, List, [], ◌∷◌, ◌++◌, length, true, false, Option, None, Some, arith, refl, sym, ◌∙◌, ap, subst, append_assoc, length-append}
+use Rattle.std.specs.List.{flat_map}
 use Rattle.std.specs.Io.KnownBytes.{Consumes, IsAtEnd}
-use Rattle.std.proofs.lemmas.Bool.Decides.{nat_tests}
 use Rattle.std.proofs.lemmas.List.{append-nil}
 use Rattle.gate_base.specs.Causes.{Rose}
 use Rattle.framed_transport.specs.Frames.{framed, Splits}
@@ -16,11 +15,13 @@ use Rattle.gate_run.specs.Starting.{SaysLast}
 use Rattle.gate_run.specs.Writing.{Tells}
 use Rattle.gate_run.specs.Handling.{any_refused}
 use Rattle.gate_run.specs.Progress.{IsStreamLine}
-use Rattle.gate_run.specs.Outcome.{Streams, CoversAll, EndsWithinAFrame, StopsWith, WriteFailed, Streamed}
-
--- the code is one of seven
-no_other : (code : ℕ) → IsTrue (list_any (λ c. c == code) (0 ∷ 1 ∷ 3 ∷ 4 ∷ 5 ∷ 8 ∷ 9 ∷ [])) → (code ≡ 1 → ⊥) → (code ≡ 3 → ⊥) → (code ≡ 4 → ⊥) → (code ≡ 5 → ⊥) → (code ≡ 8 → ⊥) → (code ≡ 0) ⊎ (code ≡ 9)
-no_other code known p q r s t = grind (arith, nat_tests, known, p, q, r, s, t)
+use Rattle.gate_run.specs.Outcome.{Streams, CoversAll, EndsWithinAFrame, StopsWith, HasFailed, WriteFailed, Streamed}
+use Rattle.gate_run.specs.declared.status.Ending.{Ending}
+use Rattle.gate_run.specs.declared.status.Ending.TheVariants as endings
+use Rattle.gate_run.specs.declared.status.Ending.TheVariants.{Done, OutOfMemory}
+use Rattle.gate_run.specs.declared.stream.Broken.{Broken}
+use Rattle.gate_run.specs.declared.stream.Broken.TheVariants as streams
+use Rattle.gate_run.specs.declared.stream.TheConstants.{MOST_BYTES}
 
 -- what was read is the whole input where its end was met
 all_read : (a b : Option (List ℕ)) (bytes read : List ℕ) → a ≡ Some bytes → Consumes a b read → IsAtEnd b → read ≡ bytes
@@ -71,32 +72,39 @@ ends_at_a_frame k a b bytes frames small told splits (read, others, rest, line, 
     let one = one_splitting k.limit bytes others frames (rest ++ more.0) [] small longer splits in
     not_large k.limit rest large.0 (nothing_left rest more.0 one.1) large.1
 
-too_few : (k : Terms) (a b : Streams) (text bytes : List ℕ) → a.left ≡ Some bytes → length bytes < 2 ^ 63 - 1 → StopsWith k a b text (λ n. n ≡ 2 ^ 63 - 1) → ⊥
+too_few : (k : Terms) (a b : Streams) (text bytes : List ℕ) → a.left ≡ Some bytes → length bytes < MOST_BYTES → StopsWith k a b text (λ n. n ≡ MOST_BYTES) → ⊥
 too_few k a b text bytes told few s =
     let more = front_read a.left b.left bytes s.0 told s.4.consumed in
     omega (arith, s.6, few, ap length more.1, length-append s.0 more.0)
 
-pub good_stream : (k : Terms) (a b : Streams) (code : ℕ) (bytes : List ℕ) (frames : List (List ℕ)) → k.limit < 2 ^ 31 → Streamed k a b code → a.left ≡ Some bytes → length bytes < 2 ^ 63 - 1 → Splits k.limit bytes frames [] → any_refused k frames ≡ false → (Rose a.input_faults b.input_faults → ⊥) → (WriteFailed a b → ⊥) → (code ≡ 0) ⊎ (code ≡ 9)
-good_stream k a b code bytes frames small c told few splits passed no_read_fault no_write_fault =
-    no_other code c.known
-    (λ e. none_refused k a b bytes frames small told splits passed (c.refused e))
-    (λ e. ends_at_a_frame k a b bytes frames small told splits (c.stream_fault e))
-    (λ e. no_read_fault (c.read_fault e).0)
-    (λ e. no_write_fault (c.write_fault e).0)
-    (λ e. too_few k a b _ bytes told few (c.budget e))
+no_write : (broken : Broken) (a b : Streams) → HasFailed broken a b → (WriteFailed a b → ⊥) → ⊥
+no_write streams.Output a b h no = no (inl h)
+no_write streams.Report a b h no = no (inr h)
+
+pub good_stream : (k : Terms) (a b : Streams) (ending : Ending) (bytes : List ℕ) (frames : List (List ℕ)) → k.limit < 2 ^ 31 → Streamed k a b ending → a.left ≡ Some bytes → length bytes < MOST_BYTES → Splits k.limit bytes frames [] → any_refused k frames ≡ false → (Rose a.input_faults b.input_faults → ⊥) → (WriteFailed a b → ⊥) → (ending ≡ Done) ⊎ (ending ≡ OutOfMemory)
+good_stream k a b endings.Done bytes frames small c told few splits passed no_read_fault no_write_fault = inl refl
+good_stream k a b endings.Refused bytes frames small c told few splits passed no_read_fault no_write_fault = absurd (none_refused k a b bytes frames small told splits passed c)
+good_stream k a b endings.StreamFault bytes frames small c told few splits passed no_read_fault no_write_fault = absurd (ends_at_a_frame k a b bytes frames small told splits c)
+good_stream k a b endings.ReadFault bytes frames small c told few splits passed no_read_fault no_write_fault = absurd (no_read_fault c.0)
+good_stream k a b endings.WriteFault bytes frames small c told few splits passed no_read_fault no_write_fault = absurd (no_write c.0 a b c.1 no_write_fault)
+good_stream k a b endings.BudgetSpent bytes frames small c told few splits passed no_read_fault no_write_fault = absurd (too_few k a b _ bytes told few c)
+good_stream k a b endings.OutOfMemory bytes frames small c told few splits passed no_read_fault no_write_fault = inr refl
+good_stream k a b endings.Usage bytes frames small c told few splits passed no_read_fault no_write_fault = absurd c
+good_stream k a b endings.FileFault bytes frames small c told few splits passed no_read_fault no_write_fault = absurd c
+good_stream k a b endings.HubFault bytes frames small c told few splits passed no_read_fault no_write_fault = absurd c
 
 -- ---- one text, and messages
 
-done_or_failed : (code before now : ℕ) (Done : Type 0) → ((code ≡ 0) × Done) ⊎ ((code ≡ 5) × Rose before now) → (Rose before now → ⊥) → (code ≡ 0) ⊎ (code ≡ 9)
-done_or_failed code before now Done (inl done) no_fault = inl done.0
-done_or_failed code before now Done (inr failed) no_fault = absurd (no_fault failed.1)
+done_or_failed : (ending : Ending) (before now : ℕ) (Made : Type 0) → ((ending ≡ endings.Done) × Made) ⊎ ((ending ≡ endings.WriteFault) × Rose before now) → (Rose before now → ⊥) → (ending ≡ endings.Done) ⊎ (ending ≡ OutOfMemory)
+done_or_failed ending before now Made (inl done) no_fault = inl done.0
+done_or_failed ending before now Made (inr failed) no_fault = absurd (no_fault failed.1)
 
-pub text_written : (text : List ℕ) (a b : Streams) (code : ℕ) → Tells text a b code ⊎ SaysLast (codes "no memory\n") 9 a b code → (Rose a.output_faults b.output_faults → ⊥) → (code ≡ 0) ⊎ (code ≡ 9)
-text_written text a b code (inl t) no_fault = done_or_failed code a.output_faults b.output_faults _ t.ends no_fault
-text_written text a b code (inr s) no_fault = inr s.code_is
+pub text_written : (text : List ℕ) (a b : Streams) (ending : Ending) → Tells text a b ending ⊎ SaysLast OutOfMemory a b ending → (Rose a.output_faults b.output_faults → ⊥) → (ending ≡ Done) ⊎ (ending ≡ OutOfMemory)
+text_written text a b ending (inl t) no_fault = done_or_failed ending a.output_faults b.output_faults _ t.ends no_fault
+text_written text a b ending (inr s) no_fault = inr s.is
 
-pub messages_made : (k : Drilling) (a b : Streams) (code : ℕ) → Drills k a b code → (WriteFailed a b → ⊥) → (code ≡ 0) ⊎ (code ≡ 9)
-messages_made k a b code (Whole e left written reported) no_fault = inl e
-messages_made k a b code (Unwritten e left front same rose) no_fault = absurd (no_fault (inl rose))
-messages_made k a b code (Unreported e left written front rose) no_fault = absurd (no_fault (inr rose))
-messages_made k a b code (NoMemory s) no_fault = inr s.code_is
+pub messages_made : (k : Drilling) (a b : Streams) (ending : Ending) → Drills k a b ending → (WriteFailed a b → ⊥) → (ending ≡ Done) ⊎ (ending ≡ OutOfMemory)
+messages_made k a b ending (Whole e left written reported) no_fault = inl e
+messages_made k a b ending (Unwritten e left front same rose) no_fault = absurd (no_fault (inl rose))
+messages_made k a b ending (Unreported e left written front rose) no_fault = absurd (no_fault (inr rose))
+messages_made k a b ending (NoMemory s) no_fault = inr s.is

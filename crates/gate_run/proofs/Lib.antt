@@ -2,6 +2,7 @@
 pub mod Complete
 pub mod Draining
 pub mod Ending
+pub mod Faults
 pub mod Outcome
 pub mod Progress
 pub mod Served

@@ -1,21 +1,24 @@
 -- From moment to moment.
-use Rattle.std.proofs.Common.{◌≡◌, ℕ, suc, ◌+◌, ◌<◌, ◌≤◌, ◌⊎◌, ℤ, inl, inr, List, [], ◌∷◌, ◌++◌, length, arith, refl, sym, ◌∙◌, ap, subst, Option, Bool, true, false, ◌||◌, not, append_assoc, length-append, add-zero}
+use Rattle.std.proofs.Common.{◌≡◌, ℕ, suc, ◌+◌, ◌<◌, ◌≤◌, ◌⊎◌, ℤ, inl, inr, List, [], ◌∷◌, ◌++◌, length, take, arith, refl, sym, ◌∙◌, ap, subst, Option, None, Some, Result, Ok, Err, Bool, true, false, ◌||◌, not, append_assoc, length-append, add-zero}
 use Rattle.std.specs.List.{flat_map}
 use Rattle.std.specs.Io.KnownBytes.{Appends, Consumes, Keeps, IsAtEnd, append_known}
-use Rattle.std.proofs.lemmas.List.{append-nil}
+use Rattle.std.proofs.lemmas.List.{append-nil, append_cancel_left}
+use Rattle.std.proofs.Math.Seq.{take-append-add}
 use Rattle.std.proofs.lemmas.List.Elements.{All-append, All-nil, All-cons}
 use Rattle.std.proofs.lemmas.Grind.{flat_map-append}
 use Rattle.framed_transport.specs.Frames.{framed, IsCut}
 use Rattle.framed_transport.specs.Front.{front, Part, Large}
 use Rattle.gate_run.specs.Terms.{Terms}
 use Rattle.gate_run.specs.Lines.{too_large_text, left_text}
-use Rattle.gate_run.specs.Working.{EndsInRest, Ends, Waits}
-use Rattle.gate_run.specs.declared.work.End.{End}
-use Rattle.gate_run.specs.declared.work.End.TheVariants as ends
+use Rattle.gate_run.specs.Working.{EndsInRest, Ends, Waits, WritesBoth, Stays, Empties}
+use Rattle.gate_run.specs.declared.status.Ending.{Ending}
+use Rattle.gate_run.specs.declared.status.Ending.TheVariants as endings
+use Rattle.gate_run.specs.declared.stream.Broken.{Broken}
+use Rattle.gate_run.specs.declared.stream.Broken.TheVariants as streams
 use Rattle.gate_io.specs.Fronts.{AppendsFront, Flushed}
 use Rattle.gate_run.specs.Handling.{passes, output_of, line_of, lines, any_refused}
-use Rattle.gate_run.specs.Progress.{Moment, Goes, Breaks, IsStreamLine}
-use Rattle.gate_io.proofs.Streams.{appends_on, appends_none, consumes_on, consumes_none, then_front, front_of_more, keeps_consumes, some_wait, flush_kept, front_of_gathered, all_written, one_waits, gathered, flushed_none, none_front}
+use Rattle.gate_run.specs.Progress.{Moment, Goes, Breaks, CutsOff, IsStreamLine}
+use Rattle.gate_io.proofs.Streams.{appends_on, appends_none, consumes_on, consumes_none, then_front, front_of_more, keeps_consumes, some_wait, front_of_gathered, all_written, one_waits, gathered, flushed_none}
 
 pub lines_on : (k : Terms) (before : ℕ) (xs ys : List (List ℕ)) → lines k before (xs ++ ys) ≡ lines k before xs ++ lines k (before + length xs) ys
 lines_on k before [] ys = ap (λ n. lines k n ys) (sym (add-zero before))
@@ -68,8 +71,27 @@ goes_on k a b c p q = record {
   refused = q.refused ∙ (ap (λ t. t || any_refused k q.frames) p.refused ∙ (or_assoc a.refused (any_refused k p.frames) (any_refused k q.frames) ∙ ap (λ t. a.refused || t) (sym (any_refused_on k p.frames q.frames))));
 }
 
-pub goes_and_breaks : (k : Terms) (a b c : Moment) → Goes k a b → Breaks k b c → Breaks k a c
-goes_and_breaks k a b c p q = record {
+-- some frames more before those that were handled when a stream failed
+cut_on : (broken : Broken) (k : Terms) (a b c : Moment) (frames : List (List ℕ)) (last : List ℕ) (p : Goes k a b) → CutsOff broken k b c frames last → CutsOff broken k a c (p.frames ++ frames) last
+cut_on streams.Output k a b c frames last p q = (
+  record {
+    done = p.frames ++ q.0.done;
+    others = q.0.others;
+    is = ap (λ t. p.frames ++ t) q.0.is ∙ sym (append_assoc p.frames q.0.done q.0.others);
+    count = q.0.count;
+    within = q.0.within;
+    written = rw (flat_map-append (output_of k) p.frames q.0.done, append_assoc) (appends_on a.written b.written c.written (flat_map (output_of k) p.frames) (flat_map (output_of k) q.0.done ++ take q.0.count (flat_map (output_of k) q.0.others)) p.written q.0.written);
+    reported = rw (lines_on k a.frames p.frames q.0.done, ← p.counted) (appends_on a.reported b.reported c.reported (lines k a.frames p.frames) (lines k b.frames q.0.done) p.reported q.0.reported);
+  },
+  q.1,
+)
+cut_on streams.Report k a b c frames last p q = record {
+  written = rw (flat_map-append (output_of k) p.frames frames) (appends_on a.written b.written c.written (flat_map (output_of k) p.frames) (flat_map (output_of k) frames) p.written q.written);
+  reported = rw (lines_on k a.frames p.frames frames, ← p.counted, append_assoc) (then_front a.reported b.reported c.reported (lines k a.frames p.frames) (lines k b.frames frames ++ last) p.reported q.reported);
+}
+
+pub goes_and_breaks : (broken : Broken) (k : Terms) (a b c : Moment) → Goes k a b → Breaks broken k b c → Breaks broken k a c
+goes_and_breaks broken k a b c p q = record {
   read = p.read ++ q.read;
   frames = p.frames ++ q.frames;
   more = q.more;
@@ -77,8 +99,7 @@ goes_and_breaks k a b c p q = record {
   consumed = consumes_on a.left b.left c.left p.read q.read p.consumed q.consumed;
   split = rw (flat_map-append framed p.frames q.frames) (split_on a.held p.read (flat_map framed p.frames) b.held q.read (flat_map framed q.frames) q.more p.split q.split);
   each = All-append (λ frame. length frame ≤ k.limit) p.frames q.frames p.each q.each;
-  written = rw (flat_map-append (output_of k) p.frames q.frames) (then_front a.written b.written c.written (flat_map (output_of k) p.frames) (flat_map (output_of k) q.frames) p.written q.written);
-  reported = rw (lines_on k a.frames p.frames q.frames, ← p.counted, append_assoc) (then_front a.reported b.reported c.reported (lines k a.frames p.frames) (lines k b.frames q.frames ++ q.last) p.reported q.reported);
+  cut = cut_on broken k a b c q.frames q.last p q.cut;
   last_is = subst (λ (n : ℕ). (q.last ≡ []) ⊎ IsStreamLine k.limit n q.more q.last) (omega (arith, p.counted, length-append p.frames q.frames)) q.last_is;
 }
 
@@ -126,7 +147,7 @@ handled_one k a b frame within split left written reported frames taken refused 
 }
 
 -- of the line of the rest a front was written
-pub broken_line : (k : Terms) (a b : Moment) (line : List ℕ) → IsStreamLine k.limit a.frames a.held line → b.left ≡ a.left → b.written ≡ a.written → AppendsFront a.reported b.reported line → Breaks k a b
+pub broken_line : (k : Terms) (a b : Moment) (line : List ℕ) → IsStreamLine k.limit a.frames a.held line → b.left ≡ a.left → b.written ≡ a.written → AppendsFront a.reported b.reported line → Breaks streams.Report k a b
 broken_line k a b line is left written reported = record {
   read = [];
   frames = [];
@@ -135,8 +156,7 @@ broken_line k a b line is left written reported = record {
   consumed = same_consumes a.left b.left left;
   split = append-nil a.held;
   each = All-nil (λ frame. length frame ≤ k.limit);
-  written = (0, omega arith, same_appends a.written b.written written);
-  reported = reported;
+  cut = record { written = same_appends a.written b.written written; reported = reported };
   last_is = inr (subst (λ (n : ℕ). IsStreamLine k.limit n a.held line) (sym (add-zero a.frames)) is);
 }
 
@@ -166,14 +186,19 @@ rest_large k a b mid line goes is written reported left n large =
 
 -- ---- how the work ends
 
-pub ends_on : (k : Terms) (a b c : Moment) (end : End) → Goes k a b → Ends k b c end → Ends k a c end
-ends_on k a b c ends.Done p q = (goes_on k a b c p q.0, q.1, q.2, q.3)
-ends_on k a b c ends.Refused p q = (goes_on k a b c p q.0, q.1, q.2, q.3)
-ends_on k a b c ends.StreamFault p q =
+pub ends_on : (k : Terms) (a b c : Moment) (end : Result Ending Broken) → Goes k a b → Ends k b c end → Ends k a c end
+ends_on k a b c (Ok endings.Done) p q = (goes_on k a b c p q.0, q.1, q.2, q.3)
+ends_on k a b c (Ok endings.Refused) p q = (goes_on k a b c p q.0, q.1, q.2, q.3)
+ends_on k a b c (Ok endings.StreamFault) p q =
     record { mid = q.mid; line = q.line; goes = goes_on k a b q.mid p q.goes; line_is = q.line_is; written = q.written; reported = q.reported; left = q.left; at_end = q.at_end }
-ends_on k a b c ends.ReadFault p q = (goes_on k a b c p q.0, q.1)
-ends_on k a b c ends.WriteFault p q = goes_and_breaks k a b c p q
-ends_on k a b c ends.BudgetSpent p q = (goes_on k a b c p q.0, q.1, q.2)
+ends_on k a b c (Ok endings.ReadFault) p q = (goes_on k a b c p q.0, q.1)
+ends_on k a b c (Ok endings.BudgetSpent) p q = (goes_on k a b c p q.0, q.1, q.2)
+ends_on k a b c (Ok endings.Usage) p q = q
+ends_on k a b c (Ok endings.WriteFault) p q = q
+ends_on k a b c (Ok endings.FileFault) p q = q
+ends_on k a b c (Ok endings.HubFault) p q = q
+ends_on k a b c (Ok endings.OutOfMemory) p q = q
+ends_on k a b c (Err broken) p q = goes_and_breaks broken k a b c p q
 
 -- ---- what is gathered before it is written
 
@@ -192,32 +217,115 @@ rewritten k a b c g left held frames taken refused f r = record {
 }
 
 -- at first nothing waits
-pub waits_nowhere : (k : Terms) (a : Moment) (out more : List ℕ) → out ≡ [] → more ≡ [] → Waits k a a out more
-waits_nowhere k a out more none none_too = record {
-  goes = rewritten k a a (record a { written = append_known a.written out; reported = append_known a.reported more }) (goes_nowhere k a) refl refl refl refl refl
-      (λ xs h. some_wait a.written a.written out xs none h) (λ xs h. some_wait a.reported a.reported more xs none_too h);
-  sent = ([], appends_none a.written);
-  told = ([], appends_none a.reported);
+pub waits_nowhere : (k : Terms) (a : Moment) (out waiting : List ℕ) → out ≡ [] → waiting ≡ [] → Waits k a a out waiting
+unfolding rewritten goes_nowhere
+waits_nowhere k a out waiting none none_too = record {
+  goes = rewritten k a a (record a { written = append_known a.written out; reported = append_known a.reported waiting }) (goes_nowhere k a) refl refl refl refl refl
+      (λ xs h. some_wait a.written a.written out xs none h) (λ xs h. some_wait a.reported a.reported waiting xs none_too h);
+  done = [];
+  others = [];
+  is = refl;
+  some = [];
+  written = appends_none a.written;
+  reported = appends_none a.reported;
 }
 
--- the first of what waited was written
-pub waits_flushed : (k : Terms) (a b c : Moment) (out more out' more' : List ℕ) → Waits k a b out more → c.left ≡ b.left → c.held ≡ b.held → c.frames ≡ b.frames → c.taken ≡ b.taken → c.refused ≡ b.refused → Flushed b.written out c.written out' → Flushed b.reported more c.reported more' → Waits k a c out' more'
-waits_flushed k a b c out more out' more' w left held frames taken refused f r = record {
-  goes = rewritten k a (record b { written = append_known b.written out; reported = append_known b.reported more }) (record c { written = append_known c.written out'; reported = append_known c.reported more' }) w.goes left held frames taken refused
-      (λ xs h. flush_kept a.written b.written c.written out out' xs h f) (λ xs h. flush_kept a.reported b.reported c.reported more more' xs h r);
-  sent = (w.sent.0 ++ f.0, appends_on a.written b.written c.written w.sent.0 f.0 w.sent.1 f.1);
-  told = (w.told.0 ++ r.0, appends_on a.reported b.reported c.reported w.told.0 r.0 w.told.1 r.1);
+same_known : (a w w' : Option (List ℕ)) (p p' xs : List ℕ) → w' ≡ w → p' ≡ p → Appends a (append_known w p) xs → Appends a (append_known w' p') xs
+same_known a w w' p p' xs e f h =
+    subst (λ (v : Option (List ℕ)). Appends a (append_known v p') xs) (sym e) (subst (λ (q : List ℕ). Appends a (append_known w q) xs) (sym f) h)
+
+appends_same : (a w w' : Option (List ℕ)) (xs : List ℕ) → w' ≡ w → Appends a w xs → Appends a w' xs
+appends_same a w w' xs e h = subst (λ (v : Option (List ℕ)). Appends a v xs) (sym e) h
+
+-- what waited still waits
+pub waits_still : (k : Terms) (a b c : Moment) (out out' waiting waiting' : List ℕ) → Waits k a b out waiting → c.left ≡ b.left → c.held ≡ b.held → c.frames ≡ b.frames → c.taken ≡ b.taken → c.refused ≡ b.refused → Stays out out' waiting waiting' b.written c.written b.reported c.reported → Waits k a c out' waiting'
+unfolding rewritten
+waits_still k a b c out out' waiting waiting' w left held frames taken refused s = record {
+  goes = rewritten k a (record b { written = append_known b.written out; reported = append_known b.reported waiting }) (record c { written = append_known c.written out'; reported = append_known c.reported waiting' }) w.goes left held frames taken refused
+      (λ xs h. same_known a.written b.written c.written out out' xs s.written_stays s.page_stays h) (λ xs h. same_known a.reported b.reported c.reported waiting waiting' xs s.reported_stays s.waiting_stays h);
+  done = w.done;
+  others = w.others;
+  is = w.is;
+  some = w.some;
+  written = appends_same a.written b.written c.written (flat_map (output_of k) w.done ++ w.some) s.written_stays w.written;
+  reported = appends_same a.reported b.reported c.reported (lines k a.frames w.done) s.reported_stays w.reported;
 }
 
 -- all that waited was written
-pub waits_done : (k : Terms) (a b c : Moment) (out more : List ℕ) → Waits k a b out more → c.left ≡ b.left → c.held ≡ b.held → c.frames ≡ b.frames → c.taken ≡ b.taken → c.refused ≡ b.refused → Appends b.written c.written out → Appends b.reported c.reported more → Goes k a c
-waits_done k a b c out more w left held frames taken refused f r =
-    rewritten k a (record b { written = append_known b.written out; reported = append_known b.reported more }) c w.goes left held frames taken refused
-    (λ xs h. all_written a.written b.written c.written out xs h f) (λ xs h. all_written a.reported b.reported c.reported more xs h r)
+pub waits_done : (k : Terms) (a b c : Moment) (out waiting : List ℕ) → Waits k a b out waiting → c.left ≡ b.left → c.held ≡ b.held → c.frames ≡ b.frames → c.taken ≡ b.taken → c.refused ≡ b.refused → Appends b.written c.written out → Appends b.reported c.reported waiting → Goes k a c
+waits_done k a b c out waiting w left held frames taken refused f r =
+    rewritten k a (record b { written = append_known b.written out; reported = append_known b.reported waiting }) c w.goes left held frames taken refused
+    (λ xs h. all_written a.written b.written c.written out xs h f) (λ xs h. all_written a.reported b.reported c.reported waiting xs h r)
 
--- a front of what waited was written
-pub waits_broken : (k : Terms) (a b c : Moment) (out more : List ℕ) → Waits k a b out more → c.left ≡ b.left → AppendsFront b.written c.written out → AppendsFront b.reported c.reported more → Breaks k a c
-waits_broken k a b c out more w left f r = record {
+-- then nothing waits
+pub waits_empty : (k : Terms) (a b c : Moment) (out out' waiting waiting' : List ℕ) → Waits k a b out waiting → c.left ≡ b.left → c.held ≡ b.held → c.frames ≡ b.frames → c.taken ≡ b.taken → c.refused ≡ b.refused → Empties out out' waiting waiting' b.written c.written b.reported c.reported → Waits k a c out' waiting'
+unfolding rewritten waits_done
+waits_empty k a b c out out' waiting waiting' w left held frames taken refused e =
+    let g = waits_done k a b c out waiting w left held frames taken refused e.page_written e.all_reported in
+    record {
+      goes = rewritten k a c (record c { written = append_known c.written out'; reported = append_known c.reported waiting' }) g refl refl refl refl refl
+          (λ xs h. some_wait a.written c.written out' xs e.page_empty h) (λ xs h. some_wait a.reported c.reported waiting' xs e.waiting_empty h);
+      done = g.frames;
+      others = [];
+      is = sym (append-nil g.frames);
+      some = [];
+      written = subst (λ (xs : List ℕ). Appends a.written c.written xs) (sym (append-nil (flat_map (output_of k) g.frames))) g.written;
+      reported = g.reported;
+    }
+
+-- there is room for one frame more
+pub waits_roomy : (k : Terms) (a b c : Moment) (out out' waiting waiting' : List ℕ) → Waits k a b out waiting → c.left ≡ b.left → c.held ≡ b.held → c.frames ≡ b.frames → c.taken ≡ b.taken → c.refused ≡ b.refused →
+    Stays out out' waiting waiting' b.written c.written b.reported c.reported ⊎ Empties out out' waiting waiting' b.written c.written b.reported c.reported → Waits k a c out' waiting'
+waits_roomy k a b c out out' waiting waiting' w left held frames taken refused (inl s) = waits_still k a b c out out' waiting waiting' w left held frames taken refused s
+waits_roomy k a b c out out' waiting waiting' w left held frames taken refused (inr e) = waits_empty k a b c out out' waiting waiting' w left held frames taken refused e
+
+-- what was sent behind some bytes, and a front of what waited
+behind_gathered : (a w w' : Option (List ℕ)) (p before some others : List ℕ) → Appends a w (before ++ some) → Appends a (append_known w p) (before ++ others) → AppendsFront w w' p →
+    (count : ℕ) × (count ≤ length others) × Appends a w' (before ++ take count others)
+behind_gathered None w w' p before some others s h f = (0, omega arith, tt)
+behind_gathered (Some a) None w' p before some others s h f = absurd s
+behind_gathered (Some a) (Some x) w' p before some others s h f =
+    let all : (before ++ some) ++ p ≡ before ++ others = append_cancel_left a ((before ++ some) ++ p) (before ++ others) (sym (append_assoc a (before ++ some) p) ∙ (ap (λ t. t ++ p) (sym s) ∙ h)) in
+    let is : some ++ p ≡ others = append_cancel_left before (some ++ p) others (sym (append_assoc before some p) ∙ all) in
+    let sent : Appends (Some a) w' (before ++ (some ++ take f.0 p)) = subst (λ (xs : List ℕ). Appends (Some a) w' xs) (append_assoc before some (take f.0 p)) (appends_on (Some a) (Some x) w' (before ++ some) (take f.0 p) s f.2) in
+    let front : some ++ take f.0 p ≡ take (length some + f.0) others = sym (take-append-add some p f.0) ∙ ap (take (length some + f.0)) is in (
+      length some + f.0,
+      omega (arith, f.1, ap length is, length-append some p),
+      subst (λ (xs : List ℕ). Appends (Some a) w' (before ++ xs)) front sent,
+    )
+
+-- the output failed, and a front of what waited for it was written
+pub output_broken : (k : Terms) (a b c : Moment) (out waiting : List ℕ) → Waits k a b out waiting → c.left ≡ b.left → AppendsFront b.written c.written out → c.reported ≡ b.reported → Breaks streams.Output k a c
+output_broken k a b c out waiting w left f r =
+    let parted : flat_map (output_of k) w.goes.frames ≡ flat_map (output_of k) w.done ++ flat_map (output_of k) w.others = ap (flat_map (output_of k)) w.is ∙ flat_map-append (output_of k) w.done w.others in
+    let sent = behind_gathered a.written b.written c.written out (flat_map (output_of k) w.done) w.some (flat_map (output_of k) w.others) w.written
+    (subst (λ (xs : List ℕ). Appends a.written (append_known b.written out) xs) parted w.goes.written) f in
+    record {
+      read = w.goes.read;
+      frames = w.goes.frames;
+      more = b.held;
+      last = [];
+      consumed = subst (λ (l : Option (List ℕ)). Consumes a.left l w.goes.read) (sym left) w.goes.consumed;
+      split = w.goes.split;
+      each = w.goes.each;
+      cut = (
+        record {
+          done = w.done;
+          others = w.others;
+          is = w.is;
+          count = sent.0;
+          within = sent.1;
+          written = sent.2;
+          reported = appends_same a.reported b.reported c.reported (lines k a.frames w.done) r w.reported;
+        },
+        refl,
+      );
+      last_is = inl refl;
+    }
+
+-- the report failed, and a front of the lines that waited was written
+pub report_broken : (k : Terms) (a b c : Moment) (out waiting : List ℕ) → Waits k a b out waiting → c.left ≡ b.left → Appends b.written c.written out → AppendsFront b.reported c.reported waiting → Breaks streams.Report k a c
+report_broken k a b c out waiting w left f r = record {
   read = w.goes.read;
   frames = w.goes.frames;
   more = b.held;
@@ -225,25 +333,37 @@ waits_broken k a b c out more w left f r = record {
   consumed = subst (λ (l : Option (List ℕ)). Consumes a.left l w.goes.read) (sym left) w.goes.consumed;
   split = w.goes.split;
   each = w.goes.each;
-  written = front_of_gathered a.written b.written c.written out w.sent.0 (flat_map (output_of k) w.goes.frames) w.sent.1 w.goes.written f;
-  reported = front_of_more a.reported c.reported (lines k a.frames w.goes.frames) [] (front_of_gathered a.reported b.reported c.reported more w.told.0 (lines k a.frames w.goes.frames) w.told.1 w.goes.reported r);
+  cut = record {
+    written = all_written a.written b.written c.written out (flat_map (output_of k) w.goes.frames) w.goes.written f;
+    reported = front_of_more a.reported c.reported (lines k a.frames w.goes.frames) [] (front_of_gathered a.reported b.reported c.reported waiting (lines k a.frames w.done) (lines k a.frames w.goes.frames) w.reported w.goes.reported r);
+  };
   last_is = inl refl;
 }
 
+-- a stream failed while what waited was written
+pub waits_broken : (broken : Broken) (k : Terms) (a b c : Moment) (out waiting : List ℕ) → Waits k a b out waiting → c.left ≡ b.left → WritesBoth (Err broken) out waiting b.written c.written b.reported c.reported → Breaks broken k a c
+waits_broken streams.Output k a b c out waiting w left h = output_broken k a b c out waiting w left h.0 h.1
+waits_broken streams.Report k a b c out waiting w left h = report_broken k a b c out waiting w left h.0 h.1
+
 -- what is written of one frame more waits behind what waited, of which a front may have been written
-pub waits_one : (k : Terms) (a b c : Moment) (out more out' more' frame rest : List ℕ) → Waits k a b out more → IsCut k.limit b.held frame rest → c.held ≡ rest → c.left ≡ b.left → Flushed b.written (out ++ output_of k frame) c.written out' → c.reported ≡ b.reported → c.frames ≡ b.frames + 1 → c.taken ≡ b.taken → c.refused ≡ (b.refused || not (passes k frame)) → more' ≡ more ++ line_of k (b.frames + 1) frame → Waits k a c out' more'
-waits_one k a b c out more out' more' frame rest w cut held left written reported frames taken refused m = record {
-  goes = goes_on k a (record b { written = append_known b.written out; reported = append_known b.reported more }) (record c { written = append_known c.written out'; reported = append_known c.reported more' }) w.goes
-      (handled_one k (record b { written = append_known b.written out; reported = append_known b.reported more }) (record c { written = append_known c.written out'; reported = append_known c.reported more' }) frame cut.within (cut.whole ∙ ap (λ t. framed frame ++ t) (sym held)) left
-      (gathered b.written c.written out out' (output_of k frame) written) (one_waits b.reported c.reported more more' (line_of k (b.frames + 1) frame) reported m) frames taken refused);
-  sent = (w.sent.0 ++ written.0, appends_on a.written b.written c.written w.sent.0 written.0 w.sent.1 written.1);
-  told = (w.told.0, subst (λ (x : Option (List ℕ)). Appends a.reported x w.told.0) (sym reported) w.told.1);
+pub waits_one : (k : Terms) (a b c : Moment) (out waiting out' waiting' frame rest : List ℕ) → Waits k a b out waiting → IsCut k.limit b.held frame rest → c.held ≡ rest → c.left ≡ b.left → Flushed b.written (out ++ output_of k frame) c.written out' → c.reported ≡ b.reported → c.frames ≡ b.frames + 1 → c.taken ≡ b.taken → c.refused ≡ (b.refused || not (passes k frame)) → waiting' ≡ waiting ++ line_of k (b.frames + 1) frame → Waits k a c out' waiting'
+unfolding goes_on handled_one
+waits_one k a b c out waiting out' waiting' frame rest w cut held left written reported frames taken refused m = record {
+  goes = goes_on k a (record b { written = append_known b.written out; reported = append_known b.reported waiting }) (record c { written = append_known c.written out'; reported = append_known c.reported waiting' }) w.goes
+      (handled_one k (record b { written = append_known b.written out; reported = append_known b.reported waiting }) (record c { written = append_known c.written out'; reported = append_known c.reported waiting' }) frame cut.within (cut.whole ∙ ap (λ t. framed frame ++ t) (sym held)) left
+      (gathered b.written c.written out out' (output_of k frame) written) (one_waits b.reported c.reported waiting waiting' (line_of k (b.frames + 1) frame) reported m) frames taken refused);
+  done = w.done;
+  others = w.others ++ frame ∷ [];
+  is = ap (λ t. t ++ frame ∷ []) w.is ∙ append_assoc w.done w.others (frame ∷ []);
+  some = w.some ++ written.0;
+  written = subst (λ (xs : List ℕ). Appends a.written c.written xs) (append_assoc (flat_map (output_of k) w.done) w.some written.0) (appends_on a.written b.written c.written (flat_map (output_of k) w.done ++ w.some) written.0 w.written written.1);
+  reported = appends_same a.reported b.reported c.reported (lines k a.frames w.done) reported w.reported;
 }
 
--- a front of what waited and of what is written of one frame more was written
-pub one_broken : (k : Terms) (a b c : Moment) (out more frame rest : List ℕ) → Waits k a b out more → IsCut k.limit b.held frame rest → c.left ≡ b.left → c.reported ≡ b.reported → AppendsFront b.written c.written (out ++ output_of k frame) → Breaks k a c
-one_broken k a b c out more frame rest w cut left reported front =
+-- the output failed, and a front of what waited and of what is written of one frame more was written
+pub one_broken : (k : Terms) (a b c : Moment) (out waiting frame rest : List ℕ) → Waits k a b out waiting → IsCut k.limit b.held frame rest → c.left ≡ b.left → c.reported ≡ b.reported → AppendsFront b.written c.written (out ++ output_of k frame) → Breaks streams.Output k a c
+one_broken k a b c out waiting frame rest w cut left reported front =
     let d = record b { held = rest; frames = b.frames + 1; refused = b.refused || not (passes k frame) } in
-    waits_broken k a d c (out ++ output_of k frame) (more ++ line_of k (b.frames + 1) frame)
-    (waits_one k a b d out more (out ++ output_of k frame) (more ++ line_of k (b.frames + 1) frame) frame rest w cut refl refl (flushed_none b.written (out ++ output_of k frame)) refl refl refl refl refl)
-    left front (none_front d.reported c.reported (more ++ line_of k (b.frames + 1) frame) (same_appends d.reported c.reported reported))
+    output_broken k a d c (out ++ output_of k frame) (waiting ++ line_of k (b.frames + 1) frame)
+    (waits_one k a b d out waiting (out ++ output_of k frame) (waiting ++ line_of k (b.frames + 1) frame) frame rest w cut refl refl (flushed_none b.written (out ++ output_of k frame)) refl refl refl refl refl)
+    left front reported

@@ -11,9 +11,11 @@ use Rattle.gate_run.specs.Checking.{Checks, Good, Bad, declared_text}
 use Rattle.gate_run.specs.Outcome.{Streams, WriteFailed}
 use Rattle.gate_run.specs.Starting.{Holds, IsRead, IsDeclared, IsService, IsNoService, IsStart, Starting, Goes, Stops, HasCause, Halts}
 use Rattle.gate_run.specs.Writing.{Tells}
-use Rattle.gate_run.specs.declared.starting.Start.{Start}
-use Rattle.gate_run.specs.declared.starting.NoStart.{NoStart}
-use Rattle.gate_run.specs.declared.starting.NoStart.TheVariants as stops
+use Rattle.gate_run.specs.declared.start.Start.{Start}
+use Rattle.gate_run.specs.declared.start.NoStart.{NoStart}
+use Rattle.gate_run.specs.declared.start.NoStart.TheVariants as stops
+use Rattle.gate_run.specs.declared.status.Ending.{Ending}
+use Rattle.gate_run.specs.declared.status.Ending.TheVariants as endings
 
 same_ok : (d e : Declarations) (a b : Opened) → a ≡ Ok d → b ≡ Ok e → a ≡ b → d ≡ e
 same_ok d e a b p q same = cc
@@ -32,9 +34,13 @@ no_service : (name : Option (List ℕ)) (d : Declarations) (a : Option ServiceId
 no_service None d a p q = q
 no_service (Some name) d a p q = (let wrong : Some p.0 ≡ None = sym p.1 ∙ q in cc)
 
-line_written : (a b : Streams) (line : List ℕ) (code : ℕ) → ((code ≡ 0) × Appends a.written b.written line) ⊎ ((code ≡ 5) × Rose a.output_faults b.output_faults) → (WriteFailed a b → ⊥) → (code ≡ 0) × Appends a.written b.written line
-line_written a b line code (inl done) no_write = done
-line_written a b line code (inr failed) no_write = absurd (no_write (inl failed.1))
+line_written : (a b : Streams) (line : List ℕ) (ending : Ending) → ((ending ≡ endings.Done) × Appends a.written b.written line) ⊎ ((ending ≡ endings.WriteFault) × Rose a.output_faults b.output_faults) → (WriteFailed a b → ⊥) → (ending ≡ endings.Done) × Appends a.written b.written line
+line_written a b line ending (inl done) no_write = done
+line_written a b line ending (inr failed) no_write = absurd (no_write (inl failed.1))
+
+or_else : {A B C : Type 0} → (B → C) → A ⊎ B → A ⊎ C
+or_else f (inl a) = inl a
+or_else f (inr b) = inr (f b)
 
 -- given that files give one answer
 module _ (opened_once : (holds : Holds) (root : List ℕ) (a b : Opened) → IsOpened holds root a → IsOpened holds root b → a ≡ b) where
@@ -52,35 +58,42 @@ module _ (opened_once : (holds : Holds) (root : List ℕ) (a b : Opened) → IsO
   not_declared holds None d r p q = q
   not_declared holds (Some name) d r p q = not_refused holds name d r p q
 
-  stops_not : (holds : Holds) (words : Declared) (s : Start) (stop : NoStart) (before now : ℕ) (a b : Streams) (code : ℕ) → IsStart holds words (Ok s) → IsStart holds words (Err stop) → HasCause {X = Start} (Err stop) before now → (Rose before now → ⊥) → Halts stop a b code → code ≡ 9
-  stops_not holds words s (stops.Refused r) before now a b code good bad cause no_fault halts = absurd (not_declared holds words.idl s.schema r good.0 bad)
-  stops_not holds words s stops.UnknownService before now a b code good bad cause no_fault halts =
+  -- a command whose words give a start stops for want of memory alone
+  stops_not : (holds : Holds) (words : Declared) (s : Start) (stop : NoStart) (before now : ℕ) → IsStart holds words (Ok s) → IsStart holds words (Err stop) → HasCause {X = Start} (Err stop) before now → (Rose before now → ⊥) → stop ≡ stops.OutOfMemory
+  stops_not holds words s (stops.Refused r) before now good bad cause no_fault = absurd (not_declared holds words.idl s.schema r good.0 bad)
+  stops_not holds words s stops.UnknownService before now good bad cause no_fault =
       absurd (no_service words.service s.schema s.service good.1 (subst (λ (d : Declarations). IsNoService words.service d) (same_declared holds words.idl bad.0 s.schema bad.1 good.0) bad.2))
-  stops_not holds words s stops.FileFault before now a b code good bad cause no_fault halts = absurd (no_fault cause)
-  stops_not holds words s stops.OutOfMemory before now a b code good bad cause no_fault halts = halts.code_is
+  stops_not holds words s stops.FileFault before now good bad cause no_fault = absurd (no_fault cause)
+  stops_not holds words s stops.OutOfMemory before now good bad cause no_fault = refl
 
   -- a command whose words give this start starts from it, or wants memory
-  pub starts : (holds : Holds) (words : Declared) (s : Start) (before now : ℕ) (a b : Streams) (code : ℕ) (Then : Declarations → Option ServiceId → Type 0) → IsStart holds words (Ok s) → Starting (Some holds) words before now a b code Then → (Rose before now → ⊥) → Then s.schema s.service ⊎ (code ≡ 9)
-  starts holds words s before now a b code Then good (Goes t told did) no_fault =
+  starts : (holds : Holds) (words : Declared) (s : Start) (before now : ℕ) (Then : Declarations → Option ServiceId → Type 0) (Else : NoStart → Type 0) → IsStart holds words (Ok s) → Starting (Some holds) words before now Then Else → (Rose before now → ⊥) → Then s.schema s.service ⊎ Else stops.OutOfMemory
+  starts holds words s before now Then Else good (Goes t told cause did) no_fault =
       let own = told holds (inl refl) in
       let schema : t.schema ≡ s.schema = same_declared holds words.idl t.schema s.schema own.0 good.0 in
       let here = subst (λ (d : Declarations). IsService words.service d t.service) schema own.1 in
       let service : t.service ≡ s.service = same_service words.service s.schema t.service s.service here good.1 in
       inl (subst (λ (x : Option ServiceId). Then s.schema x) service (subst (λ (d : Declarations). Then d t.service) schema did))
-  starts holds words s before now a b code Then good (Stops stop told cause halts) no_fault =
-      inr (stops_not holds words s stop before now a b code good (told holds (inl refl)) cause no_fault halts)
+  starts holds words s before now Then Else good (Stops stop told cause other) no_fault =
+      inr (subst Else (stops_not holds words s stop before now good (told holds (inl refl)) cause no_fault) other)
+
+  pub stream_starts : (holds : Holds) (words : Declared) (s : Start) (before now : ℕ) (a b : Streams) (ending : Ending) (Then : Declarations → Option ServiceId → Type 0) → IsStart holds words (Ok s) → Starting (Some holds) words before now Then (λ stop. Halts stop a b ending) → (Rose before now → ⊥) → Then s.schema s.service ⊎ (ending ≡ endings.OutOfMemory)
+  stream_starts holds words s before now a b ending Then good started no_fault = or_else (λ other. other.is) (starts holds words s before now Then (λ stop. Halts stop a b ending) good started no_fault)
+
+  pub server_starts : {H : Type 0} (h h' : H) (holds : Holds) (words : Declared) (s : Start) (before now : ℕ) (a b : Streams) (ending : Ending) (Then : Declarations → Option ServiceId → Type 0) → IsStart holds words (Ok s) → Starting (Some holds) words before now Then (λ stop. Halts stop a b ending × (h' ≡ h)) → (Rose before now → ⊥) → Then s.schema s.service ⊎ (ending ≡ endings.OutOfMemory)
+  server_starts h h' holds words s before now a b ending Then good started no_fault = or_else (λ other. other.0.is) (starts holds words s before now Then (λ stop. Halts stop a b ending × (h' ≡ h)) good started no_fault)
 
   -- ---- the check
 
-  read_not : (holds : Holds) (file : List ℕ) (d : Declarations) (stop : NoStart) (before now : ℕ) (a b : Streams) (code : ℕ) → IsOpened holds file (Ok d) → IsRead holds file (Err stop) → HasCause {X = Declarations} (Err stop) before now → (Rose before now → ⊥) → Halts stop a b code → code ≡ 9
-  read_not holds file d (stops.Refused r) before now a b code good bad cause no_fault halts = absurd (not_refused holds file d r good bad)
-  read_not holds file d stops.UnknownService before now a b code good bad cause no_fault halts = absurd bad
-  read_not holds file d stops.FileFault before now a b code good bad cause no_fault halts = absurd (no_fault cause)
-  read_not holds file d stops.OutOfMemory before now a b code good bad cause no_fault halts = halts.code_is
+  read_not : (holds : Holds) (file : List ℕ) (d : Declarations) (stop : NoStart) (before now : ℕ) (a b : Streams) (ending : Ending) → IsOpened holds file (Ok d) → IsRead holds file (Err stop) → HasCause {X = Declarations} (Err stop) before now → (Rose before now → ⊥) → Halts stop a b ending → ending ≡ endings.OutOfMemory
+  read_not holds file d (stops.Refused r) before now a b ending good bad cause no_fault halts = absurd (not_refused holds file d r good bad)
+  read_not holds file d stops.UnknownService before now a b ending good bad cause no_fault halts = absurd bad
+  read_not holds file d stops.FileFault before now a b ending good bad cause no_fault halts = absurd (no_fault cause)
+  read_not holds file d stops.OutOfMemory before now a b ending good bad cause no_fault halts = halts.is
 
-  pub idl_checked : (holds : Holds) (file : List ℕ) (d : Declarations) (before now : ℕ) (a b : Streams) (code : ℕ) → IsOpened holds file (Ok d) → Checks (Some holds) file before now a b code → (Rose before now → ⊥) → (WriteFailed a b → ⊥) → ((code ≡ 0) × Appends a.written b.written (declared_text d)) ⊎ (code ≡ 9)
-  idl_checked holds file d before now a b code good (Good e told tells) no_fault no_write =
+  pub idl_checked : (holds : Holds) (file : List ℕ) (d : Declarations) (before now : ℕ) (a b : Streams) (ending : Ending) → IsOpened holds file (Ok d) → Checks (Some holds) file before now a b ending → (Rose before now → ⊥) → (WriteFailed a b → ⊥) → ((ending ≡ endings.Done) × Appends a.written b.written (declared_text d)) ⊎ (ending ≡ endings.OutOfMemory)
+  idl_checked holds file d before now a b ending good (Good e told cause tells) no_fault no_write =
       let same : e ≡ d = same_opened holds file e d (told holds refl) good in
-      inl (line_written a b (declared_text d) code (subst (λ (x : Declarations). Tells (declared_text x) a b code) same tells).ends no_write)
-  idl_checked holds file d before now a b code good (Bad stop told cause halts) no_fault no_write =
-      inr (read_not holds file d stop before now a b code good (told holds refl) cause no_fault halts)
+      inl (line_written a b (declared_text d) ending (subst (λ (x : Declarations). Tells (declared_text x) a b ending) same tells).ends no_write)
+  idl_checked holds file d before now a b ending good (Bad stop told cause halts) no_fault no_write =
+      inr (read_not holds file d stop before now a b ending good (told holds refl) cause no_fault halts)

@@ -14,9 +14,9 @@ use Rattle.framed_transport.specs.Frames.{framed}
 use Rattle.message_show.specs.declared.showing.Shown.TheVariants as shown_as
 use Rattle.message_show.specs.Shown.{Showing, Line, IsShown, HasLine}
 use Rattle.message_show.specs.Shown as showing
-use Rattle.gate_run.specs.declared.doing.Doing.{Doing}
-use Rattle.gate_run.specs.declared.doing.Doing.TheVariants.{Convert, Show}
-use Rattle.gate_run.specs.declared.handling.Treatment.TheVariants as treatment
+use Rattle.gate_run.specs.declared.task.Doing.{Doing}
+use Rattle.gate_run.specs.declared.task.Doing.TheVariants.{Convert, Show}
+use Rattle.gate_run.specs.declared.frame.Treatment.TheVariants as treatment
 use Rattle.gate_io.specs.Fronts.{AppendsFront, Flushed}
 use Rattle.gate_run.specs.Lines.{refusal_text}
 use Rattle.gate_run.specs.Handling.{Treated, Passes, Fails, by_verdict, as_line, is_passed, bytes_of, line_for}

@@ -5,7 +5,8 @@ use Rattle.type_tables.specs.Structs.{declared_structs}
 use Rattle.gate_run.specs.Outcome.{Streams}
 use Rattle.gate_run.specs.Writing.{Tells}
 use Rattle.gate_run.specs.Starting.{Holds, IsRead, HasCause, Halts}
-use Rattle.gate_run.specs.declared.starting.NoStart.{NoStart}
+use Rattle.gate_run.specs.declared.start.NoStart.{NoStart}
+use Rattle.gate_run.specs.declared.status.Ending.{Ending}
 
 -- ok files=N structs=N services=N
 unfoldable pub ok_text : ℕ → ℕ → ℕ → List ℕ
@@ -16,7 +17,8 @@ abbrev pub declared_text : Declarations → List ℕ
 declared_text d = ok_text d.files (declared_structs d.structs) (length d.services)
 
 -- the IDL of this root file is good, and how much it declares was written; or it is refused, or can't be read
-pub data Checks (told : Option Holds) (file : List ℕ) (before now : ℕ) (a b : Streams) (code : ℕ) : Type 0 where
-  Good : (d : Declarations) → ((holds : Holds) → told ≡ Some holds → IsRead holds file (Ok d)) → Tells (declared_text d) a b code → Checks told file before now a b code
-  Bad : (stop : NoStart) → ((holds : Holds) → told ≡ Some holds → IsRead holds file (Err stop)) → HasCause {X = Declarations} (Err stop) before now → Halts stop a b code →
-      Checks told file before now a b code
+pub data Checks (told : Option Holds) (file : List ℕ) (before now : ℕ) (a b : Streams) (ending : Ending) : Type 0 where
+  Good : (d : Declarations) → ((holds : Holds) → told ≡ Some holds → IsRead holds file (Ok d)) → HasCause {X = Declarations} (Ok d) before now →
+      Tells (declared_text d) a b ending → Checks told file before now a b ending
+  Bad : (stop : NoStart) → ((holds : Holds) → told ≡ Some holds → IsRead holds file (Err stop)) → HasCause {X = Declarations} (Err stop) before now →
+      Halts stop a b ending → Checks told file before now a b ending

@@ -9,6 +9,8 @@ use Rattle.gate_words.specs.declared.command.Drilling.{Drilling}
 use Rattle.gate_io.specs.Fronts.{AppendsFront}
 use Rattle.gate_run.specs.Outcome.{Streams}
 use Rattle.gate_run.specs.Starting.{SaysLast}
+use Rattle.gate_run.specs.declared.status.Ending.{Ending}
+use Rattle.gate_run.specs.declared.status.Ending.TheVariants as endings
 
 -- drill: N messages, B binary bytes, C compact bytes, J json bytes
 unfoldable pub drill_text : ℕ → Totals → List ℕ
@@ -25,8 +27,10 @@ drilled_line k = drill_text k.count (totals_of (messages k.seed k.count))
 
 -- nothing was read; the frames were written and the line reported, or a front of the one or of the other where the output or
 -- the report failed; or there was no memory, and nothing was written
-pub data Drills (k : Drilling) (a b : Streams) (code : ℕ) : Type 0 where
-  Whole : code ≡ 0 → b.left ≡ a.left → Appends a.written b.written (drilled k) → Appends a.reported b.reported (drilled_line k) → Drills k a b code
-  Unwritten : code ≡ 5 → b.left ≡ a.left → AppendsFront a.written b.written (drilled k) → b.reported ≡ a.reported → Rose a.output_faults b.output_faults → Drills k a b code
-  Unreported : code ≡ 5 → b.left ≡ a.left → Appends a.written b.written (drilled k) → AppendsFront a.reported b.reported (drilled_line k) → Rose a.report_faults b.report_faults → Drills k a b code
-  NoMemory : SaysLast (codes "no memory\n") 9 a b code → Drills k a b code
+pub data Drills (k : Drilling) (a b : Streams) (ending : Ending) : Type 0 where
+  Whole : ending ≡ endings.Done → b.left ≡ a.left → Appends a.written b.written (drilled k) → Appends a.reported b.reported (drilled_line k) → Drills k a b ending
+  Unwritten : ending ≡ endings.WriteFault → b.left ≡ a.left → AppendsFront a.written b.written (drilled k) → b.reported ≡ a.reported →
+      Rose a.output_faults b.output_faults → Drills k a b ending
+  Unreported : ending ≡ endings.WriteFault → b.left ≡ a.left → Appends a.written b.written (drilled k) → AppendsFront a.reported b.reported (drilled_line k) →
+      Rose a.report_faults b.report_faults → Drills k a b ending
+  NoMemory : SaysLast endings.OutOfMemory a b ending → Drills k a b ending

@@ -9,8 +9,8 @@ use Rattle.translate_core.specs.Judged.{Judged}
 use Rattle.translate_core.specs.Texts.{cause_text, place_of}
 use Rattle.message_show.specs.Shown.{Showing, Line}
 use Rattle.message_show.specs.Shown as showing
-use Rattle.gate_run.specs.declared.doing.Doing.{Doing}
-use Rattle.gate_run.specs.declared.doing.Doing.TheVariants.{Convert, Show}
+use Rattle.gate_run.specs.declared.task.Doing.{Doing}
+use Rattle.gate_run.specs.declared.task.Doing.TheVariants.{Convert, Show}
 use Rattle.gate_run.specs.Lines.{refusal_text}
 use Rattle.gate_run.specs.Terms.{Terms, judged_by, shown_by}
 

@@ -1,13 +1,18 @@
--- What a whole conversion read, wrote and reported.
-use Rattle.std.specs.Prelude.{◌≡◌, ℕ, ◌-◌, ◌^◌, ◌≤◌, ◌⊎◌, ◌==◌, ℤ, List, [], ◌∷◌, ◌++◌, length, take, Bool, true, false, Option, IsTrue, codes, ⊤}
-use Rattle.std.specs.List.{flat_map, list_any}
+-- What the work on a whole stream read, wrote and reported.
+use Rattle.std.specs.Prelude.{◌≡◌, ℕ, ◌≤◌, ◌⊎◌, ℤ, List, [], ◌++◌, length, take, Bool, true, false, Option, ⊤}
+use Rattle.std.specs.List.{flat_map}
 use Rattle.std.specs.Io.KnownBytes.{Appends, Consumes, IsAtEnd}
 use Rattle.gate_base.specs.Causes.{Rose}
 use Rattle.framed_transport.specs.Frames.{Splits}
 use Rattle.framed_transport.specs.Front.{front, Large}
 use Rattle.gate_run.specs.Handling.{output_of, lines, any_refused}
-use Rattle.gate_run.specs.Progress.{Moment, Breaks, IsStreamLine}
+use Rattle.gate_run.specs.Progress.{Moment, Breaks, HasRisen, IsStreamLine}
+use Rattle.gate_run.specs.Endings.{last_line}
 use Rattle.gate_run.specs.Terms.{Terms}
+use Rattle.gate_run.specs.declared.status.Ending.{Ending}
+use Rattle.gate_run.specs.declared.status.Ending.TheVariants as endings
+use Rattle.gate_run.specs.declared.stream.Broken.{Broken}
+use Rattle.gate_run.specs.declared.stream.TheConstants.{MOST_BYTES}
 
 -- the three streams: what is left of the input, what was written and reported, where they tell it, and their faults
 pub record Streams : Type 0 where
@@ -60,24 +65,30 @@ abbrev pub beginning : Option (List ℕ) → Option (List ℕ) → Option (List 
 beginning left written reported =
     record { left = left; written = written; reported = reported; held = []; frames = 0; taken = 0; refused = false }
 
--- a front of what is to be written was written
-abbrev pub BreaksOff : Terms → Streams → Streams → Type 0
-BreaksOff k a b = Breaks k (beginning a.left a.written a.reported) (beginning b.left b.written b.reported)
+-- a stream failed, and a front of what is to be written and reported was
+abbrev pub BreaksOff : Broken → Terms → Streams → Streams → Type 0
+BreaksOff broken k a b = Breaks broken k (beginning a.left a.written a.reported) (beginning b.left b.written b.reported)
+
+-- this stream's count of faults rose
+abbrev pub HasFailed : Broken → Streams → Streams → Type 0
+HasFailed broken a b = HasRisen broken a.output_faults b.output_faults a.report_faults b.report_faults
 
 -- the output or the report failed
 abbrev pub WriteFailed : Streams → Streams → Type 0
 WriteFailed a b = Rose a.output_faults b.output_faults ⊎ Rose a.report_faults b.report_faults
 
--- what a conversion did, by its code
-pub record Streamed (k : Terms) (a b : Streams) (code : ℕ) : Type 0 where
-  pub known : IsTrue (list_any (λ c. c == code) (0 ∷ 1 ∷ 3 ∷ 4 ∷ 5 ∷ 8 ∷ 9 ∷ []))
-  -- every frame passed
-  pub done : code ≡ 0 → CoversAll k a b false
-  -- a frame did not pass
-  pub refused : code ≡ 1 → CoversAll k a b true
-  pub stream_fault : code ≡ 3 → EndsWithinAFrame k a b
-  pub read_fault : code ≡ 4 → Rose a.input_faults b.input_faults × StopsWith k a b (codes "read fault\n") (λ _. ⊤)
-  pub write_fault : code ≡ 5 → WriteFailed a b × BreaksOff k a b
-  pub budget : code ≡ 8 → StopsWith k a b (codes "budget spent\n") (λ n. n ≡ 2 ^ 63 - 1)
-  -- nothing was read
-  pub memory : code ≡ 9 → StopsWith k a b (codes "no memory\n") (λ n. n ≡ 0)
+-- what a conversion or a showing did, by its ending
+abbrev pub Streamed : Terms → Streams → Streams → Ending → Type 0
+-- every frame passed
+Streamed k a b endings.Done = CoversAll k a b false
+-- a frame did not pass
+Streamed k a b endings.Refused = CoversAll k a b true
+Streamed k a b endings.StreamFault = EndsWithinAFrame k a b
+Streamed k a b endings.ReadFault = Rose a.input_faults b.input_faults × StopsWith k a b (last_line endings.ReadFault) (λ _. ⊤)
+Streamed k a b endings.WriteFault = (broken : Broken) × HasFailed broken a b × BreaksOff broken k a b
+Streamed k a b endings.BudgetSpent = StopsWith k a b (last_line endings.BudgetSpent) (λ n. n ≡ MOST_BYTES)
+-- nothing was read
+Streamed k a b endings.OutOfMemory = StopsWith k a b (last_line endings.OutOfMemory) (λ n. n ≡ 0)
+Streamed k a b endings.Usage = ⊥
+Streamed k a b endings.FileFault = ⊥
+Streamed k a b endings.HubFault = ⊥

@@ -1,13 +1,16 @@
 -- From one moment of a conversion to a later one.
-use Rattle.std.specs.Prelude.{◌≡◌, ℕ, ◌+◌, ◌≤◌, ◌⊎◌, ℤ, List, [], ◌++◌, length, Bool, ◌||◌, Option}
+use Rattle.std.specs.Prelude.{◌≡◌, ℕ, ◌+◌, ◌≤◌, ◌⊎◌, ℤ, List, [], ◌++◌, length, take, Bool, ◌||◌, Option}
 use Rattle.std.specs.List.{flat_map, All}
 use Rattle.std.specs.Io.KnownBytes.{Appends, Consumes}
+use Rattle.gate_base.specs.Causes.{Rose}
 use Rattle.framed_transport.specs.Frames.{framed}
 use Rattle.framed_transport.specs.Front.{front, Part, Large}
 use Rattle.gate_io.specs.Fronts.{AppendsFront}
 use Rattle.gate_run.specs.Lines.{too_large_text, left_text}
 use Rattle.gate_run.specs.Handling.{output_of, lines, any_refused}
 use Rattle.gate_run.specs.Terms.{Terms}
+use Rattle.gate_run.specs.declared.stream.Broken.{Broken}
+use Rattle.gate_run.specs.declared.stream.Broken.TheVariants as streams
 
 -- a moment: what the source has left and the sinks hold, the bytes held, and how many frames and bytes there were
 pub record Moment : Type 0 where
@@ -38,8 +41,34 @@ IsStreamLine limit frames rest line =
     ((n : ℤ) × (front limit rest ≡ Large n) × (line ≡ too_large_text (frames + 1) n))
     ⊎ ((front limit rest ≡ Part) × (rest ≡ [] → ⊥) × (line ≡ left_text frames (length rest)))
 
--- a front of what is to be written was written
-pub record Breaks (c : Terms) (a b : Moment) : Type 0 where
+-- this count of faults has risen
+abbrev pub HasRisen : Broken → ℕ → ℕ → ℕ → ℕ → Type 0
+HasRisen streams.Output output output' report report' = Rose output output'
+HasRisen streams.Report output output' report report' = Rose report report'
+
+-- the output failed: all that is to be written and reported of the first frames was, of the others a front was written, and
+-- nothing more was reported
+pub record OutputFails (c : Terms) (a b : Moment) (frames : List (List ℕ)) : Type 0 where
+  pub done : List (List ℕ)
+  pub others : List (List ℕ)
+  pub is : frames ≡ done ++ others
+  pub count : ℕ
+  pub within : count ≤ length (flat_map (output_of c) others)
+  pub written : Appends a.written b.written (flat_map (output_of c) done ++ take count (flat_map (output_of c) others))
+  pub reported : Appends a.reported b.reported (lines c a.frames done)
+
+-- the report failed: all that is to be written of the frames was, and a front of what is to be reported, with this line at the end
+pub record ReportFails (c : Terms) (a b : Moment) (frames : List (List ℕ)) (last : List ℕ) : Type 0 where
+  pub written : Appends a.written b.written (flat_map (output_of c) frames)
+  pub reported : AppendsFront a.reported b.reported (lines c a.frames frames ++ last)
+
+-- what was written and reported of these frames and this last line where a stream failed
+abbrev pub CutsOff : Broken → Terms → Moment → Moment → List (List ℕ) → List ℕ → Type 0
+CutsOff streams.Output c a b frames last = OutputFails c a b frames × (last ≡ [])
+CutsOff streams.Report c a b frames last = ReportFails c a b frames last
+
+-- a write failed: of what is to be written and reported of the frames so far, and of the line of a rest, a front was
+pub record Breaks (broken : Broken) (c : Terms) (a b : Moment) : Type 0 where
   pub read : List ℕ
   pub frames : List (List ℕ)
   pub more : List ℕ
@@ -47,6 +76,5 @@ pub record Breaks (c : Terms) (a b : Moment) : Type 0 where
   pub consumed : Consumes a.left b.left read
   pub split : a.held ++ read ≡ flat_map framed frames ++ more
   pub each : All (λ frame. length frame ≤ c.limit) frames
-  pub written : AppendsFront a.written b.written (flat_map (output_of c) frames)
-  pub reported : AppendsFront a.reported b.reported (lines c a.frames frames ++ last)
+  pub cut : CutsOff broken c a b frames last
   pub last_is : (last ≡ []) ⊎ IsStreamLine c.limit (a.frames + length frames) more last

@@ -1,5 +1,5 @@
 -- What a server does, from its start to its last line.
-use Rattle.std.specs.Prelude.{◌≡◌, ◌⊎◌, ℕ, List, true, false, Option, Some, codes}
+use Rattle.std.specs.Prelude.{◌≡◌, ◌⊎◌, ℕ, List, true, false, Option, Some}
 use Rattle.std.specs.Io.KnownBytes.{Appends}
 use Rattle.gate_base.specs.Causes.{Rose}
 use Rattle.gate_hub.specs.Meaning.{Meaning, Started}
@@ -16,11 +16,14 @@ use Rattle.session_core.specs.Session.{Seen}
 use Rattle.session_core.specs.declared.outcome.Outcome.{Outcome}
 use Rattle.proxy_server.specs.Serving.{IsHeld, HasClosed, is_over, Setting as Sessions}
 use Rattle.proxy_server.specs.Turning.{IsSettled}
-use Rattle.proxy_server.specs.Steps.{Outside, Serves}
+use Rattle.proxy_server.specs.Steps.{Serves}
 use Rattle.gate_words.specs.declared.serving.Serving.{Serving}
 use Rattle.gate_io.specs.Fronts.{AppendsFront}
+use Rattle.gate_run.specs.Endings.{last_line}
 use Rattle.gate_run.specs.Outcome.{Streams}
 use Rattle.gate_run.specs.Starting.{SaysLast}
+use Rattle.gate_run.specs.declared.status.Ending.{Ending}
+use Rattle.gate_run.specs.declared.status.Ending.TheVariants as endings
 
 -- what the hub is started with
 abbrev pub started_by : Serving → Started
@@ -39,28 +42,24 @@ pub record Reports (line : List ℕ) (a b : Streams) : Type 0 where
   pub front : AppendsFront a.reported b.reported line
   pub whole : Appends a.reported b.reported line ⊎ Rose a.report_faults b.report_faults
 
--- how the server ended, by its code and its last line
-abbrev pub EndsBy : Served → ℕ → ℕ → Streams → Streams → ℕ → Type 0
-EndsBy served.Stopped before now a b code = (code ≡ 0) × (b.reported ≡ a.reported)
-EndsBy served.HubFault before now a b code = (code ≡ 7) × Rose before now × Reports (codes "hub fault\n") a b
-EndsBy served.WriteFault before now a b code = (code ≡ 5) × (b.reported ≡ a.reported)
-EndsBy served.Budget before now a b code = (code ≡ 8) × Reports (codes "budget spent\n") a b
-EndsBy served.OutOfMemory before now a b code = (code ≡ 9) × Reports (codes "no memory\n") a b
-
--- what a server finds, or leaves: what the hub tells and its counts, and the output
-abbrev pub served_from : (Meaning → Type 0) → Counts → Streams → Outside
-served_from told counts x = record { told = told; counts = counts; written = x.written; faults = x.output_faults }
+-- how the server ended, and its last line
+abbrev pub EndsBy : Served → ℕ → ℕ → Streams → Streams → Ending → Type 0
+EndsBy served.Stopped before now a b ending = (ending ≡ endings.Done) × (b.reported ≡ a.reported)
+EndsBy served.HubFault before now a b ending = (ending ≡ endings.HubFault) × Rose before now × Reports (last_line endings.HubFault) a b
+EndsBy served.WriteFault before now a b ending = (ending ≡ endings.WriteFault) × (b.reported ≡ a.reported)
+EndsBy served.Budget before now a b ending = (ending ≡ endings.BudgetSpent) × Reports (last_line endings.BudgetSpent) a b
+EndsBy served.OutOfMemory before now a b ending = (ending ≡ endings.OutOfMemory) × Reports (last_line endings.OutOfMemory) a b
 
 -- the hub was started with what the words say, and from there it and the output are as a server of this setting leaves
 -- them; or it could not be started, and nothing was written
-pub data ServesAll {H : Type 0} (tells : H → Meaning → Type 0) (counts : H → Counts) (s : Serving) (d : Declarations) (service : Option ServiceId) (h h' : H) (a b : Streams) (code : ℕ) : Type 0 where
+pub data ServesAll {H : Type 0} (tells : H → Meaning → Type 0) (counts : H → Counts) (s : Serving) (d : Declarations) (service : Option ServiceId) (h h' : H) (a b : Streams) (ending : Ending) : Type 0 where
   Began : (mid : H) (result : Served) → b.left ≡ a.left → Later (counts h) (counts mid) → Leads (tells h) (tells mid) NotStarted (StartLeads (started_by s) began.Done)
-      → Serves Setting rules_of (settings s d service) (served_from (tells mid) (counts mid) a) (served_from (tells h') (counts h') b) result
-      → EndsBy result (counts mid).faults (counts h').faults a b code → ServesAll tells counts s d service h h' a b code
-  NotBegun : Leads (tells h) (tells h') NotStarted (StartLeads (started_by s) began.Failed) → Rose (counts h).faults (counts h').faults → SaysLast (codes "hub fault\n") 7 a b code
-      → ServesAll tells counts s d service h h' a b code
-  NoMemory : Leads (tells h) (tells h') NotStarted (StartLeads (started_by s) began.OutOfMemory) → SaysLast (codes "no memory\n") 9 a b code
-      → ServesAll tells counts s d service h h' a b code
+      → Serves Setting rules_of (tells mid) (tells h') a.written b.written a.output_faults b.output_faults (settings s d service) result
+      → EndsBy result (counts mid).faults (counts h').faults a b ending → ServesAll tells counts s d service h h' a b ending
+  NotBegun : Leads (tells h) (tells h') NotStarted (StartLeads (started_by s) began.Failed) → Rose (counts h).faults (counts h').faults → SaysLast endings.HubFault a b ending
+      → ServesAll tells counts s d service h h' a b ending
+  NoMemory : Leads (tells h) (tells h') NotStarted (StartLeads (started_by s) began.OutOfMemory) → SaysLast endings.OutOfMemory a b ending
+      → ServesAll tells counts s d service h h' a b ending
 
 -- the hub has stopped, and each session that it announced was closed and has an outcome, or is settled
 abbrev pub HasServed : (Meaning → Type 0) → Serving → Declarations → Option ServiceId → Type 0

@@ -1,5 +1,5 @@
 -- What a command starts from, and how it ends where it doesn't start.
-use Rattle.std.specs.Prelude.{◌≡◌, ◌⊎◌, ℕ, List, Option, Some, None, Result, Ok, Err, codes, ⊤}
+use Rattle.std.specs.Prelude.{◌≡◌, ◌⊎◌, ℕ, List, Option, Some, None, Result, Ok, Err, ⊤}
 use Rattle.std.specs.Io.KnownBytes.{Appends}
 use Rattle.gate_base.specs.Causes.{Rose}
 use Rattle.type_tables.specs.declared.declared.ServiceId.{ServiceId}
@@ -11,11 +11,14 @@ use Rattle.gate_words.specs.declared.options.Declared.{Declared}
 use Rattle.gate_idl.specs.Refusals.{refusal_text}
 use Rattle.gate_idl.specs.Opening.{IsOpened}
 use Rattle.gate_io.specs.Fronts.{AppendsFront}
+use Rattle.gate_run.specs.Endings.{last_line}
 use Rattle.gate_run.specs.Lines.{usage_text}
 use Rattle.gate_run.specs.Outcome.{Streams}
-use Rattle.gate_run.specs.declared.starting.Start.{Start}
-use Rattle.gate_run.specs.declared.starting.NoStart.{NoStart}
-use Rattle.gate_run.specs.declared.starting.NoStart.TheVariants as stops
+use Rattle.gate_run.specs.declared.start.Start.{Start}
+use Rattle.gate_run.specs.declared.start.NoStart.{NoStart}
+use Rattle.gate_run.specs.declared.start.NoStart.TheVariants as stops
+use Rattle.gate_run.specs.declared.status.Ending.{Ending}
+use Rattle.gate_run.specs.declared.status.Ending.TheVariants as endings
 
 -- what the files hold under each name
 abbrev pub Holds : Type 0
@@ -64,42 +67,42 @@ IsStart holds words (Err stops.OutOfMemory) = ⊤
 abbrev pub IsToldBy : Option Holds → Option (List ℕ) → Holds → Type 0
 IsToldBy told idl holds = (told ≡ Some holds) ⊎ (idl ≡ None)
 
--- a file fault comes only where the count of the files' faults rose
+-- the files' count of faults rose where a fetch failed, and stands as it was where none did
 abbrev pub HasCause : {X : Type 0} → Result X NoStart → ℕ → ℕ → Type 0
-HasCause (Ok x) before now = ⊤
-HasCause (Err (stops.Refused refusal)) before now = ⊤
-HasCause (Err stops.UnknownService) before now = ⊤
+HasCause (Ok x) before now = now ≡ before
+HasCause (Err (stops.Refused refusal)) before now = now ≡ before
+HasCause (Err stops.UnknownService) before now = now ≡ before
 HasCause (Err stops.FileFault) before now = Rose before now
-HasCause (Err stops.OutOfMemory) before now = ⊤
+HasCause (Err stops.OutOfMemory) before now = now ≡ before
 
 -- ---- what is said where a command doesn't start
 
 -- nothing was read, nothing was written to the output, and this line was reported; where the report failed a front of it was
--- written, and the code is 5
-pub record Says (line : List ℕ) (wanted : ℕ) (a b : Streams) (code : ℕ) : Type 0 where
+-- written, and the command ends with a write fault
+pub record Says (line : List ℕ) (wanted : Ending) (a b : Streams) (ending : Ending) : Type 0 where
   pub left : b.left ≡ a.left
   pub written : b.written ≡ a.written
   pub front : AppendsFront a.reported b.reported line
-  pub ends : ((code ≡ wanted) × Appends a.reported b.reported line) ⊎ ((code ≡ 5) × Rose a.report_faults b.report_faults)
+  pub ends : ((ending ≡ wanted) × Appends a.reported b.reported line) ⊎ ((ending ≡ endings.WriteFault) × Rose a.report_faults b.report_faults)
 
--- the same with a last line, which leaves the code as it is where it isn't written
-pub record SaysLast (line : List ℕ) (wanted : ℕ) (a b : Streams) (code : ℕ) : Type 0 where
+-- the same with a last line, which leaves the ending as it is where the line isn't written
+pub record SaysLast (wanted : Ending) (a b : Streams) (ending : Ending) : Type 0 where
   pub left : b.left ≡ a.left
   pub written : b.written ≡ a.written
-  pub front : AppendsFront a.reported b.reported line
-  pub whole : Appends a.reported b.reported line ⊎ Rose a.report_faults b.report_faults
-  pub code_is : code ≡ wanted
+  pub front : AppendsFront a.reported b.reported (last_line wanted)
+  pub whole : Appends a.reported b.reported (last_line wanted) ⊎ Rose a.report_faults b.report_faults
+  pub is : ending ≡ wanted
 
 -- how a command ends that doesn't start; the line of a refusal may want memory
-abbrev pub Halts : NoStart → Streams → Streams → ℕ → Type 0
-Halts (stops.Refused refusal) a b code = Says (refusal_text refusal) 1 a b code ⊎ SaysLast (codes "no memory\n") 9 a b code
-Halts stops.UnknownService a b code = Says usage_text 2 a b code
-Halts stops.FileFault a b code = SaysLast (codes "file fault\n") 6 a b code
-Halts stops.OutOfMemory a b code = SaysLast (codes "no memory\n") 9 a b code
+abbrev pub Halts : NoStart → Streams → Streams → Ending → Type 0
+Halts (stops.Refused refusal) a b ending = Says (refusal_text refusal) endings.Refused a b ending ⊎ SaysLast endings.OutOfMemory a b ending
+Halts stops.UnknownService a b ending = Says usage_text endings.Usage a b ending
+Halts stops.FileFault a b ending = SaysLast endings.FileFault a b ending
+Halts stops.OutOfMemory a b ending = SaysLast endings.OutOfMemory a b ending
 
--- the command started, and did this from there; or it did not start
-pub data Starting (told : Option Holds) (words : Declared) (before now : ℕ) (a b : Streams) (code : ℕ) (Then : Declarations → Option ServiceId → Type 0) : Type 0 where
-  Goes : (s : Start) → ((holds : Holds) → IsToldBy told words.idl holds → IsStart holds words (Ok s)) → Then s.schema s.service →
-      Starting told words before now a b code Then
-  Stops : (stop : NoStart) → ((holds : Holds) → IsToldBy told words.idl holds → IsStart holds words (Err stop)) → HasCause {X = Start} (Err stop) before now → Halts stop a b code →
-      Starting told words before now a b code Then
+-- a command started from what the files declare, and did this from there; or it did not start, and this holds
+pub data Starting (told : Option Holds) (words : Declared) (before now : ℕ) (Then : Declarations → Option ServiceId → Type 0) (Else : NoStart → Type 0) : Type 0 where
+  Goes : (s : Start) → ((holds : Holds) → IsToldBy told words.idl holds → IsStart holds words (Ok s)) → HasCause {X = Start} (Ok s) before now →
+      Then s.schema s.service → Starting told words before now Then Else
+  Stops : (stop : NoStart) → ((holds : Holds) → IsToldBy told words.idl holds → IsStart holds words (Err stop)) → HasCause {X = Start} (Err stop) before now →
+      Else stop → Starting told words before now Then Else

@@ -1,4 +1,4 @@
--- By what a stream is gone through.
+-- What is done with the frames of a stream, and by which declarations.
 use Rattle.std.specs.Prelude.{ℕ, List, Option}
 use Rattle.protocol_traits.specs.declared.proto.Proto.{Proto}
 use Rattle.type_tables.specs.declared.declared.ServiceId.{ServiceId}
@@ -9,8 +9,8 @@ use Rattle.protocol_pairs.specs.Pairs.{judged}
 use Rattle.message_show.specs.Shown.{Showing, shown}
 use Rattle.gate_words.specs.declared.command.Conversion.{Conversion}
 use Rattle.gate_words.specs.declared.command.Showing.{Showing as ShowWords}
-use Rattle.gate_run.specs.declared.doing.Doing.{Doing}
-use Rattle.gate_run.specs.declared.doing.Doing.TheVariants.{Convert, Show}
+use Rattle.gate_run.specs.declared.task.Doing.{Doing}
+use Rattle.gate_run.specs.declared.task.Doing.TheVariants.{Convert, Show}
 
 -- what is declared, the service of names that have none before them, what is done with a frame, and the most bytes of one
 pub record Terms : Type 0 where

@@ -1,23 +1,26 @@
 -- The work on a stream and what its calls do.
-use Rattle.std.specs.Prelude.{◌≡◌, ℕ, ◌+◌, ◌*◌, ◌-◌, ◌^◌, ◌<◌, ◌≤◌, ◌⊎◌, ℤ, List, [], ◌++◌, length, true, false, Option, ⊤}
+use Rattle.std.specs.Prelude.{◌≡◌, ℕ, ◌+◌, ◌^◌, ◌<◌, ◌≤◌, ◌⊎◌, ℤ, List, [], ◌++◌, length, true, false, Option, Some, None, Result, Ok, Err, ⊤}
+use Rattle.std.specs.List.{flat_map}
 use Rattle.std.specs.Io.KnownBytes.{Appends, IsAtEnd, append_known}
 use Rattle.framed_transport.specs.Front.{front, Part, Large}
 use Rattle.gate_run.specs.Progress.{Moment, Goes, Breaks, IsStreamLine}
 use Rattle.gate_io.specs.Buffer.{Buffer}
 use Rattle.gate_run.specs.Terms.{Terms}
 use Rattle.gate_io.specs.Fronts.{AppendsFront, Flushed}
-use Rattle.gate_run.specs.Handling.{Treated, Passes, Fails}
-use Rattle.gate_run.specs.declared.doing.Doing.{Doing}
-use Rattle.gate_run.specs.declared.doing.Doing.TheVariants.{Convert, Show}
-use Rattle.gate_run.specs.declared.handling.Treatment.{Treatment}
-use Rattle.gate_run.specs.declared.handling.Treatment.TheVariants as treatment
-use Rattle.gate_run.specs.declared.work.Work.{Work}
-use Rattle.gate_run.specs.declared.work.Drained.{Drained}
-use Rattle.gate_run.specs.declared.work.Drained.TheVariants as drained
-use Rattle.gate_run.specs.declared.work.Taken.{Taken}
-use Rattle.gate_run.specs.declared.work.Taken.TheVariants as taken
-use Rattle.gate_run.specs.declared.work.End.{End}
-use Rattle.gate_run.specs.declared.work.End.TheVariants as ends
+use Rattle.gate_run.specs.Handling.{Treated, Passes, Fails, output_of, lines}
+use Rattle.gate_run.specs.Rooms.{framed_room}
+use Rattle.gate_run.specs.declared.task.Doing.{Doing}
+use Rattle.gate_run.specs.declared.task.Doing.TheVariants.{Convert, Show}
+use Rattle.gate_run.specs.declared.frame.Treatment.{Treatment}
+use Rattle.gate_run.specs.declared.frame.Treatment.TheVariants as treatment
+use Rattle.gate_io.specs.declared.byte_streams.Got.{Got}
+use Rattle.gate_io.specs.declared.byte_streams.Got.TheVariants as got
+use Rattle.gate_run.specs.declared.status.Ending.{Ending}
+use Rattle.gate_run.specs.declared.status.Ending.TheVariants as endings
+use Rattle.gate_run.specs.declared.stream.Broken.{Broken}
+use Rattle.gate_run.specs.declared.stream.Broken.TheVariants as streams
+use Rattle.gate_run.specs.declared.stream.TheConstants.{LINES_ROOM, MOST_BYTES}
+use Rattle.gate_run.specs.declared.stream.Work.{Work}
 
 -- ---- one frame
 
@@ -33,12 +36,12 @@ Treats treatment.WriteFault (Fails own) written waiting written' waiting' = ⊥
 
 -- a page has room for all that may be sent of a frame of so many bytes; a line goes past the page where it doesn't fit
 abbrev pub HasRoom : Doing → ℕ → Buffer → Type 0
-HasRoom (Convert from to) n page = (length page.bytes + (24 * n + 260) ≤ page.room) × (page.room < 2 ^ 31)
+HasRoom (Convert from to) n page = (length page.bytes + framed_room n ≤ page.room) × (page.room < 2 ^ 31)
 HasRoom (Show from) n page = ⊤
 
 -- so an empty page has for frames of this limit
 abbrev pub IsRoomy : Doing → ℕ → ℕ → Type 0
-IsRoomy (Convert from to) limit room = room ≡ 24 * limit + 260
+IsRoomy (Convert from to) limit room = room ≡ framed_room limit
 IsRoomy (Show from) limit room = ⊤
 
 -- ---- the work
@@ -47,7 +50,7 @@ IsRoomy (Show from) limit room = ⊤
 pub record IsReady (k : Terms) (work : Work) : Type 0 where
   pub limit_is : work.frames.limit ≡ k.limit
   pub page : IsRoomy k.doing k.limit work.page.out.room
-  pub lines : work.lines.room ≡ 4096
+  pub lines : work.lines.room ≡ LINES_ROOM
   pub counted : work.number + length work.frames.held ≤ work.taken
   pub taken : work.taken < 2 ^ 63
 
@@ -72,26 +75,65 @@ abbrev pub moment : Work → Option (List ℕ) → Option (List ℕ) → Option 
 moment work left written reported =
     record { left = left; written = written; reported = reported; held = work.frames.held; frames = work.number; taken = work.taken; refused = work.refused }
 
--- from one moment to a later one, in which these bytes wait for the output and for the report
-pub record Waits (k : Terms) (a b : Moment) (out lines : List ℕ) : Type 0 where
-  pub goes : Goes k a (record b { written = append_known b.written out; reported = append_known b.reported lines })
-  pub sent : (bytes : List ℕ) × Appends a.written b.written bytes
-  pub told : (bytes : List ℕ) × Appends a.reported b.reported bytes
+-- from one moment to a later one, in which these bytes wait for the output and for the report: all that is to be written and
+-- reported of the first frames was, and nothing was reported of the others
+pub record Waits (k : Terms) (a b : Moment) (out waiting : List ℕ) : Type 0 where
+  pub goes : Goes k a (record b { written = append_known b.written out; reported = append_known b.reported waiting })
+  pub done : List (List ℕ)
+  pub others : List (List ℕ)
+  pub is : goes.frames ≡ done ++ others
+  pub some : List ℕ
+  pub written : Appends a.written b.written (flat_map (output_of k) done ++ some)
+  pub reported : Appends a.reported b.reported (lines k a.frames done)
 
-abbrev pub Handles : Terms → Moment → Moment → List ℕ → List ℕ → Drained → Type 0
-Handles k a b out lines drained.NeedMore = Waits k a b out lines × IsWaiting k b.held
-Handles k a b out lines (drained.TooLarge n) = Waits k a b out lines × (front k.limit b.held ≡ Large n)
-Handles k a b out lines drained.WriteFault = Breaks k a b
+-- ---- what is gathered is written
 
-abbrev pub Drains : Terms → Moment → Moment → Drained → Type 0
-Drains k a b drained.NeedMore = Goes k a b × IsWaiting k b.held
-Drains k a b (drained.TooLarge n) = Goes k a b × (front k.limit b.held ≡ Large n)
-Drains k a b drained.WriteFault = Breaks k a b
+-- the page was written and then the lines were reported, or a stream failed in between
+abbrev pub WritesBoth : Result (Unit {0}) Broken → List ℕ → List ℕ → Option (List ℕ) → Option (List ℕ) → Option (List ℕ) → Option (List ℕ) → Type 0
+WritesBoth (Ok done) page waiting written written' reported reported' = Appends written written' page × Appends reported reported' waiting
+WritesBoth (Err streams.Output) page waiting written written' reported reported' = AppendsFront written written' page × (reported' ≡ reported)
+WritesBoth (Err streams.Report) page waiting written written' reported reported' = Appends written written' page × AppendsFront reported reported' waiting
 
-abbrev pub Takes : Terms → Moment → Moment → Taken → Type 0
-Takes k a b taken.More = Goes k a b × (a.taken < b.taken)
-Takes k a b taken.End = Goes k a b × IsWaiting k b.held × IsAtEnd b.left
-Takes k a b taken.Failed = Goes k a b × IsWaiting k b.held
+-- all stays as it was
+pub record Stays (page page' waiting waiting' : List ℕ) (written written' reported reported' : Option (List ℕ)) : Type 0 where
+  pub page_stays : page' ≡ page
+  pub waiting_stays : waiting' ≡ waiting
+  pub written_stays : written' ≡ written
+  pub reported_stays : reported' ≡ reported
+
+-- all that was gathered was written and reported
+pub record Empties (page page' waiting waiting' : List ℕ) (written written' reported reported' : Option (List ℕ)) : Type 0 where
+  pub page_empty : page' ≡ []
+  pub waiting_empty : waiting' ≡ []
+  pub page_written : Appends written written' page
+  pub all_reported : Appends reported reported' waiting
+
+-- there is room: nothing was written for it, or all that was gathered was
+abbrev pub MakesRoom : Result (Unit {0}) Broken → List ℕ → List ℕ → List ℕ → List ℕ → Option (List ℕ) → Option (List ℕ) → Option (List ℕ) → Option (List ℕ) → Type 0
+MakesRoom (Ok done) page page' waiting waiting' written written' reported reported' =
+    Stays page page' waiting waiting' written written' reported reported' ⊎ Empties page page' waiting waiting' written written' reported reported'
+MakesRoom (Err broken) page page' waiting waiting' written written' reported reported' = WritesBoth (Err broken) page waiting written written' reported reported'
+
+-- ---- the frames that are held
+
+-- less than a frame is held, or the next length is too large; what there was room for waits
+abbrev pub Handles : Terms → Moment → Moment → List ℕ → List ℕ → Result (Option ℤ) Broken → Type 0
+Handles k a b out waiting (Ok None) = Waits k a b out waiting × IsWaiting k b.held
+Handles k a b out waiting (Ok (Some n)) = Waits k a b out waiting × (front k.limit b.held ≡ Large n)
+Handles k a b out waiting (Err broken) = Breaks broken k a b
+
+-- the same with all of it written
+abbrev pub Drains : Terms → Moment → Moment → Result (Option ℤ) Broken → Type 0
+Drains k a b (Ok None) = Goes k a b × IsWaiting k b.held
+Drains k a b (Ok (Some n)) = Goes k a b × (front k.limit b.held ≡ Large n)
+Drains k a b (Err broken) = Breaks broken k a b
+
+abbrev pub Takes : Terms → Moment → Moment → Got → Type 0
+Takes k a b (got.Bytes n) = Goes k a b × (a.taken < b.taken)
+Takes k a b got.End = Goes k a b × IsWaiting k b.held × IsAtEnd b.left
+Takes k a b got.Failed = Goes k a b × IsWaiting k b.held
+
+-- ---- how the work ends
 
 -- the line of the rest was written after all the others
 pub record EndsInRest (k : Terms) (a b : Moment) : Type 0 where
@@ -104,10 +146,15 @@ pub record EndsInRest (k : Terms) (a b : Moment) : Type 0 where
   pub left : b.left ≡ mid.left
   pub at_end : ((n : ℤ) × (front k.limit mid.held ≡ Large n)) ⊎ IsAtEnd mid.left
 
-abbrev pub Ends : Terms → Moment → Moment → End → Type 0
-Ends k a b ends.Done = Goes k a b × (b.held ≡ []) × (b.refused ≡ false) × IsAtEnd b.left
-Ends k a b ends.Refused = Goes k a b × (b.held ≡ []) × (b.refused ≡ true) × IsAtEnd b.left
-Ends k a b ends.StreamFault = EndsInRest k a b
-Ends k a b ends.ReadFault = Goes k a b × IsWaiting k b.held
-Ends k a b ends.WriteFault = Breaks k a b
-Ends k a b ends.BudgetSpent = Goes k a b × IsWaiting k b.held × (b.taken ≡ 2 ^ 63 - 1)
+abbrev pub Ends : Terms → Moment → Moment → Result Ending Broken → Type 0
+Ends k a b (Ok endings.Done) = Goes k a b × (b.held ≡ []) × (b.refused ≡ false) × IsAtEnd b.left
+Ends k a b (Ok endings.Refused) = Goes k a b × (b.held ≡ []) × (b.refused ≡ true) × IsAtEnd b.left
+Ends k a b (Ok endings.StreamFault) = EndsInRest k a b
+Ends k a b (Ok endings.ReadFault) = Goes k a b × IsWaiting k b.held
+Ends k a b (Ok endings.BudgetSpent) = Goes k a b × IsWaiting k b.held × (b.taken ≡ MOST_BYTES)
+Ends k a b (Ok endings.Usage) = ⊥
+Ends k a b (Ok endings.WriteFault) = ⊥
+Ends k a b (Ok endings.FileFault) = ⊥
+Ends k a b (Ok endings.HubFault) = ⊥
+Ends k a b (Ok endings.OutOfMemory) = ⊥
+Ends k a b (Err broken) = Breaks broken k a b

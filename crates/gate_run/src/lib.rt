@@ -1,28 +1,31 @@
 //! The gateway's one call: `run` reads the words of a command and does what they say over sources,
 //! sinks, files and a hub that are handed to it. Its contract tells what was read, written and reported
 //! at each status.
+//!
+//! Each command has a file of its own: `check`, `convert`, `show`, `serve`, `drill`, `help`. A conversion and
+//! a showing go through a `stream` of frames, each of which is treated in `frame`.
 #![tactic(auto)]
 
-mod checking;
-mod doing;
-mod drilling;
-mod handling;
-mod helping;
-mod judging;
+mod check;
+mod commands;
+mod convert;
+mod drill;
+mod frame;
+mod help;
+mod judges;
 mod laws;
 mod lines;
 mod page;
-mod running;
-mod serving;
-mod starting;
+mod serve;
+mod show;
+mod start;
 mod status;
-mod streaming;
+mod stream;
 mod task;
-mod work;
 
+pub use commands::run;
 pub use laws::{
     a_good_idl_is_checked, a_good_idl_starts_a_server, a_good_idl_starts_a_stream,
     a_good_stream_is_done, a_stopped_hub_was_served, help_is_written, messages_are_made,
 };
-pub use running::run;
 pub use status::Status;

@@ -8,11 +8,17 @@ use itoa::{Buffer, Integer};
 /// The room for each line.
 pub const LINE_ROOM: usize = 128;
 
+/// The room for a number in digits.
+const NUMBER_ROOM: usize = 40;
+
+/// The longest text of a cause.
+const LONGEST_CAUSE: usize = 17;
+
 /// Appends a number in digits.
 pub fn push_number<I: Integer>(line: &mut Out, number: I)
-    requires { length line.old.bytes + 40 ≤ line.old.room }
+    requires { length line.old.bytes + NUMBER_ROOM ≤ line.old.room }
     ensures text { line.new ≡ record line.old { bytes = line.old.bytes ++ I.text number } }
-    ensures short { length line.new.bytes ≤ length line.old.bytes + 40 }
+    ensures short { length line.new.bytes ≤ length line.old.bytes + NUMBER_ROOM }
 {
     let mut digits = Buffer::new();
     line.push(digits.format(number).as_bytes());
@@ -22,7 +28,7 @@ pub fn push_number<I: Integer>(line: &mut Out, number: I)
 #[tactic(auto, unfolding(crate::specs::Lines::refusal_text))]
 pub fn refusal(lines: &mut Out, number: u64, place: usize, cause: &[u8])
     requires room { length lines.old.bytes + LINE_ROOM ≤ lines.old.room }
-    requires short { length cause.now ≤ 17 }
+    requires short { length cause.now ≤ LONGEST_CAUSE }
     ensures { lines.new ≡ record lines.old { bytes = lines.old.bytes ++ refusal_text number place cause.now } }
 {
     lines.push(b"frame ");

@@ -1,8 +1,9 @@
-//! The status of a command, and its last line.
+//! How a command ends: its exit code, and the last line of its report.
 ghost use Rattle.std.specs.Prelude.{◌≡◌, ◌⊎◌, ◌≤◌};
 ghost use Rattle.std.specs.Io.KnownBytes.{Appends};
 ghost use Rattle.gate_base.specs.Causes.{Rose};
 ghost use Rattle.gate_io.specs.Fronts.{AppendsFront};
+ghost use Rattle.gate_run.specs.Endings.{code_of, last_line};
 ghost use Rattle.gate_run.specs.Lines.{usage_text};
 
 use gate_io::{Sink, Wrote, write_all};
@@ -14,39 +15,95 @@ pub struct Status {
     pub code: u8,
 }
 
-/// Writes the last line, and gives this status, whether it was written or not.
-pub fn end_with<E: Sink>(report: &mut E, line: &[u8], code: u8) -> Status
-    ensures code { result.code ≡ code }
-    ensures front { AppendsFront (E.written report.old) (E.written report.new) line.now }
-    ensures whole { Appends (E.written report.old) (E.written report.new) line.now ⊎ Rose (E.faults report.old) (E.faults report.new) }
-    ensures later { E.faults report.old ≤ E.faults report.new }
-{
-    let _ = write_all(report, line);
-    Status { code }
+/// How a command ended.
+#[derive(Clone, Copy)]
+pub enum Ending {
+    Done,
+    /// The IDL or a frame is refused.
+    Refused,
+    /// The words are no command, or their service is unknown.
+    Usage,
+    /// The length of a frame is negative or too large, or the input ended within a frame.
+    StreamFault,
+    ReadFault,
+    WriteFault,
+    FileFault,
+    HubFault,
+    BudgetSpent,
+    OutOfMemory,
 }
 
-/// Writes a line, and gives this status, or that of a write fault where it wasn't written.
-pub fn say<S: Sink>(sink: &mut S, line: &[u8], code: u8) -> Status
+impl Ending {
+    /// The exit code.
+    pub fn status(self) -> Status
+        ensures { result.code ≡ code_of self }
+    {
+        let code = match self {
+            Ending::Done => 0,
+            Ending::Refused => 1,
+            Ending::Usage => 2,
+            Ending::StreamFault => 3,
+            Ending::ReadFault => 4,
+            Ending::WriteFault => 5,
+            Ending::FileFault => 6,
+            Ending::HubFault => 7,
+            Ending::BudgetSpent => 8,
+            Ending::OutOfMemory => 9,
+        };
+        Status { code }
+    }
+
+    // The line that tells it, where one line tells all.
+    #[tactic(auto, unfolding(crate::specs::Endings::last_line))]
+    fn last_line(self) -> &'static [u8]
+        ensures { result.now ≡ last_line self }
+    {
+        match self {
+            Ending::ReadFault => b"read fault\n",
+            Ending::FileFault => b"file fault\n",
+            Ending::HubFault => b"hub fault\n",
+            Ending::BudgetSpent => b"budget spent\n",
+            Ending::OutOfMemory => b"no memory\n",
+            _ => b"",
+        }
+    }
+}
+
+/// Reports the last line of this ending, and gives it, whether the line was written or not.
+pub fn end_with<E: Sink>(report: &mut E, ending: Ending) -> Ending
+    ensures ending { result ≡ ending }
+    ensures front { AppendsFront (E.written report.old) (E.written report.new) (last_line ending) }
+    ensures whole { Appends (E.written report.old) (E.written report.new) (last_line ending) ⊎ Rose (E.faults report.old) (E.faults report.new) }
+    ensures later { E.faults report.old ≤ E.faults report.new }
+{
+    let _ = write_all(report, ending.last_line());
+    ending
+}
+
+/// Writes a line, and gives this ending, or that of a write fault where it wasn't written.
+pub fn say<S: Sink>(sink: &mut S, line: &[u8], ending: Ending) -> Ending
     ensures front { AppendsFront (S.written sink.old) (S.written sink.new) line.now }
-    ensures ends { ((result.code ≡ code) × Appends (S.written sink.old) (S.written sink.new) line.now) ⊎ ((result.code ≡ 5) × Rose (S.faults sink.old) (S.faults sink.new)) }
+    ensures ends { ((result ≡ ending) × Appends (S.written sink.old) (S.written sink.new) line.now)
+        ⊎ ((result ≡ Ending.WriteFault) × Rose (S.faults sink.old) (S.faults sink.new)) }
     ensures later { S.faults sink.old ≤ S.faults sink.new }
 {
     match write_all(sink, line) {
-        Wrote::All => Status { code },
-        Wrote::Failed => Status { code: 5 },
+        Wrote::All => ending,
+        Wrote::Failed => Ending::WriteFault,
     }
 }
 
 /// Reports that the words are no command.
 #[tactic(auto, unfolding(crate::specs::Lines::usage_text))]
-pub fn usage<E: Sink>(report: &mut E) -> Status
+pub fn usage<E: Sink>(report: &mut E) -> Ending
     ensures front { AppendsFront (E.written report.old) (E.written report.new) usage_text }
-    ensures ends { ((result.code ≡ 2) × Appends (E.written report.old) (E.written report.new) usage_text) ⊎ ((result.code ≡ 5) × Rose (E.faults report.old) (E.faults report.new)) }
+    ensures ends { ((result ≡ Ending.Usage) × Appends (E.written report.old) (E.written report.new) usage_text)
+        ⊎ ((result ≡ Ending.WriteFault) × Rose (E.faults report.old) (E.faults report.new)) }
     ensures later { E.faults report.old ≤ E.faults report.new }
 {
     say(
         report,
         b"usage: thrift_gate check|convert|show|serve|drill|help\n",
-        2,
+        Ending::Usage,
     )
 }

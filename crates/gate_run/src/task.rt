@@ -1,11 +1,11 @@
-//! By what a stream is gone through.
+//! What is done with the frames of a stream, and by which declarations.
 ghost use Rattle.std.specs.Prelude.{◌≡◌, ◌+◌, ◌*◌, ◌^◌, ◌<◌, ◌≤◌, IfSome, length};
 ghost use Rattle.gate_base.specs.Causes.{Rose};
 ghost use Rattle.translate_core.specs.Judged.{IsJudged};
 ghost use Rattle.message_show.specs.Shown.{IsShown};
+ghost use Rattle.gate_run.specs.Rooms.{translated_room};
 ghost use Rattle.gate_run.specs.Terms.{terms, judged_by, shown_by};
 
-use crate::doing::Doing;
 use gate_io::{Out, Sink};
 use message_show::{Shown, show};
 use protocol_pairs::translate;
@@ -13,6 +13,15 @@ use protocol_traits::Proto;
 use std::marker::Model;
 use translate_core::{Route, Verdict};
 use type_tables::{Schema, ServiceId};
+
+/// What is done with each frame.
+#[derive(Clone, Copy)]
+pub enum Doing {
+    /// Its message is translated from one protocol to the other.
+    Convert { from: Proto, to: Proto },
+    /// Its message in this protocol is shown as a line.
+    Show { from: Proto },
+}
 
 /// What is done with each frame of a stream, with what is declared for its messages.
 #[derive(Drop)]
@@ -79,7 +88,7 @@ impl<'s> Task<'s> {
     ) -> Verdict
         requires room { length frame.now ≤ length room.old }
         requires size { length frame.now < 2 ^ 31 }
-        requires fits { length out.old.bytes + (24 * length frame.now + 256) ≤ out.old.room }
+        requires fits { length out.old.bytes + translated_room (length frame.now) ≤ out.old.room }
         ensures exact { IsJudged result out.old.bytes out.new.bytes (judged_by self.now from to frame.now) }
         ensures room { out.new.room ≡ out.old.room }
     {

@@ -5,7 +5,8 @@ use crate::outside::{Outside, Ran, run_line, with_input};
 use gate_base::OutOfMemory;
 use std::alloc::Global;
 use std::test::*;
-use thrift_value::{Event, GatherFault, Kind, events_of, gather};
+use thrift_value::{Event, Kind};
+use value_trees::{GatherFault, events_of, gather};
 
 /// One call `ping` without arguments, framed.
 const CALL: [u8; 21] = *b"\0\0\0\x11\x80\x01\0\x01\0\0\0\x04ping\0\0\0\x01\0";

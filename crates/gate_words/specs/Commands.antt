@@ -9,6 +9,7 @@ use Rattle.gate_words.specs.Serving.{serve_of}
 use Rattle.gate_words.specs.declared.command.Command.{Command}
 use Rattle.gate_words.specs.declared.command.Command.TheVariants as commands
 use Rattle.gate_words.specs.declared.options.Options.{Options}
+use Rattle.gate_words.specs.declared.limits.TheConstants.{DEFAULT_LIMIT, GREATEST_LIMIT, MOST_SESSIONS, MOST_EVENTS, MOST_CALLS, MOST_MESSAGES}
 
 -- check FILE
 abbrev pub check_of : List (List ℕ) → Option Command
@@ -19,7 +20,7 @@ check_of (file ∷ more ∷ rest) = None
 abbrev pub convert_as : Proto → Proto → Options → Option Command
 convert_as from to o =
     if is_server_alone o then None
-    else Some (commands.Convert (record { from = from; to = to; limit = or_else 262144 o.limit }) (record { idl = o.idl; service = o.service }))
+    else Some (commands.Convert (record { from = from; to = to; limit = or_else DEFAULT_LIMIT o.limit }) (record { idl = o.idl; service = o.service }))
 
 abbrev pub converted : Proto → Proto → Option Options → Option Command
 converted from to None = None
@@ -42,7 +43,7 @@ convert_of (from ∷ to ∷ rest) = convert_between (proto_of from) (proto_of to
 abbrev pub show_as : Proto → Options → Option Command
 show_as from o =
     if is_server_alone o then None
-    else Some (commands.Show (record { from = from; limit = or_else 262144 o.limit }) (record { idl = o.idl; service = o.service }))
+    else Some (commands.Show (record { from = from; limit = or_else DEFAULT_LIMIT o.limit }) (record { idl = o.idl; service = o.service }))
 
 abbrev pub shown : Proto → Option Options → Option Command
 shown from None = None
@@ -65,11 +66,11 @@ drill_as (Some seed) (Some count) = Some (commands.Drill (record { seed = seed; 
 drill_as None count = None
 drill_as (Some seed) None = None
 
--- drill SEED COUNT, at most 1,000,000 messages
+-- drill SEED COUNT
 abbrev pub drill_of : List (List ℕ) → Option Command
 drill_of [] = None
 drill_of (seed ∷ []) = None
-drill_of (seed ∷ count ∷ []) = drill_as (number_of seed) (within 0 1000000 (number_of count))
+drill_of (seed ∷ count ∷ []) = drill_as (number_of seed) (within 0 MOST_MESSAGES (number_of count))
 drill_of (seed ∷ count ∷ more ∷ rest) = None
 
 abbrev pub help_of : List (List ℕ) → Option Command
@@ -91,9 +92,9 @@ command (name ∷ rest) =
 -- each number lies in its range
 abbrev pub IsInRange : Command → Type 0
 IsInRange (commands.Check file) = ⊤
-IsInRange (commands.Convert k declared) = k.limit ≤ 16384000
-IsInRange (commands.Show k declared) = k.limit ≤ 16384000
+IsInRange (commands.Convert k declared) = k.limit ≤ GREATEST_LIMIT
+IsInRange (commands.Show k declared) = k.limit ≤ GREATEST_LIMIT
 IsInRange (commands.Serve s declared) =
-    (s.limit ≤ 16384000) × (1 ≤ s.sessions) × (s.sessions ≤ 1024) × (1 ≤ s.events) × (s.events ≤ 9223372036854775807) × (1 ≤ s.calls) × (s.calls ≤ 65536)
-IsInRange (commands.Drill k) = k.count ≤ 1000000
+    (s.limit ≤ GREATEST_LIMIT) × (1 ≤ s.sessions) × (s.sessions ≤ MOST_SESSIONS) × (1 ≤ s.events) × (s.events ≤ MOST_EVENTS) × (1 ≤ s.calls) × (s.calls ≤ MOST_CALLS)
+IsInRange (commands.Drill k) = k.count ≤ MOST_MESSAGES
 IsInRange commands.Help = ⊤

@@ -3,6 +3,7 @@ use Rattle.std.specs.Prelude.{ℕ, ◌||◌, ◌≤◌, List, [], ◌∷◌, Opt
 use Rattle.gate_words.specs.Same.{is, is_empty}
 use Rattle.gate_words.specs.Numbers.{number_of, within}
 use Rattle.gate_words.specs.declared.options.Options.{Options}
+use Rattle.gate_words.specs.declared.limits.TheConstants.{LEAST_LIMIT, GREATEST_LIMIT, MOST_SESSIONS, MOST_ACCEPTED, MOST_EVENTS, MOST_CALLS}
 
 abbrev pub no_options : Options
 no_options = record { idl = None; service = None; limit = None; sessions = None; accept = None; events = None; calls = None }
@@ -14,9 +15,9 @@ with_idl o value = if is_some o.idl || is_empty value then None else Some (recor
 abbrev pub with_service : Options → List ℕ → Option Options
 with_service o value = if is_some o.service || is_empty value then None else Some (record o { service = Some value })
 
--- a frame limit in decimal, from 1,024 to 16,384,000
+-- a frame limit, in bytes
 unfoldable pub limit_of : List ℕ → Option ℕ
-limit_of value = within 1024 16384000 (number_of value)
+limit_of value = within LEAST_LIMIT GREATEST_LIMIT (number_of value)
 
 abbrev pub set_limit : Options → Option ℕ → Option Options
 set_limit o None = None
@@ -25,37 +26,37 @@ set_limit o (Some limit) = Some (record o { limit = Some limit })
 abbrev pub with_limit : Options → List ℕ → Option Options
 with_limit o value = if is_some o.limit then None else set_limit o (limit_of value)
 
--- the sessions at a time, from 1 to 1,024
+-- the sessions at a time
 abbrev pub set_sessions : Options → Option ℕ → Option Options
 set_sessions o None = None
 set_sessions o (Some sessions) = Some (record o { sessions = Some sessions })
 
 abbrev pub with_sessions : Options → List ℕ → Option Options
-with_sessions o value = if is_some o.sessions then None else set_sessions o (within 1 1024 (number_of value))
+with_sessions o value = if is_some o.sessions then None else set_sessions o (within 1 MOST_SESSIONS (number_of value))
 
--- the connections in all, from 0 to 2^63 - 1
+-- the connections in all
 abbrev pub set_accept : Options → Option ℕ → Option Options
 set_accept o None = None
 set_accept o (Some accept) = Some (record o { accept = Some accept })
 
 abbrev pub with_accept : Options → List ℕ → Option Options
-with_accept o value = if is_some o.accept then None else set_accept o (within 0 9223372036854775807 (number_of value))
+with_accept o value = if is_some o.accept then None else set_accept o (within 0 MOST_ACCEPTED (number_of value))
 
--- the events, from 1 to 2^63 - 1
+-- the events
 abbrev pub set_events : Options → Option ℕ → Option Options
 set_events o None = None
 set_events o (Some events) = Some (record o { events = Some events })
 
 abbrev pub with_events : Options → List ℕ → Option Options
-with_events o value = if is_some o.events then None else set_events o (within 1 9223372036854775807 (number_of value))
+with_events o value = if is_some o.events then None else set_events o (within 1 MOST_EVENTS (number_of value))
 
--- the open calls of a session, from 1 to 65,536
+-- the open calls of a session
 abbrev pub set_calls : Options → Option ℕ → Option Options
 set_calls o None = None
 set_calls o (Some calls) = Some (record o { calls = Some calls })
 
 abbrev pub with_calls : Options → List ℕ → Option Options
-with_calls o value = if is_some o.calls then None else set_calls o (within 1 65536 (number_of value))
+with_calls o value = if is_some o.calls then None else set_calls o (within 1 MOST_CALLS (number_of value))
 
 -- an option that a server alone has
 unfoldable pub with_server_option : Options → List ℕ → List ℕ → Option Options
@@ -90,8 +91,8 @@ options_of o (name ∷ value ∷ rest) = and_then (with_option o name value) (λ
 
 -- each number lies in its range
 pub record IsInRange (o : Options) : Type 0 where
-  pub limit : IfSome o.limit (λ n. (1024 ≤ n) × (n ≤ 16384000))
-  pub sessions : IfSome o.sessions (λ n. (1 ≤ n) × (n ≤ 1024))
-  pub accept : IfSome o.accept (λ n. n ≤ 9223372036854775807)
-  pub events : IfSome o.events (λ n. (1 ≤ n) × (n ≤ 9223372036854775807))
-  pub calls : IfSome o.calls (λ n. (1 ≤ n) × (n ≤ 65536))
+  pub limit : IfSome o.limit (λ n. (LEAST_LIMIT ≤ n) × (n ≤ GREATEST_LIMIT))
+  pub sessions : IfSome o.sessions (λ n. (1 ≤ n) × (n ≤ MOST_SESSIONS))
+  pub accept : IfSome o.accept (λ n. n ≤ MOST_ACCEPTED)
+  pub events : IfSome o.events (λ n. (1 ≤ n) × (n ≤ MOST_EVENTS))
+  pub calls : IfSome o.calls (λ n. (1 ≤ n) × (n ≤ MOST_CALLS))

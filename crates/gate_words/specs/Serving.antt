@@ -1,5 +1,5 @@
 -- The command that serves.
-use Rattle.std.specs.Prelude.{ℕ, ◌+◌, ◌*◌, ◌&&◌, List, [], ◌∷◌, Option, Some, None, Bool, if◌then◌else◌, nat_lt}
+use Rattle.std.specs.Prelude.{ℕ, ◌+◌, ◌*◌, ◌&&◌, List, [], ◌∷◌, Option, Some, None, Bool, if◌then◌else◌, nat_le}
 use Rattle.protocol_traits.specs.declared.proto.Proto.{Proto}
 use Rattle.gate_words.specs.Same.{or_else}
 use Rattle.gate_words.specs.Protos.{proto_of}
@@ -9,25 +9,26 @@ use Rattle.gate_words.specs.declared.command.Command.{Command}
 use Rattle.gate_words.specs.declared.command.Command.TheVariants as commands
 use Rattle.gate_words.specs.declared.options.Options.{Options}
 use Rattle.gate_words.specs.declared.serving.Ends.{Ends}
+use Rattle.gate_words.specs.declared.limits.TheConstants.{DEFAULT_LIMIT, DEFAULT_SESSIONS, DEFAULT_CALLS, MOST_EVENTS, MOST_HELD}
 
--- all sessions together hold at most 2^32 bytes
+-- all sessions together hold at most so many bytes
 abbrev pub is_within_memory : ℕ → ℕ → ℕ → Bool
-is_within_memory sessions limit calls = nat_lt (sessions * (52 * limit + 16 * calls + 4096)) 4294967297
+is_within_memory sessions limit calls = nat_le (sessions * (52 * limit + 16 * calls + 4096)) MOST_HELD
 
 abbrev pub serve_as : Ends → Options → Option Command
 serve_as ends o =
-    if is_within_memory (or_else 32 o.sessions) (or_else 262144 o.limit) (or_else 1024 o.calls) then
+    if is_within_memory (or_else DEFAULT_SESSIONS o.sessions) (or_else DEFAULT_LIMIT o.limit) (or_else DEFAULT_CALLS o.calls) then
     Some (commands.Serve
     (record {
       client = ends.client;
       upstream = ends.upstream;
       listen = ends.listen;
       target = ends.target;
-      limit = or_else 262144 o.limit;
-      sessions = or_else 32 o.sessions;
+      limit = or_else DEFAULT_LIMIT o.limit;
+      sessions = or_else DEFAULT_SESSIONS o.sessions;
       accept = or_else 0 o.accept;
-      events = or_else 9223372036854775807 o.events;
-      calls = or_else 1024 o.calls;
+      events = or_else MOST_EVENTS o.events;
+      calls = or_else DEFAULT_CALLS o.calls;
     })
     (record { idl = o.idl; service = o.service }))
     else None

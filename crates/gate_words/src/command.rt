@@ -4,18 +4,13 @@ ghost use Rattle.gate_words.specs.Protos.{proto_of};
 ghost use Rattle.gate_words.specs.Commands.{command, check_of, convert_of, convert_with, convert_as, show_of, show_with, show_as, drill_of, drill_as, help_of, IsInRange};
 ghost use Rattle.gate_words.specs.Options.{IsInRange as AreInRange};
 
+use crate::limits::{DEFAULT_LIMIT, MOST_MESSAGES};
 use crate::numeral::{number, number_within};
 use crate::options::{Declared, Options, read_options};
 use crate::serving::{Serving, serve};
 use gate_base::{OutOfMemory, Text, Word};
 use protocol_traits::Proto;
 use std::alloc::Global;
-
-/// The frame limit where the words give none, in bytes.
-pub const DEFAULT_LIMIT: u32 = 262_144;
-
-/// The most messages of a drill.
-const MOST_MESSAGES: u64 = 1_000_000;
 
 /// A conversion of a stream of frames, each of at most `limit` bytes.
 #[derive(Clone, Copy, Debug, PartialEq, Eq)]
@@ -212,7 +207,7 @@ fn drill(words: &[Word]) -> Option<Command>
 }
 
 fn drill_as(seed: Option<u64>, count: Option<u64>) -> Option<Command>
-    requires few { IfSome count (λ n. n ≤ 1000000) }
+    requires few { IfSome count (λ n. n ≤ MOST_MESSAGES) }
     ensures value { result ≡ drill_as seed count }
     ensures range { IfSome result IsInRange }
 {

@@ -2,23 +2,12 @@
 ghost use Rattle.std.specs.Prelude.{◌≡◌, ◌≤◌, IfOk, IfSome};
 ghost use Rattle.gate_words.specs.Options.{no_options, options_of, with_option, with_server_option, with_idl, with_service, with_limit, with_sessions, with_accept, with_events, with_calls, limit_of, is_server_alone, IsInRange};
 
+use crate::limits::{
+    GREATEST_LIMIT, LEAST_LIMIT, MOST_ACCEPTED, MOST_CALLS, MOST_EVENTS, MOST_SESSIONS,
+};
 use crate::numeral::number_within;
 use gate_base::{OutOfMemory, Text, Word};
 use std::alloc::Global;
-
-/// The least and the greatest frame limit, in bytes.
-const LEAST_LIMIT: u64 = 1_024;
-
-const GREATEST_LIMIT: u64 = 16_384_000;
-
-/// The most sessions at a time.
-const MOST_SESSIONS: u64 = 1_024;
-
-/// The most calls of a session that are open at a time.
-const MOST_CALLS: u64 = 65_536;
-
-/// The most connections in all, and the most events.
-const MOST_EVENTS: u64 = (1 << 63) - 1;
 
 /// What a command says of declarations: the file of an IDL, and the service whose methods are meant where a name has no prefix.
 #[derive(Drop)]
@@ -142,7 +131,7 @@ impl Options {
         if self.sessions.is_some() {
             return None;
         }
-        match number_within(1, MOST_SESSIONS, value) {
+        match number_within(1, MOST_SESSIONS as u64, value) {
             Some(sessions) => Some(Options {
                 sessions: Some(sessions as u32),
                 ..self
@@ -159,7 +148,7 @@ impl Options {
         if self.accept.is_some() {
             return None;
         }
-        match number_within(0, MOST_EVENTS, value) {
+        match number_within(0, MOST_ACCEPTED, value) {
             Some(accept) => Some(Options {
                 accept: Some(accept),
                 ..self
@@ -193,7 +182,7 @@ impl Options {
         if self.calls.is_some() {
             return None;
         }
-        match number_within(1, MOST_CALLS, value) {
+        match number_within(1, MOST_CALLS as u64, value) {
             Some(calls) => Some(Options {
                 calls: Some(calls as u32),
                 ..self
@@ -217,9 +206,9 @@ impl Options {
 #[tactic(auto, unfolding(crate::specs::Options::limit_of))]
 fn limit_of(value: &[u8]) -> Option<u32>
     ensures value { result ≡ limit_of value.now }
-    ensures bounds { IfSome result (λ limit. (1024 ≤ limit) × (limit ≤ 16384000)) }
+    ensures bounds { IfSome result (λ limit. (LEAST_LIMIT ≤ limit) × (limit ≤ GREATEST_LIMIT)) }
 {
-    match number_within(LEAST_LIMIT, GREATEST_LIMIT, value) {
+    match number_within(LEAST_LIMIT as u64, GREATEST_LIMIT as u64, value) {
         Some(limit) => Some(limit as u32),
         None => None,
     }

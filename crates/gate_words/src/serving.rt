@@ -5,22 +5,12 @@ ghost use Rattle.gate_words.specs.Options.{IsInRange as AreInRange};
 ghost use Rattle.gate_words.specs.Serving.{serve_of, serve_at, serve_with, serve_as, is_within_memory};
 
 use crate::address::is_address;
-use crate::command::{Command, DEFAULT_LIMIT, proto};
+use crate::command::{Command, proto};
+use crate::limits::{DEFAULT_CALLS, DEFAULT_LIMIT, DEFAULT_SESSIONS, MOST_EVENTS, MOST_HELD};
 use crate::options::{Declared, Options, read_options};
 use gate_base::{OutOfMemory, Text, Word};
 use protocol_traits::Proto;
 use std::alloc::Global;
-
-/// Where the words give none: the sessions at a time, and the open calls of a session.
-const DEFAULT_SESSIONS: u32 = 32;
-
-const DEFAULT_CALLS: u32 = 1_024;
-
-/// The most events, and as many where the words give none.
-const MOST_EVENTS: u64 = (1 << 63) - 1;
-
-/// The most bytes that all sessions together may hold.
-const MOST_HELD: u128 = 1 << 32;
 
 /// A server between clients and an upstream.
 #[derive(Drop)]
@@ -142,5 +132,5 @@ fn is_within_memory(sessions: u32, limit: u32, calls: u32) -> bool
     ensures { result ≡ is_within_memory sessions limit calls }
 {
     let session = 52 * (limit as u128) + 16 * (calls as u128) + 4_096;
-    (sessions as u128) * session <= MOST_HELD
+    (sessions as u128) * session <= MOST_HELD as u128
 }

@@ -1,11 +1,11 @@
 -- Values that are judged one after another.
 use Rattle.std.proofs.Common.{◌≡◌, ◌∙◌, refl, ap, sym, subst, ℕ, ◌+◌, ◌<◌, suc, List, [], ◌∷◌, ◌++◌, map, drop, drop-cons, add-one, get_or, length, Option, None, Some, inl, inr, arith}
 use Rattle.std.proofs.lemmas.List.{drop-map}
-use Rattle.idl_parser.specs.Declarations.{definition_trees}
+use Rattle.idl_document.specs.Trees.{definition_trees}
 use Rattle.idl_names.specs.declared.documents.FileDoc.{FileDoc}
 use Rattle.idl_names.specs.Files.{FileTree, file_tree, file_trees}
 use Rattle.idl_consts.specs.declared.row.ConstRow.{ConstRow}
-use Rattle.idl_consts.specs.declared.survey.Stand.{Stand}
+use Rattle.idl_consts.specs.declared.survey.ConstRef.{ConstRef}
 use Rattle.idl_consts.specs.Course.{Course}
 use Rattle.idl_consts.specs.Following.{Fault, IsFirst, IsFree, IsWrong}
 use Rattle.idl_consts.specs.Meant.{meant_at}
@@ -32,15 +32,15 @@ one_judged f g each d file xs i x h is least next before so_far step told more =
     so_far told (subst (λ (vs : List Asked). IsLeast d file least vs told) (sym first) (least_append d file least next told (g x) (f (drop (i + 1) xs)) step more))
 
 -- a name through which nothing is refused is passed
-pub name_passed : (d : List FileTree) (ss : List Stand) (i : ℕ) (s : Stand) (k : Course) (told : Option Fault) → i < length ss → s ≡ get_or ss i s
+pub name_passed : (d : List FileTree) (ss : List ConstRef) (i : ℕ) (s : ConstRef) (k : Course) (told : Option Fault) → i < length ss → s ≡ get_or ss i s
     → IsFree d s.constant (meant_at d s.ty) → IsFirst d (chained d (drop (i + 1) ss) k) told → IsFirst d (chained d (drop i ss) k) told
 name_passed d ss i s k told h is free first =
-    subst (λ (left : List Stand). IsFirst d (chained d left k) told) (sym (drop_at ss i s h is)) (inl (free, first))
+    subst (λ (left : List ConstRef). IsFirst d (chained d left k) told) (sym (drop_at ss i s h is)) (inl (free, first))
 
-pub name_wrong : (d : List FileTree) (ss : List Stand) (i : ℕ) (s : Stand) (k : Course) (row : ConstRow) → i < length ss → s ≡ get_or ss i s
+pub name_wrong : (d : List FileTree) (ss : List ConstRef) (i : ℕ) (s : ConstRef) (k : Course) (row : ConstRow) → i < length ss → s ≡ get_or ss i s
     → IsWrong d s.constant (meant_at d s.ty) row → IsFirst d (chained d (drop i ss) k) (Some (s.at, row))
 name_wrong d ss i s k row h is wrong =
-    subst (λ (left : List Stand). IsFirst d (chained d left k) (Some (s.at, row))) (sym (drop_at ss i s h is)) (inr (row, wrong, refl))
+    subst (λ (left : List ConstRef). IsFirst d (chained d left k) (Some (s.at, row))) (sym (drop_at ss i s h is)) (inr (row, wrong, refl))
 
 -- a file is a tree of the documents
 next_file : (files : List FileDoc) (i : ℕ) (f : FileDoc) → i < length files → f ≡ get_or files i f → drop i (file_trees files) ≡ file_tree f ∷ drop (i + 1) (file_trees files)

@@ -4,5 +4,5 @@ mod Trailing
 mod Judged
 mod Kept
 mod Once
-mod Landing
+mod Resolving
 mod Halves

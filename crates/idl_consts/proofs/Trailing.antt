@@ -10,7 +10,7 @@ use Rattle.gate_base.specs.declared.memory.OutOfMemory.{OutOfMemory}
 use Rattle.idl_consts.specs.declared.follow.Frame.{Frame}
 use Rattle.idl_consts.specs.declared.follow.Trail.{Trail}
 use Rattle.idl_consts.specs.declared.follow.Upcoming.TheVariants as upcoming
-use Rattle.idl_consts.specs.declared.survey.Stand.{Stand}
+use Rattle.idl_consts.specs.declared.survey.ConstRef.{ConstRef}
 use Rattle.idl_consts.specs.Course.{Course, ends, fails, stands}
 use Rattle.idl_consts.specs.Following.{Fault, Found, open_still, stood, along, through, constant_course, IsFree, IsRefused, IsEndless, IsWrong, IsRow}
 use Rattle.idl_consts.specs.Meant.{Meant, meant_at}
@@ -120,31 +120,31 @@ pub among_last : (d : List FileTree) (x : Spot) (y : Meant) (fs : List Frame) (t
 among_last d x y [] t k a b = (a, b)
 among_last d x y (f ∷ fs) t k a b = inr (among_last d x y fs t k a b)
 
-got : (ss : List Stand) (i : ℕ) (s : Stand) → slice_get ss i ≡ Some s → drop i ss ≡ s ∷ drop (i + 1) ss
+got : (ss : List ConstRef) (i : ℕ) (s : ConstRef) → slice_get ss i ≡ Some s → drop i ss ≡ s ∷ drop (i + 1) ss
 got ss i s e =
     let h = slice_get_within ss i s e in
     let g = get_or_from_slice_get ss i s s e in
     rw (add-one, drop-cons ss i s, g) refl
 
-none_got : (ss : List Stand) (i : ℕ) → slice_get ss i ≡ None → drop i ss ≡ []
+none_got : (ss : List ConstRef) (i : ℕ) → slice_get ss i ≡ None → drop i ss ≡ []
 none_got ss i e = go (slice_get_cases ss i).1
   where
-    go : (((x : Stand) × (i < length ss) × (slice_get ss i ≡ Some x) × (get_or ss i x ≡ x)) ⊎ ((length ss ≤ i) × (slice_get ss i ≡ None))) → drop i ss ≡ []
+    go : (((x : ConstRef) × (i < length ss) × (slice_get ss i ≡ Some x) × (get_or ss i x ≡ x)) ⊎ ((length ss ≤ i) × (slice_get ss i ≡ None))) → drop i ss ≡ []
     go (inl h) = let other = h.2 in absurd (cc)
     go (inr h) = let past = h.0 in grind (arith, common_steps, past)
 
-pub takes_name : (d : List FileTree) (f : Frame) (s : Stand) → slice_get f.survey.stands.items f.next ≡ Some s
+pub takes_name : (d : List FileTree) (f : Frame) (s : ConstRef) → slice_get f.survey.references.items f.next ≡ Some s
     → IsNext d f (upcoming.Name s) (record f { next = f.next + 1 })
-takes_name d f s e = (ap (λ (ss : List Stand). chained d ss (ending f.survey.fault)) (got f.survey.stands.items f.next s e), refl, refl)
+takes_name d f s e = (ap (λ (ss : List ConstRef). chained d ss (ending f.survey.fault)) (got f.survey.references.items f.next s e), refl, refl)
 
 takes_end : (d : List FileTree) (f : Frame) (fault : Option Fault) → left_of d f ≡ ending fault → IsNext d f (upcoming_fault fault) f
 takes_end d f None e = (e, refl, refl)
 takes_end d f (Some fault) e = (e, refl, refl)
 
-pub takes_last : (d : List FileTree) (f : Frame) → slice_get f.survey.stands.items f.next ≡ None → IsNext d f (upcoming_fault f.survey.fault) f
-takes_last d f e = takes_end d f f.survey.fault (ap (λ (ss : List Stand). chained d ss (ending f.survey.fault)) (none_got f.survey.stands.items f.next e))
+pub takes_last : (d : List FileTree) (f : Frame) → slice_get f.survey.references.items f.next ≡ None → IsNext d f (upcoming_fault f.survey.fault) f
+takes_last d f e = takes_end d f f.survey.fault (ap (λ (ss : List ConstRef). chained d ss (ending f.survey.fault)) (none_got f.survey.references.items f.next e))
 
-pub next_name : (d : List FileTree) (s : Spot) (m : Meant) (fs : List Frame) (old new : Frame) (name : Stand) → Leads d s m fs old.constant (meant_at d old.ty) → IsFrame d old
+pub next_name : (d : List FileTree) (s : Spot) (m : Meant) (fs : List Frame) (old new : Frame) (name : ConstRef) → Leads d s m fs old.constant (meant_at d old.ty) → IsFrame d old
     → IsNext d old (upcoming.Name name) new → Leads d s m fs new.constant (meant_at d new.ty) × IsWaiting d new name.constant (meant_at d name.ty)
 next_name d s m fs old new name l whole next =
     let same_ty : meant_at d old.ty ≡ meant_at d new.ty = ap (meant_at d) (sym next.2) in
@@ -159,12 +159,12 @@ next_name d s m fs old new name l whole next =
       ),
     )
 
-pub opened : (d : List FileTree) (c : Course) (ss : List Stand) (k : Course) → chained d ss k ≡ c → IsPassed d c (chained d (drop 0 ss) k)
+pub opened : (d : List FileTree) (c : Course) (ss : List ConstRef) (k : Course) → chained d ss k ≡ c → IsPassed d c (chained d (drop 0 ss) k)
 opened d c ss k e =
     let whole : drop 0 ss ≡ ss = grind (arith, common_steps) in
-    subst (IsPassed d c) (sym e ∙ ap (λ (xs : List Stand). chained d xs k) (sym whole)) (passed_all d c)
+    subst (IsPassed d c) (sym e ∙ ap (λ (xs : List ConstRef). chained d xs k) (sym whole)) (passed_all d c)
 
-pub pushed : (d : List FileTree) (s : Spot) (m : Meant) (fs gs : List Frame) (g moved inner dest : Frame) (name : Stand)
+pub pushed : (d : List FileTree) (s : Spot) (m : Meant) (fs gs : List Frame) (g moved inner dest : Frame) (name : ConstRef)
     → Leads d s m fs g.constant (meant_at d g.ty) → IsWaiting d g name.constant (meant_at d name.ty)
     → gs ≡ fs ++ moved ∷ [] → moved ≡ g → dest ≡ inner → inner.constant ≡ name.constant → inner.ty ≡ name.ty → IsFrame d inner
     → Leads d s m gs dest.constant (meant_at d dest.ty) × IsFrame d dest
@@ -188,7 +188,7 @@ next_none d s m fs old new l whole next =
       subst (λ (y : Meant). IsFree d new.constant y) same_ty (subst (λ (x : Spot). IsFree d x (meant_at d old.ty)) (sym next.1) free),
     )
 
-pub goes_followed : (d : List FileTree) (r : Result (Option (Option ConstRow)) OutOfMemory) (old following new : Trail) (name : Stand)
+pub goes_followed : (d : List FileTree) (r : Result (Option (Option ConstRow)) OutOfMemory) (old following new : Trail) (name : ConstRef)
     → IfOk r (λ done. (s : Spot) → (m : Meant) → IsFollowing d s m following name → GoesOn d s m done new)
     → ((s : Spot) → (m : Meant) → IsTrail d s m old → IsFollowing d s m following name)
     → IfOk r (λ done. (s : Spot) → (m : Meant) → IsTrail d s m old → GoesOn d s m done new)
@@ -234,7 +234,7 @@ next_fault d s m fs old new at row l whole next =
     )
 
 -- a name whose row is known
-pub row_met : (d : List FileTree) (s : Spot) (m : Meant) (trail : Trail) (name : Stand) (row : Option ConstRow) → IsFollowing d s m trail name
+pub row_met : (d : List FileTree) (s : Spot) (m : Meant) (trail : Trail) (name : ConstRef) (row : Option ConstRow) → IsFollowing d s m trail name
     → IsRow d name.constant (meant_at d name.ty) row → GoesOn d s m (met row) trail
 row_met d s m trail name None l free = (l.0, waiting_on d trail.top name.constant (meant_at d name.ty) l.1 free)
 row_met d s m trail name (Some row) l wrong = (l.0, waiting_wrong d trail.top name.constant (meant_at d name.ty) row l.1 wrong)

@@ -1,6 +1,6 @@
 -- The course of a value: the names in it that stand for constants, in order, up to the first thing that is refused.
 use Rattle.std.specs.Prelude.{ℕ, List, [], ◌∷◌, Result, Ok, Err}
-use Rattle.idl_parser.specs.Item.{ValueItem, whole, double, literal, named, list_begin, list_end, map_begin, map_end}
+use Rattle.idl_document.specs.Item.{ValueItem, whole, double, literal, named, list_begin, list_end, map_begin, map_end}
 use Rattle.idl_names.specs.declared.documents.Spot.{Spot}
 use Rattle.idl_names.specs.Files.{FileTree}
 use Rattle.idl_consts.specs.declared.fitting.Answer.{Answer}

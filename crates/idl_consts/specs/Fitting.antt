@@ -1,10 +1,10 @@
 -- What may stand where a value of a type is asked for.
 use Rattle.std.specs.Prelude.{ℕ, ℤ, pos, negsuc, ◌+◌, ◌+ℤ◌, ◌==◌, List, [], ◌∷◌, take, drop, Option, Some, None, Bool, true, false, ◌||◌, ◌&&◌, is_some, if◌then◌else◌, int_lt, nat_lt, nat_eq, codes}
 use Rattle.std.specs.Cmp.Lexicographic.{pointwise}
-use Rattle.idl_parser.specs.declared.document.BaseWord.{BaseWord}
-use Rattle.idl_parser.specs.declared.document.BaseWord.TheVariants as words
-use Rattle.idl_parser.specs.declared.document.Member.{Member}
-use Rattle.idl_parser.specs.Declarations.{DefinitionTree, enum_of}
+use Rattle.idl_document.specs.declared.document.BaseWord.{BaseWord}
+use Rattle.idl_document.specs.declared.document.BaseWord.TheVariants as words
+use Rattle.idl_document.specs.declared.document.Member.{Member}
+use Rattle.idl_document.specs.Trees.{DefinitionTree, enum_of}
 use Rattle.idl_rules.specs.declared.scopes.Scope.TheVariants as scopes
 use Rattle.idl_names.specs.declared.documents.Spot.{Spot}
 use Rattle.idl_names.specs.Files.{FileTree}

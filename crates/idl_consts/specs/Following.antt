@@ -1,6 +1,6 @@
 -- Names in values are followed to the values of their constants.
 use Rattle.std.specs.Prelude.{◌≡◌, ◌⊎◌, ℕ, zero, suc, List, Option, Some, None}
-use Rattle.idl_parser.specs.Declarations.{DefinitionTree, const_of}
+use Rattle.idl_document.specs.Trees.{DefinitionTree, const_of}
 use Rattle.idl_names.specs.declared.documents.Spot.{Spot}
 use Rattle.idl_names.specs.Files.{FileTree}
 use Rattle.idl_consts.specs.declared.row.ConstRow.{ConstRow}

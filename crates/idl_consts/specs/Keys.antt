@@ -1,10 +1,8 @@
 -- The keys of a struct's value: literals that name its fields.
 use Rattle.std.specs.Prelude.{ℕ, zero, suc, List, [], ◌∷◌, Option, Some, None, Result, Ok, Err, if◌then◌else◌, nat_eq}
 use Rattle.std.specs.Cmp.Lexicographic.{pointwise}
-use Rattle.idl_parser.specs.Declarations.{DefinitionTree, const_of, struct_of}
-use Rattle.idl_parser.specs.Fields.{FieldTree}
-use Rattle.idl_parser.specs.Item.{ValueItem, literal, named}
-use Rattle.idl_parser.specs.Trees.{TypeTree}
+use Rattle.idl_document.specs.Trees.{DefinitionTree, const_of, struct_of, FieldTree, TypeTree}
+use Rattle.idl_document.specs.Item.{ValueItem, literal, named}
 use Rattle.idl_rules.specs.declared.scopes.Scope.TheVariants as scopes
 use Rattle.idl_names.specs.declared.documents.Spot.{Spot}
 use Rattle.idl_names.specs.Files.{FileTree}

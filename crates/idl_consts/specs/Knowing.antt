@@ -1,6 +1,6 @@
 -- What is refused through constants, where their own types are asked for.
 use Rattle.std.specs.Prelude.{◌≡◌, ℕ, List, Option, Some, slice_get}
-use Rattle.idl_parser.specs.Declarations.{DefinitionTree, const_of}
+use Rattle.idl_document.specs.Trees.{DefinitionTree, const_of}
 use Rattle.idl_names.specs.declared.documents.Spot.{Spot}
 use Rattle.idl_names.specs.Files.{FileTree}
 use Rattle.idl_consts.specs.declared.knowing.Known.{Known}

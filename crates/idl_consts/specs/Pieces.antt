@@ -1,13 +1,13 @@
 -- What the code holds of a value and of its course.
 use Rattle.std.specs.Prelude.{ℕ, List, [], ◌∷◌, map, reverse, Option, Some, None, Result, Ok, Err, ◌≡◌}
-use Rattle.idl_parser.specs.Item.{ValueItem, whole, double, literal, named, list_begin, list_end, map_begin, map_end}
+use Rattle.idl_document.specs.Item.{ValueItem, whole, double, literal, named, list_begin, list_end, map_begin, map_end}
 use Rattle.idl_names.specs.Files.{FileTree}
 use Rattle.idl_consts.specs.declared.pieces.Piece.{Piece}
 use Rattle.idl_consts.specs.declared.pieces.Piece.TheVariants as pieces
 use Rattle.idl_consts.specs.declared.row.ConstRow.{ConstRow}
 use Rattle.idl_consts.specs.declared.survey.Open.{Open}
 use Rattle.idl_consts.specs.declared.survey.Open.TheVariants as opens
-use Rattle.idl_consts.specs.declared.survey.Stand.{Stand}
+use Rattle.idl_consts.specs.declared.survey.ConstRef.{ConstRef}
 use Rattle.idl_consts.specs.declared.survey.Survey.{Survey}
 use Rattle.idl_consts.specs.declared.survey.Turn.{Turn}
 use Rattle.idl_consts.specs.declared.survey.Turn.TheVariants as turns
@@ -38,12 +38,12 @@ contexts d all = reverse (map (context_of d) all)
 
 abbrev pub move_of : List FileTree → List Context → Turn → Move
 move_of d up (turns.Fails at row) = refused_at at row
-move_of d up (turns.Stands stand next) = stands_at stand.at stand.constant (meant_at d stand.ty) (context_of d next ∷ up)
+move_of d up (turns.Reference reference next) = stands_at reference.at reference.constant (meant_at d reference.ty) (context_of d next ∷ up)
 move_of d up (turns.Goes next) = goes (context_of d next ∷ up)
 move_of d up (turns.Opens outer inner) = goes (context_of d inner ∷ context_of d outer ∷ up)
 move_of d up turns.Closes = goes up
 
-abbrev pub chained : List FileTree → List Stand → Course → Course
+abbrev pub chained : List FileTree → List ConstRef → Course → Course
 chained d [] k = k
 chained d (s ∷ ss) k = stands s.at s.constant (meant_at d s.ty) (chained d ss k)
 
@@ -52,14 +52,14 @@ ending None = ends
 ending (Some fault) = fails fault.0 fault.1
 
 abbrev pub course_of : List FileTree → Survey → Course
-course_of d s = chained d s.stands.items (ending s.fault)
+course_of d s = chained d s.references.items (ending s.fault)
 
 abbrev pub key_meant : List FileTree → Result TypeRef ConstRow → Result Meant ConstRow
 key_meant d (Ok t) = Ok (meant_at d t)
 key_meant d (Err row) = Err row
 
 -- a turn was taken: the names before it and what was open, and the same behind it
-abbrev pub Takes : List FileTree → Turn → List Stand → List Open → Option (ℕ × ConstRow) → List Stand → List Open → Type 0
+abbrev pub Takes : List FileTree → Turn → List ConstRef → List Open → Option (ℕ × ConstRow) → List ConstRef → List Open → Type 0
 Takes d turn before stack None after left =
     (go : List Context → Course) → chained d before (moved (move_of d (contexts d stack) turn) go) ≡ chained d after (go (contexts d left))
 Takes d turn before stack (Some fault) after left =

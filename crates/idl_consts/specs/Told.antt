@@ -1,9 +1,7 @@
 -- Which fault of all values is told.
 use Rattle.std.specs.Prelude.{◌≡◌, ◌<◌, ◌^◌, ℕ, suc, List, length, [], ◌∷◌, ◌++◌, Option, Some, None, Bool, true, false, if◌then◌else◌, nat_lt, Result, Ok, Err}
-use Rattle.idl_parser.specs.Declarations.{DefinitionTree, const_of, struct_of, service_of, FunctionTree}
-use Rattle.idl_parser.specs.Fields.{FieldTree}
-use Rattle.idl_parser.specs.Item.{ValueItem}
-use Rattle.idl_parser.specs.Trees.{TypeTree}
+use Rattle.idl_document.specs.Trees.{DefinitionTree, const_of, struct_of, service_of, FunctionTree, FieldTree, TypeTree}
+use Rattle.idl_document.specs.Item.{ValueItem}
 use Rattle.idl_names.specs.Files.{FileTree}
 use Rattle.idl_names.specs.Meaning.{HasFewDefinitions}
 use Rattle.idl_consts.specs.declared.row.ConstError.{ConstError}

@@ -4,7 +4,7 @@ use Rattle.idl_names.specs.declared.documents.Spot.{Spot}
 use Rattle.idl_names.specs.Files.{FileTree}
 use Rattle.idl_consts.specs.declared.row.ConstRow.{ConstRow}
 use Rattle.idl_consts.specs.declared.follow.Frame.{Frame}
-use Rattle.idl_consts.specs.declared.survey.Stand.{Stand}
+use Rattle.idl_consts.specs.declared.survey.ConstRef.{ConstRef}
 use Rattle.idl_consts.specs.declared.follow.Trail.{Trail}
 use Rattle.idl_consts.specs.declared.follow.Upcoming.{Upcoming}
 use Rattle.idl_consts.specs.declared.follow.Upcoming.TheVariants as upcoming
@@ -22,7 +22,7 @@ IsPassed d (stands at spot m rest) left = (left ≡ stands at spot m rest) ⊎ (
 
 -- what is left of a frame's value
 abbrev pub left_of : List FileTree → Frame → Course
-left_of d f = chained d (drop f.next f.survey.stands.items) (ending f.survey.fault)
+left_of d f = chained d (drop f.next f.survey.references.items) (ending f.survey.fault)
 
 abbrev pub IsFrame : List FileTree → Frame → Type 0
 IsFrame d f = IsPassed d (constant_course d f.constant (meant_at d f.ty)) (left_of d f)
@@ -47,11 +47,11 @@ IsAmong d x y [] t n = (x ≡ t) × (y ≡ n)
 IsAmong d x y (f ∷ fs) t n = ((x ≡ f.constant) × (y ≡ meant_at d f.ty)) ⊎ IsAmong d x y fs t n
 
 -- the name stands for a frame's constant, and the type is asked for in the same words
-abbrev pub IsOf : Stand → Frame → Type 0
+abbrev pub IsOf : ConstRef → Frame → Type 0
 IsOf name f = (name.constant ≡ f.constant) × IsSameRef name.ty f.ty
 
 -- the name stands for what the frame half way up the trail is of, the last one counted in
-abbrev pub IsHalfway : Stand → Trail → Type 0
+abbrev pub IsHalfway : ConstRef → Trail → Type 0
 IsHalfway name trail =
     (f : Frame) × (slice_get (trail.outer.items ++ trail.top ∷ []) ((length trail.outer.items + 1) / 2) ≡ Some f) × IsOf name f
 
@@ -83,7 +83,7 @@ upcoming_fault None = upcoming.Nothing
 upcoming_fault (Some fault) = upcoming.Fault fault.0 fault.1
 
 -- the innermost value waits for this name
-abbrev pub IsFollowing : List FileTree → Spot → Meant → Trail → Stand → Type 0
+abbrev pub IsFollowing : List FileTree → Spot → Meant → Trail → ConstRef → Type 0
 IsFollowing d s m trail name =
     Leads d s m trail.outer.items (trail.top).constant (meant_at d (trail.top).ty) × IsWaiting d trail.top name.constant (meant_at d name.ty)
 

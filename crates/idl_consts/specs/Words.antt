@@ -1,7 +1,7 @@
 -- Types by the words that they are written in.
 use Rattle.std.specs.Prelude.{◌≡◌}
-use Rattle.idl_parser.specs.declared.document.BaseWord.{BaseWord}
-use Rattle.idl_parser.specs.Trees.{TypeTree, base_at, named_at, map_at, set_at, list_at, type_tree}
+use Rattle.idl_document.specs.declared.document.BaseWord.{BaseWord}
+use Rattle.idl_document.specs.Trees.{TypeTree, base_at, named_at, map_at, set_at, list_at, type_tree}
 use Rattle.idl_consts.specs.declared.types.TypeRef.{TypeRef}
 
 -- a type without the places of its words

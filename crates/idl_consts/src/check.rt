@@ -1,9 +1,7 @@
 //! The values of all files, each judged against its type.
 ghost use Rattle.std.specs.Prelude.{◌≡◌, ◌<◌, ◌^◌, IfOk, length, option_map, option_copied, Option};
-ghost use Rattle.idl_parser.specs.Declarations.{definition_tree, definition_trees, function_trees};
-ghost use Rattle.idl_parser.specs.Fields.{field_trees};
-ghost use Rattle.idl_parser.specs.Items.{items_of_value};
-ghost use Rattle.idl_parser.specs.Trees.{type_tree};
+ghost use Rattle.idl_document.specs.Trees.{definition_tree, definition_trees, function_trees, field_trees, type_tree};
+ghost use Rattle.idl_document.specs.Items.{items_of_value};
 ghost use Rattle.idl_names.specs.Files.{file_trees};
 ghost use Rattle.idl_consts.specs.Course.{course};
 ghost use Rattle.idl_consts.specs.Following.{IsFirst};
@@ -16,12 +14,12 @@ ghost use Rattle.idl_consts.specs.Views.{files_of};
 use crate::follow::name_row;
 use crate::knowing::Known;
 use crate::row::{ConstError, ConstFault, ConstRow};
-use crate::survey::{Stand, survey_value};
+use crate::survey::{ConstRef, survey_value};
 use crate::types::TypeRef;
 use crate::view::View;
 use gate_base::{OutOfMemory, Text};
+use idl_document::{Definition, FieldDecl, Function, TypeExpr, ValueExpr};
 use idl_names::{Documents, FileDoc, Names};
-use idl_parser::{Definition, FieldDecl, Function, TypeExpr, ValueExpr};
 use std::alloc::Global;
 
 /// An offset in a file in bytes, and why the value there is refused.
@@ -153,7 +151,7 @@ fn preset_fault<'d>(
     before: Option<Fault>,
 ) -> Result<Option<Fault>, OutOfMemory>
     requires known { IsSound (files_of view.now) known.old }
-    ensures told { IfOk result (λ told. IsLeast (files_of view.now) place before (preset_by (type_tree field.now.ty) (option_map items_of_value field.now.preset)) told) }
+    ensures told { let preset = preset_by (type_tree field.now.ty) (option_map items_of_value field.now.preset) in IfOk result (λ told. IsLeast (files_of view.now) place before preset told) }
     ensures known { IsSound (files_of view.now) known.new }
 {
     match &field.preset {
@@ -175,7 +173,7 @@ fn value_fault<'d>(
     value: &'d ValueExpr,
 ) -> Result<Option<Fault>, OutOfMemory>
     requires known { IsSound (files_of view.now) known.old }
-    ensures told { IfOk result (λ told. IsFirst (files_of view.now) (course (files_of view.now) place (type_of (files_of view.now) place (type_tree ty.now)) (items_of_value value.now)) told) }
+    ensures told { let d = files_of view.now in IfOk result (λ told. IsFirst d (course d place (type_of d place (type_tree ty.now)) (items_of_value value.now)) told) }
     ensures known { IsSound (files_of view.now) known.new }
 {
     let written = TypeRef {
@@ -184,7 +182,13 @@ fn value_fault<'d>(
         left: view.names.definition_count(),
     };
     let survey = survey_value(alloc, view, place, written, value)?;
-    names_fault(alloc, view, known, survey.stands.as_slice(), survey.fault)
+    names_fault(
+        alloc,
+        view,
+        known,
+        survey.references.as_slice(),
+        survey.fault,
+    )
 }
 
 /// The first of the names through which something is refused, or the fault that stands behind them.
@@ -192,7 +196,7 @@ fn names_fault<'d>(
     alloc: Global,
     view: &View<'_, 'd>,
     known: &mut Known,
-    names: &[Stand<'d>],
+    names: &[ConstRef<'d>],
     fault: Option<Fault>,
 ) -> Result<Option<Fault>, OutOfMemory>
     requires known { IsSound (files_of view.now) known.old }

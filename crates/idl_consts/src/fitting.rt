@@ -11,11 +11,11 @@ use crate::members::{any_member, member_of};
 use crate::row::ConstRow;
 use crate::types::Shape;
 use crate::view::View;
+use idl_document::BaseWord;
 use idl_names::{Scope, Spot};
-use idl_parser::BaseWord;
 
 /// Whether a value fits, is refused, or is a name that stands for a constant's value.
-#[derive(Clone, Copy, Debug, PartialEq, Eq)]
+#[derive(Clone, Copy)]
 pub enum Answer {
     Fits,
     Refused(ConstRow),

@@ -14,12 +14,12 @@ use crate::fitting::same_spot;
 use crate::knowing::{Known, is_own};
 use crate::row::ConstRow;
 use crate::same::same_ref;
-use crate::survey::{Stand, Survey, survey_value};
+use crate::survey::{ConstRef, Survey, survey_value};
 use crate::types::{TypeRef, definition};
 use crate::view::View;
 use gate_base::OutOfMemory;
+use idl_document::Definition;
 use idl_names::Spot;
-use idl_parser::Definition;
 use std::alloc::Global;
 use std::mem;
 
@@ -42,7 +42,7 @@ pub struct Trail<'d> {
 /// What stands next in a value.
 #[derive(Clone, Copy)]
 pub enum Upcoming<'d> {
-    Name(Stand<'d>),
+    Name(ConstRef<'d>),
     Fault(usize, ConstRow),
     Nothing,
 }
@@ -55,7 +55,7 @@ pub fn name_row<'d>(
     alloc: Global,
     view: &View<'_, 'd>,
     known: &mut Known,
-    name: Stand<'d>,
+    name: ConstRef<'d>,
 ) -> Result<Option<ConstRow>, OutOfMemory>
     requires known { IsSound (files_of view.now) known.old }
     ensures row { IfOk result (λ row. IsRow (files_of view.now) name.entry.constant (meant_at (files_of view.now) name.entry.ty) row) }
@@ -70,7 +70,11 @@ pub fn name_row<'d>(
     Err(OutOfMemory)
 }
 
-fn begin<'d>(alloc: Global, view: &View<'_, 'd>, name: Stand<'d>) -> Result<Trail<'d>, OutOfMemory>
+fn begin<'d>(
+    alloc: Global,
+    view: &View<'_, 'd>,
+    name: ConstRef<'d>,
+) -> Result<Trail<'d>, OutOfMemory>
     ensures { IfOk result (λ trail. IsTrail (files_of view.now) name.entry.constant (meant_at (files_of view.now) name.entry.ty) trail) }
 {
     let top = open_frame(alloc, view, name)?;
@@ -84,7 +88,7 @@ fn begin<'d>(alloc: Global, view: &View<'_, 'd>, name: Stand<'d>) -> Result<Trai
 fn open_frame<'d>(
     alloc: Global,
     view: &View<'_, 'd>,
-    name: Stand<'d>,
+    name: ConstRef<'d>,
 ) -> Result<Frame<'d>, OutOfMemory>
     ensures whole { IfOk result (IsFrame (files_of view.now)) }
     ensures constant { IfOk result (λ f. f.constant ≡ name.entry.constant) }
@@ -113,7 +117,7 @@ fn constant_survey<'d>(
             survey_value(alloc, view, constant.file, ty, value)
         }
         _ => Ok(Survey {
-            stands: Vec::new(alloc),
+            references: Vec::new(alloc),
             fault: None,
         }),
     }
@@ -128,7 +132,7 @@ fn go_on<'d>(
 ) -> Result<Option<Option<ConstRow>>, OutOfMemory>
     requires known { IsSound (files_of view.now) known.old }
     requires top { IsFrame (files_of view.now) trail.old.top }
-    ensures goes { IfOk result (λ done. (s : Spot) → (m : Meant) → IsTrail (files_of view.now) s m trail.old → GoesOn (files_of view.now) s m done trail.new) }
+    ensures goes { let d = files_of view.now in IfOk result (λ done. (s : Spot) → (m : Meant) → IsTrail d s m trail.old → GoesOn d s m done trail.new) }
     ensures known { IsSound (files_of view.now) known.new }
 {
     match take_next(&mut trail.top) {
@@ -146,7 +150,7 @@ fn take_next<'d>(frame: &mut Frame<'d>) -> Upcoming<'d>
     ensures { (d : List FileTree) → IsNext d frame.old result frame.new }
 {
     let next = frame.next;
-    match stand_at(frame.survey.stands.as_slice(), next) {
+    match reference_at(frame.survey.references.as_slice(), next) {
         Some(name) => {
             frame.next = next + 1;
             Upcoming::Name(name)
@@ -155,10 +159,10 @@ fn take_next<'d>(frame: &mut Frame<'d>) -> Upcoming<'d>
     }
 }
 
-fn stand_at<'d>(stands: &[Stand<'d>], next: usize) -> Option<Stand<'d>>
-    ensures { result ≡ slice_get stands.now next }
+fn reference_at<'d>(references: &[ConstRef<'d>], next: usize) -> Option<ConstRef<'d>>
+    ensures { result ≡ slice_get references.now next }
 {
-    stands.get(next).copied()
+    references.get(next).copied()
 }
 
 fn fault_next<'d>(fault: Option<(usize, ConstRow)>) -> Upcoming<'d>
@@ -176,10 +180,10 @@ fn meet_name<'d>(
     view: &View<'_, 'd>,
     known: &Known,
     trail: &mut Trail<'d>,
-    name: Stand<'d>,
+    name: ConstRef<'d>,
 ) -> Result<Option<Option<ConstRow>>, OutOfMemory>
     requires known { IsSound (files_of view.now) known.now }
-    ensures { IfOk result (λ done. (s : Spot) → (m : Meant) → IsFollowing (files_of view.now) s m trail.old name.entry → GoesOn (files_of view.now) s m done trail.new) }
+    ensures { let d = files_of view.now in IfOk result (λ done. (s : Spot) → (m : Meant) → IsFollowing d s m trail.old name.entry → GoesOn d s m done trail.new) }
 {
     match known_row(view, known, name) {
         Some(row) => Ok(met(row)),
@@ -201,10 +205,10 @@ fn follow_name<'d>(
     alloc: Global,
     view: &View<'_, 'd>,
     trail: &mut Trail<'d>,
-    name: Stand<'d>,
+    name: ConstRef<'d>,
 ) -> Result<Option<Option<ConstRow>>, OutOfMemory>
     ensures cycle { IsHalfway name.entry trail.old → result ≡ Ok (Some (Some ConstRow.CycleOfConstants)) }
-    ensures goes { IfOk result (λ done. (s : Spot) → (m : Meant) → IsFollowing (files_of view.now) s m trail.old name.entry → GoesOn (files_of view.now) s m done trail.new) }
+    ensures goes { let d = files_of view.now in IfOk result (λ done. (s : Spot) → (m : Meant) → IsFollowing d s m trail.old name.entry → GoesOn d s m done trail.new) }
 {
     if comes_again(trail, name) {
         return Ok(Some(Some(ConstRow::CycleOfConstants)));
@@ -216,7 +220,7 @@ fn follow_name<'d>(
 }
 
 /// What is refused through a name, as far as it is known.
-fn known_row(view: &View<'_, '_>, known: &Known, name: Stand<'_>) -> Option<Option<ConstRow>>
+fn known_row(view: &View<'_, '_>, known: &Known, name: ConstRef<'_>) -> Option<Option<ConstRow>>
     requires known { IsSound (files_of view.now) known.now }
     ensures { IfSome result (IsRow (files_of view.now) name.entry.constant (meant_at (files_of view.now) name.entry.ty)) }
 {
@@ -243,7 +247,7 @@ fn settle<'d>(
     view: &View<'_, 'd>,
     known: &mut Known,
     trail: &mut Trail<'d>,
-    name: Stand<'d>,
+    name: ConstRef<'d>,
     row: Option<ConstRow>,
 ) -> Option<ConstRow>
     requires known { IsSound (files_of view.now) known.old }
@@ -265,7 +269,7 @@ fn unwind<'d>(
     view: &View<'_, 'd>,
     known: &mut Known,
     trail: &mut Trail<'d>,
-    name: Stand<'d>,
+    name: ConstRef<'d>,
     row: ConstRow,
 )
     requires known { IsSound (files_of view.now) known.old }
@@ -297,7 +301,7 @@ fn leave(trail: &mut Trail<'_>) -> Option<Option<ConstRow>>
 /// Only the value half way up is compared. Where names lead in a circle, it is found so before twice as many values wait as
 /// there are different ones among them; that it is found is not proved. If it were not, names would be followed until memory
 /// ends.
-fn comes_again(trail: &Trail<'_>, name: Stand<'_>) -> bool
+fn comes_again(trail: &Trail<'_>, name: ConstRef<'_>) -> bool
     ensures half { IsHalfway name.entry trail.now → IsTrue result }
     ensures among { IsTrue result → ((d : List FileTree) → IsAmong d name.entry.constant (meant_at d name.entry.ty) trail.now.outer.items trail.now.top.constant (meant_at d trail.now.top.ty)) }
 {
@@ -314,7 +318,7 @@ fn frame_at<'t, 'd>(frames: &'t [Frame<'d>], place: usize) -> Option<&'t Frame<'
     frames.get(place)
 }
 
-fn is_of(frame: &Frame<'_>, name: Stand<'_>) -> bool
+fn is_of(frame: &Frame<'_>, name: ConstRef<'_>) -> bool
     ensures constant { IsTrue result → name.entry.constant ≡ frame.now.constant }
     ensures ty { IsTrue result → ((d : List FileTree) → meant_at d name.entry.ty ≡ meant_at d frame.now.ty) }
     ensures same { IsOf name.entry frame.now → IsTrue result }

@@ -1,9 +1,7 @@
 //! The keys of a struct's value.
 ghost use Rattle.std.specs.Prelude.{◌≡◌, ◌<◌, ◌-◌, ℕ, List, Option, Result, IfSome, option_map, option_copied};
-ghost use Rattle.idl_parser.specs.Declarations.{definition_tree};
-ghost use Rattle.idl_parser.specs.Fields.{field_trees};
-ghost use Rattle.idl_parser.specs.Items.{items_of_value};
-ghost use Rattle.idl_parser.specs.Trees.{type_tree};
+ghost use Rattle.idl_document.specs.Trees.{definition_tree, field_trees, type_tree};
+ghost use Rattle.idl_document.specs.Items.{items_of_value};
 ghost use Rattle.idl_consts.specs.Keys.{fields_in, field_named, field_type, constant_items, literal_by, spot_literal, named_literal, literal_at, written_literal, key_by_text, key_by_name, key_answer};
 ghost use Rattle.idl_names.specs.Targets.{definition_count};
 ghost use Rattle.idl_consts.specs.Pieces.{item_of, key_meant};
@@ -15,8 +13,8 @@ use crate::pieces::Piece;
 use crate::row::ConstRow;
 use crate::types::{TypeRef, definition};
 use crate::view::View;
+use idl_document::{Definition, FieldDecl, TypeExpr, ValueExpr, ValueForm};
 use idl_names::{Scope, Spot};
-use idl_parser::{Definition, FieldDecl, TypeExpr, ValueExpr, ValueForm};
 
 /// The type of the field that a key names, in the struct at a spot, or why it names none.
 pub fn key_answer<'d>(
@@ -156,7 +154,7 @@ fn written_value(value: &ValueExpr) -> Written<'_>
 
 /// The constant that a name stands for, where a name may still be followed.
 fn constant_of(view: &View<'_, '_>, left: usize, file: u32, word: &[u8]) -> Option<Spot>
-    ensures literal { spot_literal (files_of view.now) (named_literal (files_of view.now) (left - 1)) result ≡ named_literal (files_of view.now) left file word.now }
+    ensures literal { let d = files_of view.now in spot_literal d (named_literal d (left - 1)) result ≡ named_literal d left file word.now }
     ensures some { IfSome result (λ s. 0 < left) }
 {
     if left == 0 || is_truth(word) {

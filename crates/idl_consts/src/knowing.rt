@@ -1,6 +1,6 @@
 //! What is refused through constants, so that each is looked through once.
 ghost use Rattle.std.specs.Prelude.{◌≡◌, List, IfOk, IfSome, IsTrue, Some, slice_get, option_copied, option_map};
-ghost use Rattle.idl_parser.specs.Declarations.{definition_tree};
+ghost use Rattle.idl_document.specs.Trees.{definition_tree};
 ghost use Rattle.idl_names.specs.Files.{FileTree};
 ghost use Rattle.idl_names.specs.Targets.{definition_count};
 ghost use Rattle.idl_consts.specs.Knowing.{own_by, own_type, AreRows, IsOwnRow, IsSound};
@@ -12,8 +12,8 @@ use crate::same::{is_spot, same_meaning};
 use crate::types::{TypeRef, definition};
 use crate::view::View;
 use gate_base::OutOfMemory;
+use idl_document::Definition;
 use idl_names::{FileDoc, Spot};
-use idl_parser::Definition;
 use std::alloc::Global;
 
 /// Of each file the number of the definitions before it, and for each definition, if it is a constant, what is refused

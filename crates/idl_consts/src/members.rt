@@ -1,13 +1,13 @@
 //! The members of enums by their names.
 ghost use Rattle.std.specs.Prelude.{◌≡◌, pos, option_map, option_copied};
-ghost use Rattle.idl_parser.specs.Declarations.{definition_tree};
+ghost use Rattle.idl_document.specs.Trees.{definition_tree};
 ghost use Rattle.idl_consts.specs.Fitting.{after_number, number_by, number_from, members_in, member_of, any_member, with_spot};
 ghost use Rattle.idl_consts.specs.Views.{files_of};
 
 use crate::types::definition;
 use crate::view::View;
+use idl_document::{Definition, Member};
 use idl_names::{Scope, Spot, last_place};
-use idl_parser::{Definition, Member};
 
 /// The number of the member of this name, of the enum at a spot.
 #[tactic(auto, unfolding(crate::specs::Fitting::member_of))]

@@ -8,7 +8,7 @@ use std::fmt::{Debug, Formatter, Write};
 use thiserror::Error;
 
 /// Why a constant or a preset of an IDL is refused. At one offset the row that stands first here is told.
-#[derive(Clone, Copy, Debug, PartialEq, Eq)]
+#[derive(Clone, Copy, Debug)]
 pub enum ConstRow {
     /// The value's form never fits the type.
     WrongForm,

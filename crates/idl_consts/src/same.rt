@@ -1,6 +1,6 @@
 //! Types that are written in the same words.
 ghost use Rattle.std.specs.Prelude.{◌≡◌, ℕ, List, IsTrue};
-ghost use Rattle.idl_parser.specs.Trees.{type_tree};
+ghost use Rattle.idl_document.specs.Trees.{type_tree};
 ghost use Rattle.idl_names.specs.Files.{FileTree};
 ghost use Rattle.idl_consts.specs.Meant.{Meant, meant_at, meant_by, type_by};
 ghost use Rattle.idl_consts.specs.Views.{files_of};
@@ -9,8 +9,8 @@ ghost use Rattle.idl_consts.specs.Words.{words_of, AreOneWord, IsSameRef};
 use crate::fitting::same_spot;
 use crate::types::{Shape, TypeRef, resolve};
 use crate::view::View;
+use idl_document::{TypeExpr, TypeForm};
 use idl_names::Spot;
-use idl_parser::{TypeExpr, TypeForm};
 
 /// Whether two types are one by their words: types of one file, or the same word of the language.
 pub fn same_ref(a: TypeRef<'_>, b: TypeRef<'_>) -> bool

@@ -1,10 +1,10 @@
 //! The survey of one value: the names in it that stand for constants, up to the first thing that is refused.
-ghost use Rattle.std.specs.Prelude.{◌≡◌, List, IfOk, [], ◌∷◌};
-ghost use Rattle.idl_parser.specs.Items.{items_of_value};
+ghost use Rattle.std.specs.Prelude.{◌≡◌, List, IfOk, [], ◌∷◌, map};
+ghost use Rattle.idl_document.specs.Items.{items_of_value};
 ghost use Rattle.idl_names.specs.Files.{FileTree};
-ghost use Rattle.idl_consts.specs.Course.{Context, answered, opened_list, opened_map, value_move, key_move, inner_move, item_move, offset_of, course};
+ghost use Rattle.idl_consts.specs.Course.{Context, course_from, answered, opened_list, opened_map, value_move, key_move, inner_move, item_move, offset_of, course};
 ghost use Rattle.idl_consts.specs.Meant.{meant_at, meant_by};
-ghost use Rattle.idl_consts.specs.Pieces.{item_of, context_of, move_of, course_of, key_meant, Takes};
+ghost use Rattle.idl_consts.specs.Pieces.{chained, contexts, ending, item_of, context_of, move_of, course_of, key_meant, Takes};
 ghost use Rattle.idl_consts.specs.Views.{files_of};
 
 use crate::fitting::{Answer, double_answer, literal_answer, named_answer, whole_answer};
@@ -14,13 +14,13 @@ use crate::row::ConstRow;
 use crate::types::{Shape, TypeRef, resolve};
 use crate::view::View;
 use gate_base::OutOfMemory;
+use idl_document::ValueExpr;
 use idl_names::Spot;
-use idl_parser::ValueExpr;
 use std::alloc::Global;
 
 /// A name that stands for a constant where a value of a type is asked for.
 #[derive(Clone, Copy)]
-pub struct Stand<'d> {
+pub struct ConstRef<'d> {
     pub at: usize,
     pub constant: Spot,
     pub ty: TypeRef<'d>,
@@ -29,7 +29,7 @@ pub struct Stand<'d> {
 /// The names of a value in order, and behind them what is refused first.
 #[derive(Drop)]
 pub struct Survey<'d> {
-    pub stands: Vec<Stand<'d>>,
+    pub references: Vec<ConstRef<'d>>,
     pub fault: Option<(usize, ConstRow)>,
 }
 
@@ -47,7 +47,7 @@ pub enum Open<'d> {
 #[derive(Clone, Copy)]
 pub enum Turn<'d> {
     Fails(usize, ConstRow),
-    Stands(Stand<'d>, Open<'d>),
+    Reference(ConstRef<'d>, Open<'d>),
     Goes(Open<'d>),
     /// The outer one and the inner one.
     Opens(Open<'d>, Open<'d>),
@@ -63,44 +63,52 @@ pub fn survey_value<'d>(
     ty: TypeRef<'d>,
     value: &'d ValueExpr,
 ) -> Result<Survey<'d>, OutOfMemory>
-    ensures { IfOk result (λ s. course_of (files_of view.now) s ≡ course (files_of view.now) file (meant_at (files_of view.now) ty.entry) (items_of_value value.now)) }
+    ensures { let d = files_of view.now in IfOk result (λ s. course_of d s ≡ course d file (meant_at d ty.entry) (items_of_value value.now)) }
 {
     let mut pieces = Vec::new(alloc);
     append_pieces(value, &mut pieces)?;
     let mut levels = Vec::new(alloc);
     levels.push(Open::Elements(ty))?;
-    let mut stands = Vec::new(alloc);
-    for piece in pieces.as_slice() {
+    let mut references = Vec::new(alloc);
+    let fault = survey_pieces(view, file, pieces.as_slice(), &mut levels, &mut references)?;
+    Ok(Survey { references, fault })
+}
+
+/// Surveys pieces where so much is open, behind these names.
+fn survey_pieces<'d>(
+    view: &View<'_, 'd>,
+    file: u32,
+    pieces: &[Piece<'d>],
+    levels: &mut Vec<Open<'d>>,
+    references: &mut Vec<ConstRef<'d>>,
+) -> Result<Option<(usize, ConstRow)>, OutOfMemory>
+    ensures { let d = files_of view.now in IfOk result (λ fault. chained d references.new.items (ending fault) ≡ chained d references.old.items (course_from d file (contexts d levels.old.items) (map item_of pieces.now))) }
+{
+    for piece in pieces {
         let Some(top) = levels.pop() else {
-            return Ok(Survey {
-                stands,
-                fault: None,
-            });
+            return Ok(None);
         };
         let turn = turn_at(view, file, top, piece);
-        let fault = take(turn, &mut stands, &mut levels)?;
+        let fault = take(turn, references, levels)?;
         if fault.is_some() {
-            return Ok(Survey { stands, fault });
+            return Ok(fault);
         }
     }
-    Ok(Survey {
-        stands,
-        fault: None,
-    })
+    Ok(None)
 }
 
 /// Takes a turn: what is refused by it, or else the names and what is open behind it.
 fn take<'d>(
     turn: Turn<'d>,
-    stands: &mut Vec<Stand<'d>>,
+    references: &mut Vec<ConstRef<'d>>,
     levels: &mut Vec<Open<'d>>,
 ) -> Result<Option<(usize, ConstRow)>, OutOfMemory>
-    ensures { IfOk result (λ fault. (d : List FileTree) → Takes d turn.entry stands.old.items levels.old.items fault stands.new.items levels.new.items) }
+    ensures { IfOk result (λ fault. (d : List FileTree) → Takes d turn.entry references.old.items levels.old.items fault references.new.items levels.new.items) }
 {
     match turn {
         Turn::Fails(at, row) => Ok(Some((at, row))),
-        Turn::Stands(stand, next) => {
-            stands.push(stand)?;
+        Turn::Reference(reference, next) => {
+            references.push(reference)?;
             levels.push(next)?;
             Ok(None)
         }
@@ -119,7 +127,7 @@ fn take<'d>(
 
 /// What a piece leads to where `top` is the innermost that is open.
 fn turn_at<'d>(view: &View<'_, 'd>, file: u32, top: Open<'d>, piece: &Piece<'d>) -> Turn<'d>
-    ensures { (up : List Context) → move_of (files_of view.now) up result ≡ item_move (files_of view.now) file (context_of (files_of view.now) top.entry) up (item_of piece.now) }
+    ensures { let d = files_of view.now in (up : List Context) → move_of d up result ≡ item_move d file (context_of d top.entry) up (item_of piece.now) }
 {
     match piece {
         Piece::ListEnd | Piece::MapEnd => Turn::Closes,
@@ -128,7 +136,7 @@ fn turn_at<'d>(view: &View<'_, 'd>, file: u32, top: Open<'d>, piece: &Piece<'d>)
 }
 
 fn inner_turn<'d>(view: &View<'_, 'd>, file: u32, top: Open<'d>, piece: &Piece<'d>) -> Turn<'d>
-    ensures { (up : List Context) → move_of (files_of view.now) up result ≡ inner_move (files_of view.now) file (context_of (files_of view.now) top.entry) up (item_of piece.now) }
+    ensures { let d = files_of view.now in (up : List Context) → move_of d up result ≡ inner_move d file (context_of d top.entry) up (item_of piece.now) }
 {
     match top {
         Open::Elements(ty) => value_turn(view, file, ty, piece, Open::Elements(ty)),
@@ -170,7 +178,7 @@ fn value_turn<'d>(
     piece: &Piece<'d>,
     next: Open<'d>,
 ) -> Turn<'d>
-    ensures { (up : List Context) → move_of (files_of view.now) up result ≡ value_move (files_of view.now) file (meant_at (files_of view.now) ty.entry) (context_of (files_of view.now) next.entry ∷ up) (item_of piece.now) }
+    ensures { let d = files_of view.now in (up : List Context) → move_of d up result ≡ value_move d file (meant_at d ty.entry) (context_of d next.entry ∷ up) (item_of piece.now) }
 {
     let shape = resolve(view, ty);
     match piece {
@@ -192,7 +200,7 @@ fn answer_turn<'d>(answer: Answer, at: usize, ty: TypeRef<'d>, next: Open<'d>) -
     match answer {
         Answer::Fits => Turn::Goes(next),
         Answer::Refused(row) => Turn::Fails(at, row),
-        Answer::StandsFor(constant) => Turn::Stands(Stand { at, constant, ty }, next),
+        Answer::StandsFor(constant) => Turn::Reference(ConstRef { at, constant, ty }, next),
     }
 }
 

@@ -1,14 +1,13 @@
 //! What a written type means, one step at a time.
 ghost use Rattle.std.specs.Prelude.{◌≡◌, ◌+◌, List, option_copied, option_map};
-ghost use Rattle.idl_parser.specs.Declarations.{definition_tree};
-ghost use Rattle.idl_parser.specs.Trees.{type_tree};
+ghost use Rattle.idl_document.specs.Trees.{definition_tree, type_tree};
 ghost use Rattle.idl_names.specs.Files.{FileTree};
 ghost use Rattle.idl_consts.specs.Meant.{definition_of, type_by, named_type, meant_at, meant_by, meant_next, left_below, defined_type};
 ghost use Rattle.idl_consts.specs.Views.{files_of};
 
 use crate::view::View;
+use idl_document::{BaseWord, Definition, TypeExpr, TypeForm};
 use idl_names::{Scope, Spot};
-use idl_parser::{BaseWord, Definition, TypeExpr, TypeForm};
 
 /// A type, the place of the file in which it is written, and how many typedefs may be followed.
 #[derive(Clone, Copy)]
@@ -96,18 +95,22 @@ fn named<'d>(view: &View<'_, 'd>, file: u32, name: &[u8], left: usize) -> Step<'
         return Step::Done(Shape::Unknown);
     }
     match view.names.look_up(file, Scope::Types, name) {
-        Some(spot) => landed(view, spot, left - 1),
+        Some(spot) => resolved(view, spot, left - 1),
         None => Step::Done(Shape::Unknown),
     }
 }
 
 /// What a definition is, behind the typedefs that are names alone.
-fn landed<'d>(view: &View<'_, 'd>, spot: Spot, left: usize) -> Step<'d>
+fn resolved<'d>(view: &View<'_, 'd>, spot: Spot, left: usize) -> Step<'d>
     ensures meant { meant_next (files_of view.now) result ≡ defined_type (named_type (files_of view.now) left) spot (definition_of (files_of view.now) spot) }
     ensures fewer { left_below (left + 1) result }
 {
-    let landing = view.typedefs.land(spot, left);
-    defined(landing.spot, definition(view, landing.spot), landing.left)
+    let resolved_alias = view.typedefs.resolve_chain(spot, left);
+    defined(
+        resolved_alias.spot,
+        definition(view, resolved_alias.spot),
+        resolved_alias.left,
+    )
 }
 
 fn defined<'d>(spot: Spot, definition: Option<&'d Definition>, left: usize) -> Step<'d>

@@ -1,7 +1,7 @@
 //! What values are judged by.
 ghost use Rattle.std.specs.Prelude.{◌≡◌, IfOk};
 ghost use Rattle.idl_names.specs.Files.{file_trees};
-ghost use Rattle.idl_typedefs.specs.Hops.{Follows, Follows-prop};
+ghost use Rattle.idl_typedefs.specs.AliasLinks.{Follows, Follows-prop};
 
 use gate_base::OutOfMemory;
 use idl_names::Names;

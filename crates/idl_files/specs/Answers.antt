@@ -1,7 +1,8 @@
 -- What a call answers, and what is true of the files that it read.
-use Rattle.std.specs.Prelude.{◌≡◌, ◌<◌, ℕ, List, [], ◌∷◌, ◌++◌, ◌^◌, length, Result, Ok, Err, ⊤}
+use Rattle.std.specs.Prelude.{◌≡◌, ◌<◌, ℕ, List, [], ◌∷◌, ◌++◌, ◌^◌, length, Option, Some, Result, Ok, Err, ⊤}
 use Rattle.gate_base.specs.Causes.{Rose}
-use Rattle.idl_names.specs.Files.{FileTree}
+use Rattle.idl_names.specs.declared.documents.FileDoc.{FileDoc}
+use Rattle.idl_names.specs.Files.{FileTree, file_trees}
 use Rattle.idl_rules.specs.declared.row.IdlFault.{IdlFault}
 use Rattle.idl_files.specs.declared.fault.LoadError.{LoadError}
 use Rattle.idl_files.specs.declared.fault.LoadError.TheVariants as errors
@@ -13,18 +14,30 @@ Gives view (Err (errors.Idl fault)) given = given ≡ Err fault
 Gives view (Err errors.FileFault) given = ⊤
 Gives view (Err errors.OutOfMemory) given = ⊤
 
+-- what is true for what the files hold under each name, where they tell it
+abbrev pub WhereTold : Option (List ℕ → Option (List ℕ)) → ((List ℕ → Option (List ℕ)) → Type 0) → Type 0
+WhereTold told means = (holds : List ℕ → Option (List ℕ)) → told ≡ Some holds → means holds
+
+-- the answer of a call that leaves these files
+abbrev pub LeavesFiles : {X : Type 0} → List FileDoc → Result X LoadError → Result (List FileTree) IdlFault → Type 0
+LeavesFiles files result given = Gives (λ x. file_trees files) result given
+
+-- likewise, beside what it returned
+abbrev pub LeavesBeside : {X : Type 0} → List FileDoc → Result X LoadError → Result (List FileTree × X) IdlFault → Type 0
+LeavesBeside files result given = Gives (λ x. (file_trees files, x)) result given
+
 -- a refusal is the one that was meant, want of memory aside
 abbrev pub Refuses : LoadError → IdlFault → Type 0
 Refuses (errors.Idl fault) meant = fault ≡ meant
 Refuses errors.FileFault meant = ⊥
 Refuses errors.OutOfMemory meant = ⊤
 
--- a file fault is answered only where the count of faults rose
+-- the count of faults rose where a fetch failed, and stands as it was where none did
 abbrev pub HasCause : {X : Type 0} → Result X LoadError → ℕ → ℕ → Type 0
-HasCause (Ok x) before now = ⊤
-HasCause (Err (errors.Idl fault)) before now = ⊤
+HasCause (Ok x) before now = now ≡ before
+HasCause (Err (errors.Idl fault)) before now = now ≡ before
 HasCause (Err errors.FileFault) before now = Rose before now
-HasCause (Err errors.OutOfMemory) before now = ⊤
+HasCause (Err errors.OutOfMemory) before now = now ≡ before
 
 abbrev pub IsNoFileFault : {X : Type 0} → Result X LoadError → Type 0
 IsNoFileFault (Ok x) = ⊤

@@ -2,7 +2,7 @@
 use Rattle.std.specs.Prelude.{ℕ, zero, suc, ◌+◌, List, [], ◌∷◌, Option, Some, None, Bool, false, if◌then◌else◌, length, map, nat_eq, nat_lt}
 use Rattle.std.specs.Global.{Vec}
 use Rattle.std.specs.Cmp.Lexicographic.{pointwise}
-use Rattle.idl_parser.specs.Documents.{DocumentTree}
+use Rattle.idl_document.specs.Trees.{DocumentTree}
 use Rattle.idl_names.specs.Files.{FileTree}
 
 abbrev pub later : Option ℕ → Option ℕ

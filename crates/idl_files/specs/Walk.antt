@@ -1,9 +1,10 @@
 -- The walk over files, depth first: each is fetched, read and parsed at its first mention, then its includes in order. Its first refusal is told.
 use Rattle.std.specs.Prelude.{ℕ, zero, suc, List, [], ◌∷◌, ◌++◌, Option, Some, None, Result, Ok, Err, Bool, ◌==◌, ◌||◌, if◌then◌else◌, length, map, nat_le}
-use Rattle.idl_parser.specs.declared.document.Name.{Name}
+use Rattle.idl_document.specs.declared.document.Name.{Name}
 use Rattle.idl_parser.specs.declared.fault.ParseError.{ParseError}
 use Rattle.idl_parser.specs.declared.fault.ParseError.TheVariants as errors
-use Rattle.idl_parser.specs.Documents.{DocumentTree, Parsed, parsed}
+use Rattle.idl_parser.specs.Documents.{Parsed, parsed}
+use Rattle.idl_document.specs.Trees.{DocumentTree}
 use Rattle.idl_names.specs.Files.{FileTree}
 use Rattle.idl_rules.specs.declared.row.IdlFault.{IdlFault}
 use Rattle.idl_rules.specs.declared.row.IdlRow.{IdlRow}

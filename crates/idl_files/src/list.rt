@@ -1,12 +1,12 @@
 //! The files that were fetched so far.
 ghost use Rattle.std.specs.Prelude.{◌≡◌, ◌<◌, ◌≤◌, ◌++◌, ◌∷◌, [], length, IfSome, IfOk, OnOk, OnErr, None};
-ghost use Rattle.idl_parser.specs.Documents.{document_tree};
+ghost use Rattle.idl_document.specs.Trees.{document_tree};
 ghost use Rattle.idl_names.specs.Files.{file_trees};
 ghost use Rattle.idl_files.specs.Listing.{place_of, is_open_at, fresh, with_includes};
 
 use gate_base::{OutOfMemory, Text};
+use idl_document::{Document, Seq};
 use idl_names::{Documents, FileDoc};
-use idl_parser::{Document, Seq};
 use indexmap::IndexSet;
 use std::alloc::Global;
 use std::marker::Model;

@@ -4,7 +4,7 @@ ghost use Rattle.idl_files.specs.Walk.{mention_of};
 
 use crate::names::included_name;
 use gate_base::{OutOfMemory, Text};
-use idl_parser::Name;
+use idl_document::Name;
 use std::alloc::Global;
 
 /// An include: the offset of its path, and the name of the file that it means.

@@ -1,9 +1,10 @@
 //! The walk over files, depth first.
 ghost use Rattle.std.specs.Prelude.{◌≡◌, ◌<◌, ◌≤◌, ◌^◌, ◌∷◌, ◌-◌, ℕ, [], List, Option, Some, None, length, map, IfOk, OnOk, true, false};
-ghost use Rattle.idl_parser.specs.Documents.{document_tree, parsed};
+ghost use Rattle.idl_parser.specs.Documents.{parsed};
+ghost use Rattle.idl_document.specs.Trees.{document_tree};
 ghost use Rattle.idl_names.specs.Files.{file_trees};
 ghost use Rattle.idl_names.specs.Meaning.{HasFewDefinitions};
-ghost use Rattle.idl_files.specs.Answers.{AllBelow, AllWhole, Extends, Gives, HasCause, IsNoFileFault};
+ghost use Rattle.idl_files.specs.Answers.{AllBelow, AllWhole, Extends, Gives, HasCause, IsNoFileFault, LeavesBeside, LeavesFiles, WhereTold};
 ghost use Rattle.idl_files.specs.Listing.{place_of};
 ghost use Rattle.idl_files.specs.Walk.{document_by, document_of, included, is_full, known_by, loaded, mentioned, opened, walked};
 
@@ -12,8 +13,9 @@ use crate::list::{FileList, MOST_FILES};
 use crate::mentions::{Mention, mentions};
 use gate_base::Text;
 use gate_io::{Fetched, Files};
+use idl_document::{Document, Seq};
 use idl_names::Documents;
-use idl_parser::{Document, ParseError, Seq, parse};
+use idl_parser::{ParseError, parse};
 use idl_rules::IdlRow;
 use std::alloc::Global;
 
@@ -27,7 +29,7 @@ pub fn read_files<F: Files>(
     files: &mut F,
     root: &[u8],
 ) -> Result<Documents, LoadError>
-    ensures exact { (holds : List ℕ → Option (List ℕ)) → F.holds files.old ≡ Some holds → Gives file_trees result (walked holds root.now) }
+    ensures exact { WhereTold (F.holds files.old) (λ holds. Gives file_trees result (walked holds root.now)) }
     ensures some { IfOk result (λ documents. 0 < length documents) }
     ensures within { IfOk result (λ documents. length documents ≤ MOST_FILES) }
     ensures whole { IfOk result (λ documents. AllWhole (length documents) (file_trees documents)) }
@@ -53,7 +55,7 @@ fn load<F: Files>(
     levels: usize,
 ) -> Result<(), LoadError>
     requires { place_of name.now (file_trees list.old) ≡ None }
-    ensures exact { (holds : List ℕ → Option (List ℕ)) → F.holds files.old ≡ Some holds → Gives (λ _. file_trees list.new) result (loaded holds levels (file_trees list.old) file.now at name.now) }
+    ensures exact { WhereTold (F.holds files.old) (λ holds. LeavesFiles list.new result (loaded holds levels (file_trees list.old) file.now at name.now)) }
     ensures extends { OnOk result (Extends (file_trees list.old) (file_trees list.new)) }
     ensures grows { OnOk result (length list.old < length list.new) }
     ensures same { F.holds files.new ≡ F.holds files.old }
@@ -87,7 +89,7 @@ fn fetch_document<F: Files>(
     at: usize,
     name: &[u8],
 ) -> Result<Document, LoadError>
-    ensures exact { (holds : List ℕ → Option (List ℕ)) → F.holds files.old ≡ Some holds → Gives document_tree result (document_of file.now at name.now (holds name.now)) }
+    ensures exact { WhereTold (F.holds files.old) (λ holds. Gives document_tree result (document_of file.now at name.now (holds name.now))) }
     ensures few { IfOk result (λ document. length document.definitions < 2 ^ 32) }
     ensures same { F.holds files.new ≡ F.holds files.old }
     ensures later { F.faults files.old ≤ F.faults files.new }
@@ -133,7 +135,7 @@ fn open<F: Files>(
     requires room { length list.old < MOST_FILES }
     requires new { place_of name.now (file_trees list.old) ≡ None }
     requires few { length document.definitions < 2 ^ 32 }
-    ensures exact { (holds : List ℕ → Option (List ℕ)) → F.holds files.old ≡ Some holds → Gives (λ _. file_trees list.new) result (opened (loaded holds levels) (file_trees list.old) name.now (document_tree document)) }
+    ensures exact { WhereTold (F.holds files.old) (λ holds. LeavesFiles list.new result (opened (loaded holds levels) (file_trees list.old) name.now (document_tree document))) }
     ensures extends { OnOk result (Extends (file_trees list.old) (file_trees list.new)) }
     ensures grows { OnOk result (length list.old < length list.new) }
     ensures same { F.holds files.new ≡ F.holds files.old }
@@ -158,7 +160,7 @@ fn include_all<F: Files>(
     mentions: &[Mention],
     levels: usize,
 ) -> Result<Seq<u32>, LoadError>
-    ensures exact { (holds : List ℕ → Option (List ℕ)) → F.holds files.old ≡ Some holds → Gives (λ places. (file_trees list.new, places)) result (included (loaded holds levels) file.now mentions.now (file_trees list.old) []) }
+    ensures exact { WhereTold (F.holds files.old) (λ holds. LeavesBeside list.new result (included (loaded holds levels) file.now mentions.now (file_trees list.old) [])) }
     ensures all { IfOk result (λ places. (length places ≡ length mentions.now) × AllBelow (length (file_trees list.new)) places) }
     ensures extends { OnOk result (Extends (file_trees list.old) (file_trees list.new)) }
     ensures same { F.holds files.new ≡ F.holds files.old }
@@ -186,7 +188,7 @@ fn include<F: Files>(
     mention: &Mention,
     levels: usize,
 ) -> Result<u32, LoadError>
-    ensures exact { (holds : List ℕ → Option (List ℕ)) → F.holds files.old ≡ Some holds → Gives (λ place. (file_trees list.new, place)) result (mentioned (loaded holds levels) (file_trees list.old) file.now mention.now) }
+    ensures exact { WhereTold (F.holds files.old) (λ holds. LeavesBeside list.new result (mentioned (loaded holds levels) (file_trees list.old) file.now mention.now)) }
     ensures below { IfOk result (λ place. place < length list.new) }
     ensures extends { OnOk result (Extends (file_trees list.old) (file_trees list.new)) }
     ensures same { F.holds files.new ≡ F.holds files.old }
@@ -220,7 +222,7 @@ fn known(
     place: usize,
 ) -> Result<u32, LoadError>
     requires { place < length list.now }
-    ensures exact { Gives (λ place. (file_trees list.now, place)) result (known_by (file_trees list.now) file.now mention.now.at place) }
+    ensures exact { LeavesBeside list.now result (known_by (file_trees list.now) file.now mention.now.at place) }
     ensures same { IfOk result (λ found. found ≡ place) }
     ensures faultless { IsNoFileFault result }
 {

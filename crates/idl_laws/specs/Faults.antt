@@ -1,6 +1,6 @@
 -- The first token that continues no document.
 use Rattle.std.specs.Prelude.{◌≡◌, ℕ, suc, ◌<◌, List, ◌++◌, length, take, drop}
-use Rattle.idl_parser.specs.Documents.{DocumentTree}
+use Rattle.idl_document.specs.Trees.{DocumentTree}
 use Rattle.idl_parser.specs.Grammar.{Derives}
 use Rattle.idl_parser.specs.Lexemes.{offset_of}
 use Rattle.idl_parser.specs.Seen.{Seen}

@@ -1,5 +1,5 @@
 -- The tokens of the IDL, after the Apache Thrift IDL grammar: what each kind is, and how a text is cut into the longest ones.
-use Rattle.std.specs.Prelude.{◌≡◌, ℕ, ℤ, pos, ◌-ℤ◌, ◌<◌, ◌≤◌, ◌+◌, ◌*◌, ◌^◌, List, [], ◌∷◌, ◌++◌, length, take, true, false, ◌⊎◌}
+use Rattle.std.specs.Prelude.{◌≡◌, ℕ, ℤ, pos, negsuc, ◌-ℤ◌, int_lt, ◌<◌, ◌≤◌, ◌+◌, ◌*◌, List, [], ◌∷◌, ◌++◌, length, take, Bool, true, false, not, ◌&&◌, ◌⊎◌}
 use Rattle.std.specs.List.{list_all}
 use Rattle.idl_lexer.specs.Bytes.{is_digit, is_letter, is_hex, is_inner, is_blank, is_mark, is_in}
 use Rattle.idl_lexer.specs.declared.run.Class.TheVariants as classes
@@ -13,11 +13,16 @@ abbrev pub number_of : ℕ → ℕ → List ℕ → ℕ
 number_of radix before [] = before
 number_of radix before (b ∷ bs) = number_of radix (before * radix + digit_value b) bs
 
--- an optional sign, and what it makes of a number
+-- an optional sign, and what it makes of a number of any size
 pub data IsSigned : List ℕ → ℕ → ℤ → Type 0 where
-  bare : (n : ℕ) → n < 2 ^ 63 → IsSigned [] n (pos n)
-  plus : (n : ℕ) → n < 2 ^ 63 → IsSigned (43 ∷ []) n (pos n)
-  minus : (n : ℕ) → n ≤ 2 ^ 63 → IsSigned (45 ∷ []) n (pos 0 -ℤ pos n)
+  bare : (n : ℕ) → IsSigned [] n (pos n)
+  plus : (n : ℕ) → IsSigned (43 ∷ []) n (pos n)
+  minus : (n : ℕ) → IsSigned (45 ∷ []) n (pos 0 -ℤ pos n)
+
+-- a whole number has 64 bits; it is asked for once the token is the longest, so that no part of a greater number is one
+abbrev pub is_in_range : TokenForm → Bool
+is_in_range (forms.Int z) = not (int_lt z (negsuc 9223372036854775807)) && int_lt z (pos 9223372036854775808)
+is_in_range form = true
 
 pub data IsSign : List ℕ → Type 0 where
   no_sign : IsSign []
@@ -44,7 +49,7 @@ pub data IsQuoted : ℕ → List ℕ → Type 0 where
   taken : (quote b : ℕ) (bs : List ℕ) → IsQuoted quote bs → IsQuoted quote (92 ∷ b ∷ bs)
   plain : (quote b : ℕ) (bs : List ℕ) → (b ≡ quote → ⊥) → (b ≡ 92 → ⊥) → IsQuoted quote bs → IsQuoted quote (b ∷ bs)
 
--- the bytes of one token of each form
+-- the bytes of one token of each form, a whole number of any size
 pub data IsToken : TokenForm → List ℕ → Type 0 where
   word : (b : ℕ) (bs : List ℕ) → is_letter b ≡ true → list_all is_inner bs ≡ true → IsToken forms.Word (b ∷ bs)
   decimal : (sign digits : List ℕ) (z : ℤ) → IsDigits digits → IsSigned sign (number_of 10 0 digits) z → IsToken (forms.Int z) (sign ++ digits)
@@ -70,7 +75,7 @@ pub data IsInComment : List ℕ → Type 0 where
   closed : IsInComment (42 ∷ 47 ∷ [])
   goes_on : (b : ℕ) (bs : List ℕ) → ((rest : List ℕ) → b ∷ bs ≡ 42 ∷ 47 ∷ rest → ⊥) → IsInComment bs → IsInComment (b ∷ bs)
 
--- The tokens of the bytes that stand from this place on, each the longest that fits.
+-- The tokens of the bytes that stand from this place on, each the longest that fits, and each whole number of 64 bits.
 pub data Lexes : ℕ → List ℕ → List Token → Type 0 where
   nothing : (at : ℕ) → Lexes at [] []
   blank : (at b : ℕ) (rest : List ℕ) (tokens : List Token) → is_blank b ≡ true → Lexes (at + 1) rest tokens → Lexes at (b ∷ rest) tokens
@@ -82,4 +87,4 @@ pub data Lexes : ℕ → List ℕ → List Token → Type 0 where
       Lexes (at + 2 + length inside) rest tokens → Lexes at (47 ∷ 42 ∷ (inside ++ rest)) tokens
   token : (at : ℕ) (form : TokenForm) (bytes rest : List ℕ) (tokens : List Token) → IsToken form bytes →
       ((other : TokenForm) (n : ℕ) → length bytes < n → n ≤ length (bytes ++ rest) → IsToken other (take n (bytes ++ rest)) → ⊥) →
-      Lexes (at + length bytes) rest tokens → Lexes at (bytes ++ rest) (record { form = form; from = at; len = length bytes } ∷ tokens)
+      is_in_range form ≡ true → Lexes (at + length bytes) rest tokens → Lexes at (bytes ++ rest) (record { form = form; from = at; len = length bytes } ∷ tokens)

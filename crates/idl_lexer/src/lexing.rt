@@ -3,7 +3,7 @@ ghost use Rattle.std.specs.Prelude.{◌≡◌, ◌++◌, length, IfOk, OnOk, IfE
 ghost use Rattle.idl_lexer.specs.Tokens.{kept, tokens_of, Gives, Spans};
 
 use crate::piece::{Piece, piece_at};
-use crate::token::{LexError, LexFault, Token};
+use crate::token::{LexError, LexFault, LexReason, Token};
 use std::alloc::Global;
 
 /// The tokens of a text in order, or its first fault. Between tokens stand blanks, the comments `#` and `//` to the
@@ -20,10 +20,16 @@ pub fn lex(alloc: Global, text: &[u8]) -> Result<Vec<Token>, LexError>
                 keep(&mut tokens, piece, at, len)?;
                 at += len;
             }
-            Err(reason) => return Err(LexError::Fault(LexFault { offset: at, reason })),
+            Err(reason) => return Err(fault_at(at, reason)),
         }
     }
     Ok(tokens)
+}
+
+fn fault_at(offset: usize, reason: LexReason) -> LexError
+    ensures { result ≡ LexError.Fault (record { offset = offset; reason = reason }) }
+{
+    LexError::Fault(LexFault { offset, reason })
 }
 
 // Keeps a piece that is a token.

@@ -7,7 +7,7 @@ use crate::run::{Class, comment_end, is_blank, is_letter, is_mark, literal_end, 
 use crate::token::{LexReason, TokenForm};
 
 /// A token, or blanks or a comment.
-#[derive(Clone, Copy, Debug, PartialEq, Eq)]
+#[derive(Clone, Copy)]
 pub(crate) enum Piece {
     Blank,
     Token(TokenForm),

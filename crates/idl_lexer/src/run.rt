@@ -67,7 +67,7 @@ pub(crate) fn is_mark(b: u8) -> bool
 }
 
 /// What a run is of.
-#[derive(Clone, Copy, Debug, PartialEq, Eq)]
+#[derive(Clone, Copy)]
 pub(crate) enum Class {
     Digit,
     Hex,

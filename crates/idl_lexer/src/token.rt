@@ -17,7 +17,7 @@ pub enum TokenForm {
 }
 
 /// A token, and the bytes of the text that it stands on.
-#[derive(Clone, Copy, Debug, PartialEq, Eq)]
+#[derive(Clone, Copy)]
 pub struct Token {
     pub form: TokenForm,
     pub from: usize,

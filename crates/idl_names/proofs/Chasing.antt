@@ -1,6 +1,6 @@
 -- Steps along typedefs.
 use Rattle.std.proofs.Common.{◌≡◌, ℕ, zero, suc, ◌+◌, ◌-◌, ◌<◌, ◌≤◌, List, refl, ap, sym, ◌∙◌, arith, add-one, Some, None}
-use Rattle.idl_parser.specs.Trees.{TypeTree}
+use Rattle.idl_document.specs.Trees.{TypeTree}
 use Rattle.idl_names.specs.declared.targets.Step.{Step}
 use Rattle.idl_names.specs.Files.{FileTree}
 use Rattle.idl_names.specs.Targets.{TargetTree, StepTree, ends, follows, type_step, chased, chased_by, definition_count, target_of}

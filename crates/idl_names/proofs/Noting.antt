@@ -1,10 +1,10 @@
 -- One step of a walk along a list that notes what is refused of each item, and its end.
 use Rattle.std.proofs.Common.{◌≡◌, ℕ, suc, ◌+◌, ◌<◌, ◌≤◌, List, [], ◌∷◌, ◌++◌, length, get_or, drop, ap, sym, ◌∙◌, add-one, drop-cons, Option, refl}
 use Rattle.std.proofs.lemmas.List.{drop_all}
-use Rattle.idl_parser.specs.declared.document.TypeExpr.{TypeExpr}
-use Rattle.idl_parser.specs.declared.document.TypeForm.{TypeForm}
-use Rattle.idl_parser.specs.declared.document.TypeForm.TheVariants as types
-use Rattle.idl_parser.specs.Trees.{type_tree, form_tree}
+use Rattle.idl_document.specs.declared.document.TypeExpr.{TypeExpr}
+use Rattle.idl_document.specs.declared.document.TypeForm.{TypeForm}
+use Rattle.idl_document.specs.declared.document.TypeForm.TheVariants as types
+use Rattle.idl_document.specs.Trees.{type_tree, form_tree}
 use Rattle.idl_rules.specs.Leasts.{least_on, none_lesser}
 use Rattle.idl_rules.specs.Order.{Refusal, lesser, least_of}
 use Rattle.idl_names.specs.Refusals.{offset_of}

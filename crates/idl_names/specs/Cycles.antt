@@ -1,8 +1,7 @@
 -- What leads round.
 use Rattle.std.specs.Prelude.{◌≡◌, ℕ, ◌<◌, List, [], ◌++◌, Bool, true, false, length, slice_get, Option, Some, None, option_and_then, unwrap_or}
-use Rattle.idl_parser.specs.declared.document.Name.{Name}
-use Rattle.idl_parser.specs.Declarations.{DefinitionTree, const_of, typedef_of, enum_of, struct_of, service_of}
-use Rattle.idl_parser.specs.Trees.{TypeTree, base_at, named_at, map_at, set_at, list_at}
+use Rattle.idl_document.specs.declared.document.Name.{Name}
+use Rattle.idl_document.specs.Trees.{DefinitionTree, const_of, typedef_of, enum_of, struct_of, service_of, TypeTree, base_at, named_at, map_at, set_at, list_at}
 use Rattle.idl_names.specs.declared.cycles.Cycle.{Cycle}
 use Rattle.idl_names.specs.declared.cycles.Cycle.TheVariants as cycles
 use Rattle.idl_rules.specs.declared.scopes.Scope.TheVariants as scopes

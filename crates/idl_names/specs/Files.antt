@@ -1,6 +1,6 @@
 -- Files as trees, without where they lie in memory.
 use Rattle.std.specs.Prelude.{ℕ, List, map}
-use Rattle.idl_parser.specs.Documents.{DocumentTree, document_tree}
+use Rattle.idl_document.specs.Trees.{DocumentTree, document_tree}
 use Rattle.idl_names.specs.declared.documents.FileDoc.{FileDoc}
 
 -- a file: its name, what it declares, and the place of each file that it includes

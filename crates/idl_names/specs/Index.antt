@@ -10,6 +10,9 @@ use Rattle.idl_names.specs.Meaning.{name_in}
 use Rattle.idl_names.specs.Paths.{base_name}
 use Rattle.idl_names.specs.Places.{TellsFirst, place_of}
 
+abbrev pub no_names : FileNames
+no_names = record { types = []; constants = []; services = []; bases = [] }
+
 -- the names that one file declares, and those under which it includes others
 pub record IsIndex (tree : FileTree) (names : FileNames) : Type 0 where
   pub types : TellsFirst (name_in scopes.Types) tree.document.definitions names.types

@@ -1,5 +1,5 @@
 -- What the code tells of a type, as trees.
-use Rattle.idl_parser.specs.Trees.{type_tree}
+use Rattle.idl_document.specs.Trees.{type_tree}
 use Rattle.idl_names.specs.declared.targets.Step.{Step}
 use Rattle.idl_names.specs.declared.targets.Step.TheVariants as steps
 use Rattle.idl_names.specs.declared.targets.Target.{Target}

@@ -16,7 +16,7 @@ use std::marker::Model;
 
 /// How a definition stands to cycles: a typedef leads to what its type names, also within containers, and a service to the
 /// one that it extends.
-#[derive(Clone, Copy, Debug, PartialEq, Eq)]
+#[derive(Clone, Copy)]
 pub enum Cycle {
     /// It leads into none.
     Absent,
@@ -64,10 +64,18 @@ impl Cycles {
         ensures { IfOk result (λ cycles. TellsCycles (file_trees names.now.files.now) cycles) }
     {
         let marks = marked(alloc, names)?;
+        Cycles::by_marks(alloc, names, &marks)
+    }
+
+    // The same, where so much is known.
+    fn by_marks(alloc: Global, names: &Names<'_>, marks: &Marks) -> Result<Cycles, OutOfMemory>
+        requires { AreMarked (file_trees names.now.files.now) marks.now }
+        ensures { IfOk result (λ cycles. TellsCycles (file_trees names.now.files.now) cycles) }
+    {
         let mut rows = Vec::new(alloc);
         for (place, file) in names.files.iter().enumerate() {
             let count = file.document.definitions.as_slice().len();
-            let row = row_of(alloc, names, &marks, place as u32, count)?;
+            let row = row_of(alloc, names, marks, place as u32, count)?;
             rows.push(row)?;
         }
         Ok(Cycles { rows })

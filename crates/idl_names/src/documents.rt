@@ -1,6 +1,6 @@
 //! The files of an IDL, and what is looked up in them.
 use gate_base::Text;
-use idl_parser::{Document, Seq};
+use idl_document::{Document, Seq};
 
 /// One file: its name, what its text declares, and for each of its includes the place of that file among all files.
 #[derive(Drop)]
@@ -14,7 +14,7 @@ pub struct FileDoc {
 pub type Documents = Seq<FileDoc>;
 
 /// Where a definition stands: the place of its file among all files, and its own among that file's definitions.
-#[derive(Clone, Copy, Debug, PartialEq, Eq, Hash)]
+#[derive(Clone, Copy, PartialEq, Eq, Hash)]
 pub struct Spot {
     pub file: u32,
     pub definition: u32,

@@ -1,7 +1,6 @@
 //! What definitions lead to.
 ghost use Rattle.std.specs.Prelude.{◌≡◌, [], IfOk, OnOk};
-ghost use Rattle.idl_parser.specs.Declarations.{definition_tree};
-ghost use Rattle.idl_parser.specs.Trees.{type_tree};
+ghost use Rattle.idl_document.specs.Trees.{definition_tree, type_tree};
 ghost use Rattle.idl_names.specs.Cycles.{IsReached, base_spots, definition_spots, next_spots, type_spots};
 ghost use Rattle.idl_names.specs.Files.{file_trees};
 ghost use Rattle.idl_names.specs.Marks.{IsBeyond, fresh_spots};
@@ -13,7 +12,7 @@ use crate::names::Names;
 use crate::spot_set::SpotSet;
 use crate::targets::definition_at;
 use gate_base::OutOfMemory;
-use idl_parser::{Definition, Name, TypeExpr, TypeForm};
+use idl_document::{Definition, Name, TypeExpr, TypeForm};
 use idl_rules::Scope;
 use std::alloc::Global;
 
@@ -22,8 +21,7 @@ pub(crate) fn reached(alloc: Global, names: &Names<'_>, from: Spot) -> Result<Sp
     ensures { IfOk result (λ set. IsReached (file_trees names.now.files.now) from set) }
 {
     let marks = Marks::new(alloc);
-    let set = beyond(alloc, names, &marks, from)?;
-    Ok(set)
+    beyond(alloc, names, &marks, from)
 }
 
 /// The spots that a definition leads to, in one step or more, but for those behind known ones.

@@ -3,11 +3,11 @@
 //! Each definition is asked after those that it leads to, but for those on a cycle with it. Then a walk from it meets known
 //! definitions and its own cycles alone, and all that it passed is marked at once. The answers rest on no order: where
 //! another one left a definition without a mark, a walk of its own would tell.
-ghost use Rattle.std.specs.Prelude.{◌≡◌, IfOk, OnOk};
+ghost use Rattle.std.specs.Prelude.{◌≡◌, List, false, IfOk, OnOk};
 ghost use Rattle.idl_names.specs.Cycles.{AreAmong};
-ghost use Rattle.idl_names.specs.Files.{file_trees};
-ghost use Rattle.idl_names.specs.Marks.{AreCovered, AreMarked, Gains, IsBeyond, IsRound, is_covered};
-ghost use Rattle.idl_names.specs.Sets.{Has};
+ghost use Rattle.idl_names.specs.Files.{FileTree, file_trees};
+ghost use Rattle.idl_names.specs.Marks.{AreCovered, AreMarked, Gains, IsBeyond, IsRound, is_covered, knows};
+ghost use Rattle.idl_names.specs.Sets.{Has, is_among};
 
 use crate::documents::Spot;
 use crate::leading::{beyond, leads_at_once};
@@ -24,9 +24,20 @@ pub(crate) fn marked(alloc: Global, names: &Names<'_>) -> Result<Marks, OutOfMem
 {
     let sources = Sources::find(alloc, names)?;
     let order = order(alloc, names, &sources)?;
+    marked_in_order(alloc, names, &sources, order.as_slice())
+}
+
+fn marked_in_order(
+    alloc: Global,
+    names: &Names<'_>,
+    sources: &Sources,
+    order: &[Spot],
+) -> Result<Marks, OutOfMemory>
+    ensures { IfOk result (λ marks. AreMarked (file_trees names.now.files.now) marks) }
+{
     let mut marks = Marks::new(alloc);
-    for spot in &order {
-        mark(alloc, names, &sources, *spot, &mut marks)?;
+    for spot in order {
+        mark(alloc, names, sources, *spot, &mut marks)?;
     }
     Ok(marks)
 }
@@ -49,11 +60,20 @@ fn mark(
     if set.contains(spot) {
         return mark_round(alloc, names, sources, spot, &set, marks);
     }
+    mark_line(alloc, spot, &set, marks)
+}
+
+// Marks a definition that does not lead to itself.
+fn mark_line(alloc: Global, spot: Spot, set: &SpotSet, marks: &mut Marks) -> Result<(), OutOfMemory>
+    requires fresh { knows marks.old spot ≡ false }
+    requires line { is_among spot set.now ≡ false }
+    ensures { (files : List FileTree) → AreMarked files marks.old → IsBeyond files marks.old spot set.now → OnOk result (AreMarked files marks.new) }
+{
     let none = SpotSet::new(alloc);
-    if !are_covered(&set, marks, &none) {
+    if !are_covered(set, marks, &none) {
         return Ok(());
     }
-    if are_among(&set, &marks.absent) {
+    if are_among(set, &marks.absent) {
         return marks.absent.insert(spot);
     }
     marks.ahead.insert(spot)

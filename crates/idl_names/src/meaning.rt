@@ -1,12 +1,12 @@
 //! What a name means.
 ghost use Rattle.std.specs.Prelude.{◌≡◌, ◌<◌, length, slice_get, position, IfSome, option_copied, option_map};
-ghost use Rattle.idl_parser.specs.Declarations.{definition_tree};
+ghost use Rattle.idl_document.specs.Trees.{definition_tree};
 ghost use Rattle.idl_names.specs.Files.{file_tree, file_trees};
 ghost use Rattle.idl_names.specs.Meaning.{declares, name_in, is_named, declared_in, has_base, included, meaning, HasFewDefinitions};
 
 use crate::documents::{Documents, FileDoc, Spot};
 use crate::paths::{base_name, last_place};
-use idl_parser::{Definition, Name};
+use idl_document::{Definition, Name};
 use idl_rules::Scope;
 
 /// The first definition that a name means in a scope of the file at this place. A name without a dot is of the file

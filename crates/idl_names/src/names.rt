@@ -1,8 +1,8 @@
 //! The files of an IDL with an index of their names.
-ghost use Rattle.std.specs.Prelude.{◌≡◌, ◌+◌, ◌<◌, ◌^◌, length, IfOk};
-ghost use Rattle.idl_parser.specs.Declarations.{definition_tree};
+ghost use Rattle.std.specs.Prelude.{◌≡◌, ◌+◌, ◌<◌, ◌^◌, [], length, IfOk, OnOk};
+ghost use Rattle.idl_document.specs.Trees.{definition_tree};
 ghost use Rattle.idl_names.specs.Files.{file_tree, file_trees};
-ghost use Rattle.idl_names.specs.Index.{AreIndexed, AreIndexed-prop, IsIndex, include_at, include_in, place_in};
+ghost use Rattle.idl_names.specs.Index.{AreIndexed, AreIndexed-prop, IsIndex, include_at, include_in, no_names, place_in};
 ghost use Rattle.idl_names.specs.Meaning.{HasFewDefinitions, declared_in, included, meaning, name_in};
 ghost use Rattle.idl_names.specs.Paths.{base_name};
 ghost use Rattle.idl_names.specs.Places.{TellsFirst};
@@ -13,7 +13,7 @@ use crate::meaning::{file_at, name_in};
 use crate::paths::{base_name, last_place};
 use crate::places::Places;
 use gate_base::OutOfMemory;
-use idl_parser::{Definition, Name};
+use idl_document::{Definition, Name};
 use idl_rules::Scope;
 use std::alloc::Global;
 
@@ -151,31 +151,55 @@ fn index_of(alloc: Global, files: &[FileDoc]) -> Result<Vec<FileNames>, OutOfMem
 fn names_of(alloc: Global, file: &FileDoc) -> Result<FileNames, OutOfMemory>
     ensures { IfOk result (λ names. IsIndex (file_tree file.now) names) }
 {
-    let definitions = file.document.definitions.as_slice();
-    Ok(FileNames {
-        types: declared(alloc, definitions, Scope::Types)?,
-        constants: declared(alloc, definitions, Scope::Constants)?,
-        services: declared(alloc, definitions, Scope::Services)?,
-        bases: bases(alloc, file.document.includes.as_slice())?,
-    })
+    let mut names = no_names(alloc);
+    enter_names(alloc, file, &mut names)?;
+    Ok(names)
 }
 
-fn declared(alloc: Global, definitions: &[Definition], scope: Scope) -> Result<Places, OutOfMemory>
-    ensures { IfOk result (λ places. TellsFirst (λ d. name_in scope (definition_tree d)) definitions.now places) }
+fn no_names(alloc: Global) -> FileNames
+    ensures { result ≡ no_names }
 {
-    let mut places = Places::new(alloc);
+    FileNames {
+        types: Places::new(alloc),
+        constants: Places::new(alloc),
+        services: Places::new(alloc),
+        bases: Places::new(alloc),
+    }
+}
+
+// Enters the names of a file where none are entered.
+fn enter_names(alloc: Global, file: &FileDoc, names: &mut FileNames) -> Result<(), OutOfMemory>
+    requires { names.old ≡ no_names }
+    ensures { OnOk result (IsIndex (file_tree file.now) names.new) }
+{
+    let definitions = file.document.definitions.as_slice();
+    enter_declared(alloc, definitions, Scope::Types, &mut names.types)?;
+    enter_declared(alloc, definitions, Scope::Constants, &mut names.constants)?;
+    enter_declared(alloc, definitions, Scope::Services, &mut names.services)?;
+    enter_bases(alloc, file.document.includes.as_slice(), &mut names.bases)
+}
+
+fn enter_declared(
+    alloc: Global,
+    definitions: &[Definition],
+    scope: Scope,
+    places: &mut Places,
+) -> Result<(), OutOfMemory>
+    requires { places.old ≡ [] }
+    ensures { OnOk result (TellsFirst (λ d. name_in scope (definition_tree d)) definitions.now places.new) }
+{
     for (place, definition) in definitions.iter().enumerate() {
         places.note(alloc, name_in(definition, scope), place)?;
     }
-    Ok(places)
+    Ok(())
 }
 
-fn bases(alloc: Global, includes: &[Name]) -> Result<Places, OutOfMemory>
-    ensures { IfOk result (λ places. TellsFirst (λ path. base_name path.text) includes.now places) }
+fn enter_bases(alloc: Global, includes: &[Name], places: &mut Places) -> Result<(), OutOfMemory>
+    requires { places.old ≡ [] }
+    ensures { OnOk result (TellsFirst (λ path. base_name path.text) includes.now places.new) }
 {
-    let mut places = Places::new(alloc);
     for (place, path) in includes.iter().enumerate() {
         places.note(alloc, base_name(path.text.as_slice()), place)?;
     }
-    Ok(places)
+    Ok(())
 }

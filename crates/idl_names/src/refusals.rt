@@ -1,8 +1,6 @@
 //! What the names of a file may not be.
 ghost use Rattle.std.specs.Prelude.{◌≡◌, ◌<◌, ◌^◌, length, if◌then◌else◌, option_map};
-ghost use Rattle.idl_parser.specs.Declarations.{definition_tree, definition_trees, function_tree, function_trees};
-ghost use Rattle.idl_parser.specs.Fields.{field_trees};
-ghost use Rattle.idl_parser.specs.Trees.{type_tree};
+ghost use Rattle.idl_document.specs.Trees.{definition_tree, definition_trees, function_tree, function_trees, field_trees, type_tree};
 ghost use Rattle.idl_rules.specs.Order.{lesser, least_of};
 ghost use Rattle.idl_names.specs.Files.{file_trees};
 ghost use Rattle.idl_names.specs.Refusals.{base_refusals, cycle_refusals, definition_refusals, definitions_refusals, fields_refusals, function_refusals, functions_refusals, is_known, is_other, is_refused, is_round, leads_round, name_refusals, returned_refusals, throws_refusals, thrown_refusals, type_refusals, word_refusals};
@@ -14,7 +12,7 @@ use crate::documents::Spot;
 use crate::meaning::file_at;
 use crate::names::Names;
 use crate::targets::{Target, resolve_type};
-use idl_parser::{Definition, FieldDecl, Function, Kin, Name, TypeExpr, TypeForm};
+use idl_document::{Definition, FieldDecl, Function, Kin, Name, TypeExpr, TypeForm};
 use idl_rules::{IdlRow, Least, Scope};
 
 /// Notes a name that this scope has not: as unknown, where no scope has it.
@@ -125,7 +123,7 @@ fn is_other(target: Option<Target<'_>>) -> bool
 
 // Only an exception is thrown.
 fn is_refused(names: &Names<'_>, cycles: &Cycles, file: u32, ty: &TypeExpr) -> bool
-    ensures { result ≡ is_refused (is_round (file_trees names.now.files.now) cycles.now file (type_tree ty.now)) (is_other (target_of (file_trees names.now.files.now) file (type_tree ty.now))) }
+    ensures { let d = file_trees names.now.files.now in let t = type_tree ty.now in result ≡ is_refused (is_round d cycles.now file t) (is_other (target_of d file t)) }
 {
     if is_round(names, cycles, file, ty) {
         false
@@ -223,7 +221,7 @@ fn check_definition(
     definition: &Definition,
     least: &mut Least,
 )
-    ensures { least.new ≡ lesser least.old (least_of (definition_refusals (file_trees names.now.files.now) cycles.now spot (definition_tree definition.now))) }
+    ensures { let d = file_trees names.now.files.now in least.new ≡ lesser least.old (least_of (definition_refusals d cycles.now spot (definition_tree definition.now))) }
 {
     match definition {
         Definition::Const(_, ty, _) => check_type(names, spot.file, ty, least),
@@ -254,7 +252,7 @@ fn check_definitions(
     least: &mut Least,
 )
     requires { length definitions.now < 2 ^ 32 }
-    ensures { least.new ≡ lesser least.old (least_of (definitions_refusals (file_trees names.now.files.now) cycles.now file 0 (definition_trees definitions.now))) }
+    ensures { let d = file_trees names.now.files.now in least.new ≡ lesser least.old (least_of (definitions_refusals d cycles.now file 0 (definition_trees definitions.now))) }
 {
     for (place, definition) in definitions.iter().enumerate() {
         let spot = Spot {

@@ -103,16 +103,27 @@ pub(crate) fn order(
     names: &Names<'_>,
     sources: &Sources,
 ) -> Result<Vec<Spot>, OutOfMemory> {
-    let mut order = Vec::new(alloc);
-    let mut met = SpotSet::new(alloc);
     let spots = all_spots(alloc, names)?;
-    for spot in &spots {
-        if !met.contains(*spot) {
-            walk(alloc, sources, *spot, &mut met, &mut order)?;
-        }
-    }
+    let mut order = Vec::new(alloc);
+    walk_all(alloc, sources, spots.as_slice(), &mut order)?;
     order.reverse();
     Ok(order)
+}
+
+// Each of these that no walk from one before it met, behind those that lead to it.
+fn walk_all(
+    alloc: Global,
+    sources: &Sources,
+    spots: &[Spot],
+    order: &mut Vec<Spot>,
+) -> Result<(), OutOfMemory> {
+    let mut met = SpotSet::new(alloc);
+    for spot in spots {
+        if !met.contains(*spot) {
+            walk(alloc, sources, *spot, &mut met, order)?;
+        }
+    }
+    Ok(())
 }
 
 fn all_spots(alloc: Global, names: &Names<'_>) -> Result<Vec<Spot>, OutOfMemory> {

@@ -1,7 +1,6 @@
 //! Typedefs followed to what they stand for.
 ghost use Rattle.std.specs.Prelude.{◌≡◌, ◌<◌, ◌^◌, length, slice_get, option_copied, option_map};
-ghost use Rattle.idl_parser.specs.Declarations.{definition_tree};
-ghost use Rattle.idl_parser.specs.Trees.{type_tree};
+ghost use Rattle.idl_document.specs.Trees.{definition_tree, type_tree};
 ghost use Rattle.idl_names.specs.Files.{file_trees};
 ghost use Rattle.idl_names.specs.Targets.{definition_at, spot_step, type_step, target_of};
 ghost use Rattle.idl_names.specs.Told.{step_tree, target_tree};
@@ -9,7 +8,7 @@ ghost use Rattle.idl_names.specs.Told.{step_tree, target_tree};
 use crate::documents::{FileDoc, Spot};
 use crate::meaning::file_at;
 use crate::names::Names;
-use idl_parser::{Definition, Kin, TypeExpr, TypeForm};
+use idl_document::{Definition, Kin, TypeExpr, TypeForm};
 use idl_rules::Scope;
 
 /// What a type is, where its typedefs are followed.

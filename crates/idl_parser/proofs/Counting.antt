@@ -2,11 +2,12 @@
 use Rattle.std.proofs.Common.{◌≡◌, ℕ, zero, suc, ◌+◌, ◌-◌, ◌≤◌, List, [], ◌∷◌, ◌++◌, length, drop, Ok, Err, Bool, true, false, cond, refl, ap, arith, length-append, length-drop}
 use Rattle.idl_lexer.specs.declared.token.Token.{Token}
 use Rattle.idl_lexer.specs.Tokens.{Spans}
-use Rattle.idl_parser.specs.declared.document.Definition.{Definition}
-use Rattle.idl_parser.specs.declared.document.Document.{Document}
-use Rattle.idl_parser.specs.declared.document.Name.{Name}
-use Rattle.idl_parser.specs.Declarations.{DefinitionTree, definition_at, definition_trees, one_definition}
-use Rattle.idl_parser.specs.Documents.{DocumentTree, document_at, document_tree, header_at, is_header}
+use Rattle.idl_document.specs.declared.document.Definition.{Definition}
+use Rattle.idl_document.specs.declared.document.Document.{Document}
+use Rattle.idl_document.specs.declared.document.Name.{Name}
+use Rattle.idl_parser.specs.Declarations.{definition_at, one_definition}
+use Rattle.idl_document.specs.Trees.{DefinitionTree, definition_trees, DocumentTree, document_tree}
+use Rattle.idl_parser.specs.Documents.{document_at, header_at, is_header}
 use Rattle.idl_parser.specs.Lexemes.{Scan, onward, is_left}
 use Rattle.idl_parser.specs.Run.{run, joined, after_one, at_end, listed}
 use Rattle.idl_parser.specs.Seeing.{seen_all}

@@ -6,7 +6,7 @@ use Rattle.idl_parser.specs.declared.words.Keyword.TheVariants as keywords
 use Rattle.idl_parser.specs.Lexemes.{Scan, lexeme_of, syntax_at, onward}
 use Rattle.idl_parser.specs.Notes.{notes_at}
 use Rattle.idl_parser.specs.Seen.{Seen}
-use Rattle.idl_parser.specs.Trees.{TypeTree}
+use Rattle.idl_document.specs.Trees.{TypeTree}
 use Rattle.idl_parser.specs.Types.{Inner, form_by, form_at, type_by, type_at, type_step}
 use Rattle.idl_parser.specs.Values.{Inner as Values, value_by, value_at, value_step}
 

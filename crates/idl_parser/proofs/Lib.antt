@@ -2,6 +2,5 @@ pub mod Counting
 pub mod Inside
 pub mod Levels
 pub mod Listed
-pub mod Pushed
 pub mod Running
 pub mod Views

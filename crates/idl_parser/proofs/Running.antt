@@ -85,11 +85,15 @@ module _ {Y : Type 0} (more : ℕ → List Seen → Bool) (one : ℕ → List Se
       ∙ ap (joined front n) (sym (stepped m o input.edge (drop n list) ys used (sym same_test ∙ s) (sym same_one ∙ e) l fits))
       ∙ i
 
+  -- the loop is left by the fault of the one
+  pub breaks : (fault : Fault) (whole : Scan (List Y)) → more rest.edge rest.list ≡ true → one rest.edge rest.list ≡ Err fault →
+      joined front n (run (more input.edge) (one input.edge) input.edge (drop n input.list) 0) ≡ whole → whole ≡ Err fault
+  breaks fault whole s e i = sym i ∙ ap (joined front n) (failed (more input.edge) (one input.edge) input.edge (drop n input.list) fault (sym same_test ∙ s) (sym same_one ∙ e))
+
   -- the loop is left by what stopped the one
   pub gives_up : {X Z : Type 0} (view : X → List Y) (other : Z → List Y) (stop : Stop) (whole : Scan (List Y)) → more rest.edge rest.list ≡ true →
       Gives view (Err stop) (one rest.edge rest.list) → joined front n (run (more input.edge) (one input.edge) input.edge (drop n input.list) 0) ≡ whole → Gives other (Err stop) whole
-  gives_up view other (stops.Fault fault) whole s e i =
-      sym i ∙ ap (joined front n) (failed (more input.edge) (one input.edge) input.edge (drop n input.list) fault (sym same_test ∙ s) (sym same_one ∙ e))
+  gives_up view other (stops.Fault fault) whole s e i = breaks fault whole s e i
   gives_up view other stops.OutOfMemory whole s e i = tt
 
   pub ends : (whole : Scan (List Y)) → more rest.edge rest.list ≡ false → joined front n (run (more input.edge) (one input.edge) input.edge (drop n input.list) 0) ≡ whole → whole ≡ Ok (front, n)

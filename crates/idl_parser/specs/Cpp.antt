@@ -4,6 +4,7 @@ use Rattle.idl_parser.specs.declared.tokens.Lexeme.{Lexeme}
 use Rattle.idl_parser.specs.declared.tokens.Lexeme.TheVariants as lexemes
 use Rattle.idl_parser.specs.declared.words.Keyword.TheVariants as keywords
 use Rattle.idl_parser.specs.Lexemes.{Scan, lexeme_of, syntax_at, onward, stands}
+use Rattle.idl_parser.specs.Marks.{equals_mark}
 use Rattle.idl_parser.specs.Seen.{Seen}
 
 abbrev pub literal_by : Lexeme → ℕ → List Seen → Scan (Unit {0})
@@ -32,4 +33,4 @@ cpp_at edge tokens = cpp_by (lexeme_of tokens) edge tokens
 
 -- `=` and a literal, where that mark stands
 unfoldable pub equal_at : ℕ → List Seen → Scan (Unit {0})
-equal_at edge tokens = if stands 61 tokens then (onward 1 (literal_at edge (drop 1 tokens)) λ u n. Ok (tt, n)) else Ok (tt, 0)
+equal_at edge tokens = if stands equals_mark tokens then (onward 1 (literal_at edge (drop 1 tokens)) λ u n. Ok (tt, n)) else Ok (tt, 0)

@@ -1,17 +1,21 @@
 -- The document of a text, or its first fault.
 use Rattle.std.specs.Prelude.{◌≡◌, ℕ, ◌+◌, List, [], ◌∷◌, length, drop, if◌then◌else◌, Bool, true, false, Option, Some, None, Result, Ok, Err}
 use Rattle.idl_lexer.specs.Tokens.{Read, tokens_of}
-use Rattle.idl_parser.specs.declared.document.Document.{Document}
-use Rattle.idl_parser.specs.declared.document.Name.{Name}
+use Rattle.idl_document.specs.declared.document.Document.{Document}
+use Rattle.idl_document.specs.declared.document.Name.{Name}
 use Rattle.idl_parser.specs.declared.fault.Fault.TheVariants as faults
 use Rattle.idl_parser.specs.declared.fault.ParseError.{ParseError}
 use Rattle.idl_parser.specs.declared.fault.ParseError.TheVariants as errors
+use Rattle.idl_parser.specs.declared.fault.Stop.{Stop}
+use Rattle.idl_parser.specs.declared.fault.Stop.TheVariants as stops
 use Rattle.idl_parser.specs.declared.tokens.Lexeme.{Lexeme}
 use Rattle.idl_parser.specs.declared.tokens.Lexeme.TheVariants as lexemes
 use Rattle.idl_parser.specs.declared.words.Keyword.TheVariants as keywords
 use Rattle.idl_parser.specs.Cpp.{literal_at, id_at}
-use Rattle.idl_parser.specs.Declarations.{DefinitionTree, definition_trees, one_definition}
+use Rattle.idl_parser.specs.Declarations.{one_definition}
+use Rattle.idl_document.specs.Trees.{DocumentTree, document_tree}
 use Rattle.idl_parser.specs.Lexemes.{Scan, lexeme_of, offset_of, word_of, syntax_at, onward, is_left, stands, sep_len}
+use Rattle.idl_parser.specs.Marks.{star_mark}
 use Rattle.idl_parser.specs.Notes.{notes_at}
 use Rattle.idl_parser.specs.Run.{run}
 use Rattle.idl_parser.specs.Seeing.{seen_all}
@@ -27,20 +31,20 @@ include_at edge tokens = include_by (lexeme_of tokens) edge tokens
 
 -- a star, or a name
 unfoldable pub scope_at : ℕ → List Seen → Scan (Unit {0})
-scope_at edge tokens = if stands 42 tokens then Ok (tt, 1) else id_at edge tokens
+scope_at edge tokens = if stands star_mark tokens then Ok (tt, 1) else id_at edge tokens
 
 -- behind the word `namespace`
-unfoldable pub namespace_at : ℕ → List Seen → Scan (List Name)
+unfoldable pub namespace_at : ℕ → List Seen → Scan (Unit {0})
 namespace_at edge tokens =
     onward 1 (scope_at edge (drop 1 tokens)) λ u n.
     onward n (id_at edge (drop n tokens)) λ u n.
     onward n (notes_at edge (drop n tokens)) λ u n.
-    Ok ([], n)
+    Ok (tt, n)
 
 abbrev pub header_by : Lexeme → ℕ → List Seen → Scan (List Name)
 header_by (lexemes.Keyword keywords.Include) edge tokens = onward 1 (include_at edge (drop 1 tokens)) λ path n. Ok (path, n)
 header_by (lexemes.Keyword keywords.CppInclude) edge tokens = onward 1 (literal_at edge (drop 1 tokens)) λ u n. Ok ([], n)
-header_by (lexemes.Keyword keywords.Namespace) edge tokens = namespace_at edge tokens
+header_by (lexemes.Keyword keywords.Namespace) edge tokens = onward 0 (namespace_at edge tokens) λ u n. Ok ([], n)
 header_by lexeme edge tokens = syntax_at edge tokens
 
 unfoldable pub told_at : ℕ → List Seen → Scan (List Name)
@@ -62,14 +66,6 @@ is_header_by lexeme = false
 unfoldable pub is_header : List Seen → Bool
 is_header tokens = is_header_by (lexeme_of tokens)
 
--- what a text is, without where it lies in memory
-pub record DocumentTree : Type 0 where
-  pub includes : List Name
-  pub definitions : List DefinitionTree
-
-abbrev pub document_tree : Document → DocumentTree
-document_tree d = record { includes = d.includes; definitions = definition_trees d.definitions }
-
 unfoldable pub document_at : ℕ → List Seen → Scan DocumentTree
 document_at edge tokens =
     onward 0 (run is_header (header_at edge) edge tokens 0) λ includes n.
@@ -83,6 +79,12 @@ abbrev pub as_parsed : Scan DocumentTree → Parsed
 as_parsed (Ok x) = Ok x.0
 as_parsed (Err (faults.Syntax at)) = Err (errors.Syntax at)
 as_parsed (Err (faults.Nested at)) = Err (errors.Nested at)
+
+-- what is told of why nothing was read
+abbrev pub told : Stop → ParseError
+told (stops.Fault (faults.Syntax at)) = errors.Syntax at
+told (stops.Fault (faults.Nested at)) = errors.Nested at
+told stops.OutOfMemory = errors.OutOfMemory
 
 -- a lexical fault goes before all others
 abbrev pub parsed_by : List ℕ → Read → Parsed

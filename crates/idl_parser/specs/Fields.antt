@@ -1,39 +1,26 @@
 -- Names that are declared, and fields, in a list of tokens.
-use Rattle.std.specs.Prelude.{ℕ, ℤ, ◌+◌, ◌==◌, if◌then◌else◌, List, drop, map, Option, Some, None, option_map, Ok, Bool}
+use Rattle.std.specs.Prelude.{ℕ, ℤ, ◌+◌, ◌==◌, if◌then◌else◌, List, drop, Option, Some, None, option_map, Ok, Bool}
 use Rattle.std.specs.List.{list_any}
-use Rattle.idl_parser.specs.declared.document.Asked.{Asked}
-use Rattle.idl_parser.specs.declared.document.Asked.TheVariants as asks
-use Rattle.idl_parser.specs.declared.document.FieldDecl.{FieldDecl}
-use Rattle.idl_parser.specs.declared.document.Name.{Name}
+use Rattle.idl_document.specs.declared.document.Asked.{Asked}
+use Rattle.idl_document.specs.declared.document.Asked.TheVariants as asks
+use Rattle.idl_document.specs.declared.document.Name.{Name}
+use Rattle.idl_parser.specs.declared.fields.NamedPreset.{NamedPreset}
 use Rattle.idl_parser.specs.declared.tokens.Lexeme.{Lexeme}
 use Rattle.idl_parser.specs.declared.tokens.Lexeme.TheVariants as lexemes
 use Rattle.idl_parser.specs.declared.words.Keyword.TheVariants as keywords
-use Rattle.idl_parser.specs.Item.{ValueItem}
-use Rattle.idl_parser.specs.Items.{items_of_value}
+use Rattle.idl_document.specs.Item.{ValueItem}
+use Rattle.idl_document.specs.Items.{items_of_value}
 use Rattle.idl_parser.specs.Lexemes.{Scan, lexeme_of, offset_of, word_of, syntax_at, onward, mark_at, stands, sep_len}
+use Rattle.idl_parser.specs.Marks.{ampersand_mark, colon_mark, curly_close, dot_byte, equals_mark, most_levels}
 use Rattle.idl_parser.specs.Notes.{notes_at, not_closed}
 use Rattle.idl_parser.specs.Run.{run, listed}
 use Rattle.idl_parser.specs.Seen.{Seen}
-use Rattle.idl_parser.specs.Trees.{TypeTree, type_tree}
+use Rattle.idl_document.specs.Trees.{FieldTree, TypeTree}
 use Rattle.idl_parser.specs.Types.{type_at}
 use Rattle.idl_parser.specs.Values.{value_at}
 
--- a field without where it lies in memory
-pub record FieldTree : Type 0 where
-  pub id : Option (ℕ × ℤ)
-  pub asked : Asked
-  pub ty : TypeTree
-  pub name : Name
-  pub preset : Option (List ValueItem)
-
-abbrev pub field_tree : FieldDecl → FieldTree
-field_tree f = record { id = f.id; asked = f.asked; ty = type_tree f.ty; name = f.name; preset = option_map items_of_value f.preset }
-
-abbrev pub field_trees : List FieldDecl → List FieldTree
-field_trees fields = map field_tree fields
-
 abbrev pub has_dot : List ℕ → Bool
-has_dot word = list_any (λ b. b == 46) word
+has_dot word = list_any (λ b. b == dot_byte) word
 
 abbrev pub name_by : Lexeme → ℕ → List Seen → Scan Name
 name_by lexemes.Name edge tokens =
@@ -44,6 +31,13 @@ name_by lexeme edge tokens = syntax_at edge tokens
 unfoldable pub name_at : ℕ → List Seen → Scan Name
 name_at edge tokens = name_by (lexeme_of tokens) edge tokens
 
+-- a name that is declared, and notes
+unfoldable pub noted_name_at : ℕ → List Seen → Scan Name
+noted_name_at edge tokens =
+    onward 0 (name_at edge tokens) λ name n.
+    onward n (notes_at edge (drop n tokens)) λ u n.
+    Ok (name, n)
+
 abbrev pub path_by : Lexeme → ℕ → List Seen → Scan Name
 path_by lexemes.Name edge tokens = Ok (record { at = offset_of edge tokens; text = word_of tokens }, 1)
 path_by lexeme edge tokens = syntax_at edge tokens
@@ -53,7 +47,7 @@ unfoldable pub path_at : ℕ → List Seen → Scan Name
 path_at edge tokens = path_by (lexeme_of tokens) edge tokens
 
 abbrev pub given_by : Lexeme → ℕ → List Seen → Scan (Option (ℕ × ℤ))
-given_by (lexemes.Int z) edge tokens = onward 1 (mark_at 58 edge (drop 1 tokens)) λ u n. Ok (Some (offset_of edge tokens, z), n)
+given_by (lexemes.Int z) edge tokens = onward 1 (mark_at colon_mark edge (drop 1 tokens)) λ u n. Ok (Some (offset_of edge tokens, z), n)
 given_by lexeme edge tokens = Ok (None, 0)
 
 -- an id with its offset, where one is given
@@ -71,26 +65,52 @@ asked_at tokens = asked_by (lexeme_of tokens)
 -- a type, and a mark & where it stands
 unfoldable pub typed_at : ℕ → List Seen → Scan TypeTree
 typed_at edge tokens =
-    onward 0 (type_at 64 edge tokens) λ ty n.
-    Ok (ty, n + (if stands 38 (drop n tokens) then 1 else 0))
+    onward 0 (type_at most_levels edge tokens) λ ty n.
+    Ok (ty, n + (if stands ampersand_mark (drop n tokens) then 1 else 0))
 
 unfoldable pub preset_at : ℕ → List Seen → Scan (Option (List ValueItem))
 preset_at edge tokens =
-    if stands 61 tokens then (onward 1 (value_at 64 edge (drop 1 tokens)) λ value n. Ok (Some value, n)) else Ok (None, 0)
+    if stands equals_mark tokens then (onward 1 (value_at most_levels edge (drop 1 tokens)) λ value n. Ok (Some value, n)) else Ok (None, 0)
 
 -- notes and a separator, where they stand
 unfoldable pub tail_at : ℕ → List Seen → Scan (Unit {0})
 tail_at edge tokens = onward 0 (notes_at edge tokens) λ u n. Ok (tt, n + sep_len (drop n tokens))
+
+-- the curly bracket that closes the body of a declaration, and notes
+unfoldable pub body_end_at : ℕ → List Seen → Scan (Unit {0})
+body_end_at edge tokens =
+    onward 0 (mark_at curly_close edge tokens) λ u n.
+    onward n (notes_at edge (drop n tokens)) λ u n.
+    Ok (tt, n)
+
+-- a preset, where one stands, with the notes and the separator that end a field
+unfoldable pub last_preset_at : ℕ → List Seen → Scan (Option (List ValueItem))
+last_preset_at edge tokens =
+    onward 0 (preset_at edge tokens) λ preset n.
+    onward n (tail_at edge (drop n tokens)) λ u n.
+    Ok (preset, n)
+
+-- what stands behind a field's type
+pub record NamedPresetTree : Type 0 where
+  pub name : Name
+  pub preset : Option (List ValueItem)
+
+abbrev pub named_preset_tree : NamedPreset → NamedPresetTree
+named_preset_tree p = record { name = p.name; preset = option_map items_of_value p.preset }
+
+unfoldable pub named_preset_at : ℕ → List Seen → Scan NamedPresetTree
+named_preset_at edge tokens =
+    onward 0 (name_at edge tokens) λ name n.
+    onward n (last_preset_at edge (drop n tokens)) λ preset n.
+    Ok (record { name = name; preset = preset }, n)
 
 unfoldable pub field_at : ℕ → List Seen → Scan FieldTree
 field_at edge tokens =
     onward 0 (given_at edge tokens) λ id n.
     onward n (asked_at (drop n tokens)) λ asked n.
     onward n (typed_at edge (drop n tokens)) λ ty n.
-    onward n (name_at edge (drop n tokens)) λ name n.
-    onward n (preset_at edge (drop n tokens)) λ preset n.
-    onward n (tail_at edge (drop n tokens)) λ u n.
-    Ok (record { id = id; asked = asked; ty = ty; name = name; preset = preset }, n)
+    onward n (named_preset_at edge (drop n tokens)) λ named n.
+    Ok (record { id = id; asked = asked; ty = ty; name = named.name; preset = named.preset }, n)
 
 abbrev pub one_field : ℕ → List Seen → Scan (List FieldTree)
 one_field edge tokens = listed (field_at edge tokens)

@@ -7,6 +7,7 @@ use Rattle.idl_parser.specs.declared.fault.Stop.TheVariants as stops
 use Rattle.idl_parser.specs.declared.tokens.Lexeme.{Lexeme}
 use Rattle.idl_parser.specs.declared.tokens.Lexeme.TheVariants as lexemes
 use Rattle.idl_parser.specs.Seen.{Seen, Input}
+use Rattle.idl_parser.specs.Marks.{comma_mark, semicolon_mark}
 
 abbrev pub lexeme_of : List Seen → Lexeme
 lexeme_of [] = lexemes.End
@@ -61,7 +62,7 @@ mark_at mark edge tokens = if stands mark tokens then Ok (tt, 1) else syntax_at 
 
 -- a comma or a semicolon is taken where one stands
 unfoldable pub sep_len : List Seen → ℕ
-sep_len tokens = if stands 44 tokens then 1 else if stands 59 tokens then 1 else 0
+sep_len tokens = if stands comma_mark tokens then 1 else if stands semicolon_mark tokens then 1 else 0
 
 -- what a function returned, seen by a view, is what a scan gives, unless memory ran out
 abbrev pub Gives : {X Y : Type 0} → (X → Y) → Result (X × ℕ) Stop → Scan Y → Type 0
@@ -73,11 +74,11 @@ abbrev pub itself : {X : Type 0} → X → X
 itself x = x
 
 -- a scan of what may be missing takes no more tokens than there are
-abbrev pub IsUpTo : {X : Type 0} → ℕ → Result (X × ℕ) Stop → Type 0
+abbrev pub IsUpTo : {X E : Type 0} → ℕ → Result (X × ℕ) E → Type 0
 IsUpTo size (Ok x) = x.1 ≤ size
 IsUpTo size (Err stop) = Unit {0}
 
 -- another scan takes one at least
-abbrev pub IsWithin : {X : Type 0} → ℕ → Result (X × ℕ) Stop → Type 0
+abbrev pub IsWithin : {X E : Type 0} → ℕ → Result (X × ℕ) E → Type 0
 IsWithin size (Ok x) = (0 < x.1) × (x.1 ≤ size)
 IsWithin size (Err stop) = Unit {0}

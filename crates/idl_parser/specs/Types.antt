@@ -5,40 +5,56 @@ use Rattle.idl_parser.specs.declared.tokens.Lexeme.{Lexeme}
 use Rattle.idl_parser.specs.declared.tokens.Lexeme.TheVariants as lexemes
 use Rattle.idl_parser.specs.declared.words.Keyword.TheVariants as keywords
 use Rattle.idl_parser.specs.Lexemes.{Scan, lexeme_of, offset_of, word_of, syntax_at, onward, mark_at}
+use Rattle.idl_parser.specs.Marks.{angle_close, angle_open, comma_mark}
 use Rattle.idl_parser.specs.Notes.{notes_at}
 use Rattle.idl_parser.specs.Cpp.{cpp_at}
 use Rattle.idl_parser.specs.Seen.{Seen}
-use Rattle.idl_parser.specs.Trees.{TypeTree, base_at, named_at, map_at, set_at, list_at}
+use Rattle.idl_document.specs.Trees.{TypeTree, base_at, named_at, map_at, set_at, list_at}
 
 abbrev pub Inner : Type 0
 Inner = List Seen → Scan TypeTree
 
+-- an inner type, and the mark behind it
+unfoldable pub type_until : ℕ → Inner → ℕ → List Seen → Scan TypeTree
+type_until closing inner edge tokens =
+    onward 0 (inner tokens) λ ty n.
+    onward n (mark_at closing edge (drop n tokens)) λ u n.
+    Ok (ty, n)
+
+-- the word `map`, `set` or `list`, up to the opening mark
+unfoldable pub opening_at : ℕ → List Seen → Scan (Unit {0})
+opening_at edge tokens =
+    onward 1 (cpp_at edge (drop 1 tokens)) λ u n.
+    onward n (mark_at angle_open edge (drop n tokens)) λ u n.
+    Ok (tt, n)
+
 -- behind the word `map`, for an inner type that is read so
 unfoldable pub map_of : Inner → ℕ → List Seen → Scan TypeTree
 map_of inner edge tokens =
-    onward 1 (cpp_at edge (drop 1 tokens)) λ u n.
-    onward n (mark_at 60 edge (drop n tokens)) λ u n.
-    onward n (inner (drop n tokens)) λ key n.
-    onward n (mark_at 44 edge (drop n tokens)) λ u n.
-    onward n (inner (drop n tokens)) λ value n.
-    onward n (mark_at 62 edge (drop n tokens)) λ u n.
+    onward 0 (opening_at edge tokens) λ u n.
+    onward n (type_until comma_mark inner edge (drop n tokens)) λ key n.
+    onward n (type_until angle_close inner edge (drop n tokens)) λ value n.
     Ok (map_at (offset_of edge tokens) key value, n)
 
--- behind the word `set`, and behind `list` up to its closing mark
-unfoldable pub one_of : (ℕ → TypeTree → TypeTree) → Inner → ℕ → List Seen → Scan TypeTree
-one_of form inner edge tokens =
-    onward 1 (cpp_at edge (drop 1 tokens)) λ u n.
-    onward n (mark_at 60 edge (drop n tokens)) λ u n.
-    onward n (inner (drop n tokens)) λ element n.
-    onward n (mark_at 62 edge (drop n tokens)) λ u n.
-    Ok (form (offset_of edge tokens) element, n)
+-- behind the word `set` or `list`, up to the closing mark
+unfoldable pub element_of : Inner → ℕ → List Seen → Scan TypeTree
+element_of inner edge tokens =
+    onward 0 (opening_at edge tokens) λ u n.
+    onward n (type_until angle_close inner edge (drop n tokens)) λ element n.
+    Ok (element, n)
+
+-- behind the word `set`
+unfoldable pub set_of : Inner → ℕ → List Seen → Scan TypeTree
+set_of inner edge tokens =
+    onward 0 (element_of inner edge tokens) λ element n.
+    Ok (set_at (offset_of edge tokens) element, n)
 
 -- behind the word `list`
 unfoldable pub list_of : Inner → ℕ → List Seen → Scan TypeTree
 list_of inner edge tokens =
-    onward 0 (one_of list_at inner edge tokens) λ tree n.
+    onward 0 (element_of inner edge tokens) λ element n.
     onward n (cpp_at edge (drop n tokens)) λ u n.
-    Ok (tree, n)
+    Ok (list_at (offset_of edge tokens) element, n)
 
 -- what opens a level, where one is left
 abbrev pub opened : ℕ → Scan TypeTree → ℕ → List Seen → Scan TypeTree
@@ -48,7 +64,7 @@ abbrev pub form_by : ℕ → Inner → Lexeme → ℕ → List Seen → Scan Typ
 form_by levels inner (lexemes.Keyword (keywords.Base word)) edge tokens = Ok (base_at (offset_of edge tokens) word, 1)
 form_by levels inner lexemes.Name edge tokens = Ok (named_at (offset_of edge tokens) (word_of tokens), 1)
 form_by levels inner (lexemes.Keyword keywords.Map) edge tokens = opened levels (map_of inner edge tokens) edge tokens
-form_by levels inner (lexemes.Keyword keywords.Set) edge tokens = opened levels (one_of set_at inner edge tokens) edge tokens
+form_by levels inner (lexemes.Keyword keywords.Set) edge tokens = opened levels (set_of inner edge tokens) edge tokens
 form_by levels inner (lexemes.Keyword keywords.List) edge tokens = opened levels (list_of inner edge tokens) edge tokens
 form_by levels inner lexeme edge tokens = syntax_at edge tokens
 

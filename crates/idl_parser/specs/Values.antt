@@ -3,8 +3,9 @@ use Rattle.std.specs.Prelude.{ℕ, zero, suc, ◌+◌, ◌-◌, ◌==◌, if◌t
 use Rattle.idl_parser.specs.declared.fault.Fault.TheVariants as faults
 use Rattle.idl_parser.specs.declared.tokens.Lexeme.{Lexeme}
 use Rattle.idl_parser.specs.declared.tokens.Lexeme.TheVariants as lexemes
-use Rattle.idl_parser.specs.Item.{ValueItem, whole, double, literal, named, list_begin, list_end, map_begin, map_end}
+use Rattle.idl_document.specs.Item.{ValueItem, whole, double, literal, named, list_begin, list_end, map_begin, map_end}
 use Rattle.idl_parser.specs.Lexemes.{Scan, lexeme_of, offset_of, word_of, syntax_at, onward, mark_at, sep_len}
+use Rattle.idl_parser.specs.Marks.{colon_mark, curly_close, curly_open, square_close, square_open}
 use Rattle.idl_parser.specs.Notes.{not_closed}
 use Rattle.idl_parser.specs.Run.{run}
 use Rattle.idl_parser.specs.Seen.{Seen}
@@ -16,26 +17,32 @@ Inner = List Seen → Scan (List ValueItem)
 unfoldable pub element_of : Inner → List Seen → Scan (List ValueItem)
 element_of inner tokens = onward 0 (inner tokens) λ value n. Ok (value, n + sep_len (drop n tokens))
 
+-- a key, and the colon behind it
+unfoldable pub key_at : Inner → ℕ → List Seen → Scan (List ValueItem)
+key_at inner edge tokens =
+    onward 0 (inner tokens) λ key n.
+    onward n (mark_at colon_mark edge (drop n tokens)) λ u n.
+    Ok (key, n)
+
 -- a key with its value, and a separator where one stands
 unfoldable pub pair_of : Inner → ℕ → List Seen → Scan (List ValueItem)
 pair_of inner edge tokens =
-    onward 0 (inner tokens) λ key n.
-    onward n (mark_at 58 edge (drop n tokens)) λ u n.
-    onward n (inner (drop n tokens)) λ value n.
-    Ok (key ++ value, n + sep_len (drop n tokens))
+    onward 0 (key_at inner edge tokens) λ key n.
+    onward n (element_of inner (drop n tokens)) λ value n.
+    Ok (key ++ value, n)
 
 -- behind the mark that opens a list
 unfoldable pub list_of : Inner → ℕ → List Seen → Scan (List ValueItem)
 list_of inner edge tokens =
-    onward 1 (run (not_closed 93) (element_of inner) edge (drop 1 tokens) 0) λ items n.
-    onward n (mark_at 93 edge (drop n tokens)) λ u n.
+    onward 1 (run (not_closed square_close) (element_of inner) edge (drop 1 tokens) 0) λ items n.
+    onward n (mark_at square_close edge (drop n tokens)) λ u n.
     Ok (list_begin (offset_of edge tokens) ∷ (items ++ list_end ∷ []), n)
 
 -- behind the mark that opens a map
 unfoldable pub map_of : Inner → ℕ → List Seen → Scan (List ValueItem)
 map_of inner edge tokens =
-    onward 1 (run (not_closed 125) (pair_of inner edge) edge (drop 1 tokens) 0) λ items n.
-    onward n (mark_at 125 edge (drop n tokens)) λ u n.
+    onward 1 (run (not_closed curly_close) (pair_of inner edge) edge (drop 1 tokens) 0) λ items n.
+    onward n (mark_at curly_close edge (drop n tokens)) λ u n.
     Ok (map_begin (offset_of edge tokens) ∷ (items ++ map_end ∷ []), n)
 
 -- what opens a level, where one is left
@@ -48,8 +55,8 @@ value_by levels inner lexemes.Double edge tokens = Ok (double (offset_of edge to
 value_by levels inner lexemes.Literal edge tokens = Ok (literal (offset_of edge tokens) (word_of tokens) ∷ [], 1)
 value_by levels inner lexemes.Name edge tokens = Ok (named (offset_of edge tokens) (word_of tokens) ∷ [], 1)
 value_by levels inner (lexemes.Mark mark) edge tokens =
-    if mark == 91 then opened levels (list_of inner edge tokens) edge tokens
-    else if mark == 123 then opened levels (map_of inner edge tokens) edge tokens
+    if mark == square_open then opened levels (list_of inner edge tokens) edge tokens
+    else if mark == curly_open then opened levels (map_of inner edge tokens) edge tokens
     else syntax_at edge tokens
 value_by levels inner lexeme edge tokens = syntax_at edge tokens
 

@@ -4,7 +4,7 @@ use idl_lexer::{LexError, LexFault};
 use std::alloc::{AllocError, AllocFailed};
 
 /// Why a text was not parsed. A lexical fault goes before all others.
-#[derive(Clone, Copy, Debug, PartialEq, Eq)]
+#[derive(Clone, Copy)]
 pub enum ParseError {
     Lex(LexFault),
     /// The offset of the first token that continues no document, or the text's length where the tokens end too early.
@@ -15,17 +15,28 @@ pub enum ParseError {
 }
 
 /// Why the tokens are no document.
-#[derive(Clone, Copy, Debug, PartialEq, Eq)]
+#[derive(Clone, Copy)]
 pub enum Fault {
     Syntax(usize),
     Nested(usize),
 }
 
-/// Why nothing was read.
-#[derive(Clone, Copy, Debug, PartialEq, Eq)]
+/// Why nothing was read, where memory is taken too.
+#[derive(Clone, Copy)]
 pub enum Stop {
     Fault(Fault),
     OutOfMemory,
+}
+
+impl From<Fault> for Stop {
+    ghost use Rattle.std.specs.Prelude.{◌≡◌};
+    ghost use Rattle.idl_parser.specs.declared.fault.Stop.TheVariants as stops;
+
+    ghost from_gives = { λ fault e. e ≡ stops.Fault fault };
+
+    fn from(fault: Fault) -> Stop {
+        Stop::Fault(fault)
+    }
 }
 
 impl From<OutOfMemory> for Stop {

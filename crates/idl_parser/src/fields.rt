@@ -1,22 +1,20 @@
 //! Fields.
 ghost use Rattle.std.specs.Prelude.{◌≡◌, ◌≤◌, length, option_map, Some};
-ghost use Rattle.idl_parser.specs.Fields.{given_at, asked_at, typed_at, preset_at, field_tree, field_trees, field_at, fields_in, one_field};
-ghost use Rattle.idl_parser.specs.Items.{items_of_value};
-ghost use Rattle.idl_parser.specs.Lexemes.{Gives, IsWithin, IsUpTo, itself};
+ghost use Rattle.idl_parser.specs.Fields.{given_at, asked_at, typed_at, preset_at, last_preset_at, named_preset_at, named_preset_tree, field_at, fields_in, one_field};
+ghost use Rattle.idl_document.specs.Trees.{field_tree, field_trees, type_tree};
+ghost use Rattle.idl_document.specs.Items.{items_of_value};
+ghost use Rattle.idl_parser.specs.Lexemes.{Gives, IsWithin, IsUpTo};
 ghost use Rattle.idl_parser.specs.Notes.{not_closed};
 ghost use Rattle.idl_parser.specs.Run.{run};
-ghost use Rattle.idl_parser.specs.Trees.{type_tree};
 
-use crate::document::{Asked, FieldDecl, Name, TypeExpr};
-use crate::fault::Stop;
+use crate::fault::{Fault, Stop};
 use crate::marks::mark_at;
 use crate::names::{name_at, tail_at};
-use crate::seq::Seq;
 use crate::tokens::{Lexeme, Tokens};
-use crate::types::type_at;
-use crate::value::ValueExpr;
+use crate::types::{MOST_LEVELS, type_at};
 use crate::values::value_at;
 use crate::words::Keyword;
+use idl_document::{Asked, FieldDecl, Name, Seq, TypeExpr, ValueExpr};
 use std::alloc::Global;
 
 /// Fields between two marks.
@@ -71,9 +69,9 @@ fn given_here(at: usize, id: i64) -> Option<(usize, i64)>
 
 // An id with its offset, where one is given.
 #[tactic(auto, unfolding(crate::specs::Fields::given_at))]
-fn given_at(tokens: &Tokens<'_>) -> Result<(Option<(usize, i64)>, usize), Stop>
+fn given_at(tokens: &Tokens<'_>) -> Result<(Option<(usize, i64)>, usize), Fault>
     ensures within { IsUpTo (length tokens.now.list) result }
-    ensures exact { Gives itself result (given_at tokens.now.edge tokens.now.list) }
+    ensures exact { result ≡ given_at tokens.now.edge tokens.now.list }
 {
     match tokens.lexeme() {
         Lexeme::Int(id) => {
@@ -85,9 +83,9 @@ fn given_at(tokens: &Tokens<'_>) -> Result<(Option<(usize, i64)>, usize), Stop>
 }
 
 #[tactic(auto, unfolding(crate::specs::Fields::asked_at))]
-fn asked_at(tokens: &Tokens<'_>) -> Result<(Asked, usize), Stop>
+fn asked_at(tokens: &Tokens<'_>) -> Result<(Asked, usize), Fault>
     ensures within { IsUpTo (length tokens.now.list) result }
-    ensures exact { Gives itself result (asked_at tokens.now.list) }
+    ensures exact { result ≡ asked_at tokens.now.list }
 {
     match tokens.lexeme() {
         Lexeme::Keyword(Keyword::Required) => Ok((Asked::Required, 1)),
@@ -102,7 +100,7 @@ fn typed_at(alloc: Global, tokens: &Tokens<'_>) -> Result<(TypeExpr, usize), Sto
     ensures within { IsWithin (length tokens.now.list) result }
     ensures exact { Gives type_tree result (typed_at tokens.now.edge tokens.now.list) }
 {
-    let (ty, n) = type_at(alloc, tokens, 64)?;
+    let (ty, n) = type_at(alloc, tokens, MOST_LEVELS)?;
     if tokens.rest(n).stands(b'&') {
         return Ok((ty, n + 1));
     }
@@ -117,26 +115,15 @@ fn preset_at(alloc: Global, tokens: &Tokens<'_>) -> Result<(Option<ValueExpr>, u
     if !tokens.stands(b'=') {
         return Ok((None, 0));
     }
-    let (value, used) = value_at(alloc, &tokens.rest(1), 64)?;
+    let (value, used) = value_at(alloc, &tokens.rest(1), MOST_LEVELS)?;
     Ok((Some(value), 1 + used))
 }
 
-fn field(
-    id: Option<(usize, i64)>,
-    asked: Asked,
-    ty: TypeExpr,
+// The name of a field, and its preset.
+#[derive(Drop)]
+struct NamedPreset {
     name: Name,
     preset: Option<ValueExpr>,
-) -> FieldDecl
-    ensures { result ≡ record { id = id; asked = asked; ty = ty; name = name; preset = preset } }
-{
-    FieldDecl {
-        id,
-        asked,
-        ty,
-        name,
-        preset,
-    }
 }
 
 #[tactic(auto, unfolding(crate::specs::Fields::field_at))]
@@ -149,10 +136,46 @@ fn field_at(alloc: Global, tokens: &Tokens<'_>) -> Result<(FieldDecl, usize), St
     let n = n + used;
     let (ty, used) = typed_at(alloc, &tokens.rest(n))?;
     let n = n + used;
-    let (name, used) = name_at(alloc, &tokens.rest(n))?;
-    let n = n + used;
-    let (preset, used) = preset_at(alloc, &tokens.rest(n))?;
-    let n = n + used;
+    let (named, used) = named_preset_at(alloc, &tokens.rest(n))?;
+    Ok((field(id, asked, ty, named), n + used))
+}
+
+fn field(id: Option<(usize, i64)>, asked: Asked, ty: TypeExpr, named: NamedPreset) -> FieldDecl
+    ensures { result ≡ record { id = id; asked = asked; ty = ty; name = named.name; preset = named.preset } }
+{
+    FieldDecl {
+        id,
+        asked,
+        ty,
+        name: named.name,
+        preset: named.preset,
+    }
+}
+
+// What stands behind a field's type.
+#[tactic(auto, unfolding(crate::specs::Fields::named_preset_at))]
+fn named_preset_at(alloc: Global, tokens: &Tokens<'_>) -> Result<(NamedPreset, usize), Stop>
+    ensures within { IsWithin (length tokens.now.list) result }
+    ensures exact { Gives named_preset_tree result (named_preset_at tokens.now.edge tokens.now.list) }
+{
+    let (name, n) = name_at(alloc, tokens)?;
+    let (preset, used) = last_preset_at(alloc, &tokens.rest(n))?;
+    Ok((named_preset(name, preset), n + used))
+}
+
+fn named_preset(name: Name, preset: Option<ValueExpr>) -> NamedPreset
+    ensures { result ≡ record { name = name; preset = preset } }
+{
+    NamedPreset { name, preset }
+}
+
+// A preset, where one stands, with the notes and the separator that end a field.
+#[tactic(auto, unfolding(crate::specs::Fields::last_preset_at))]
+fn last_preset_at(alloc: Global, tokens: &Tokens<'_>) -> Result<(Option<ValueExpr>, usize), Stop>
+    ensures within { IsUpTo (length tokens.now.list) result }
+    ensures exact { Gives (option_map items_of_value) result (last_preset_at tokens.now.edge tokens.now.list) }
+{
+    let (preset, n) = preset_at(alloc, tokens)?;
     let n = n + tail_at(&tokens.rest(n))?.1;
-    Ok((field(id, asked, ty, name, preset), n))
+    Ok((preset, n))
 }

@@ -4,14 +4,13 @@ ghost use Rattle.idl_parser.specs.Documents.{include_at, scope_at, namespace_at,
 ghost use Rattle.idl_parser.specs.Lexemes.{Gives, IsWithin, IsUpTo, itself};
 ghost use Rattle.idl_parser.specs.Run.{run};
 
-use crate::document::Name;
 use crate::fault::{Fault, Stop};
 use crate::marks::sep_len;
-use crate::seq::Seq;
 use crate::skipped::{id_at, literal_at, notes_at};
 use crate::tokens::{Lexeme, Tokens};
 use crate::words::Keyword;
 use gate_base::Text;
+use idl_document::{Name, Seq};
 use std::alloc::Global;
 
 /// The paths of the includes, as long as headers stand.
@@ -83,7 +82,10 @@ fn told_at(alloc: Global, tokens: &Tokens<'_>) -> Result<(Option<Name>, usize), 
             let (_, used) = literal_at(&tokens.rest(1))?;
             Ok((None, 1 + used))
         }
-        Lexeme::Keyword(Keyword::Namespace) => namespace_at(tokens),
+        Lexeme::Keyword(Keyword::Namespace) => {
+            let (_, n) = namespace_at(tokens)?;
+            Ok((None, n))
+        }
         _ => Err(Stop::Fault(Fault::Syntax(tokens.at()))),
     }
 }
@@ -106,22 +108,22 @@ fn include_at(alloc: Global, tokens: &Tokens<'_>) -> Result<(Option<Name>, usize
 
 // Behind the word `namespace`.
 #[tactic(auto, unfolding(crate::specs::Documents::namespace_at))]
-fn namespace_at(tokens: &Tokens<'_>) -> Result<(Option<Name>, usize), Stop>
+fn namespace_at(tokens: &Tokens<'_>) -> Result<((), usize), Fault>
     requires { 0 < length tokens.now.list }
     ensures within { IsWithin (length tokens.now.list) result }
-    ensures exact { Gives listed_path result (namespace_at tokens.now.edge tokens.now.list) }
+    ensures exact { result ≡ namespace_at tokens.now.edge tokens.now.list }
 {
     let n = 1 + scope_at(&tokens.rest(1))?.1;
     let n = n + id_at(&tokens.rest(n))?.1;
     let n = n + notes_at(&tokens.rest(n))?.1;
-    Ok((None, n))
+    Ok(((), n))
 }
 
 // A star, or a name.
 #[tactic(auto, unfolding(crate::specs::Documents::scope_at))]
-fn scope_at(tokens: &Tokens<'_>) -> Result<((), usize), Stop>
+fn scope_at(tokens: &Tokens<'_>) -> Result<((), usize), Fault>
     ensures within { IsWithin (length tokens.now.list) result }
-    ensures exact { Gives itself result (scope_at tokens.now.edge tokens.now.list) }
+    ensures exact { result ≡ scope_at tokens.now.edge tokens.now.list }
 {
     if tokens.stands(b'*') {
         Ok(((), 1))

@@ -1,20 +1,20 @@
 //! Marks, separators and names.
 ghost use Rattle.std.specs.Prelude.{◌≤◌, ◌==◌, ◌≡◌, length, count_by};
-ghost use Rattle.idl_parser.specs.Lexemes.{mark_at, sep_len, IsWithin, Gives, itself};
+ghost use Rattle.idl_parser.specs.Lexemes.{mark_at, sep_len, IsWithin};
 
-use crate::fault::{Fault, Stop};
+use crate::fault::Fault;
 use crate::tokens::Tokens;
 
 /// One token, this mark.
 #[tactic(auto, unfolding(crate::specs::Lexemes::mark_at))]
-pub(crate) fn mark_at(tokens: &Tokens<'_>, mark: u8) -> Result<((), usize), Stop>
+pub(crate) fn mark_at(tokens: &Tokens<'_>, mark: u8) -> Result<((), usize), Fault>
     ensures within { IsWithin (length tokens.now.list) result }
-    ensures exact { Gives itself result (mark_at mark tokens.now.edge tokens.now.list) }
+    ensures exact { result ≡ mark_at mark tokens.now.edge tokens.now.list }
 {
     if tokens.stands(mark) {
         Ok(((), 1))
     } else {
-        Err(Stop::Fault(Fault::Syntax(tokens.at())))
+        Err(Fault::Syntax(tokens.at()))
     }
 }
 

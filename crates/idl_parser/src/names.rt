@@ -1,14 +1,14 @@
 //! Names, and what may stand beside them.
 ghost use Rattle.std.specs.Prelude.{◌≡◌, ◌≤◌, length};
-ghost use Rattle.idl_parser.specs.Fields.{has_dot, name_at, path_at, tail_at};
+ghost use Rattle.idl_parser.specs.Fields.{has_dot, name_at, noted_name_at, path_at, tail_at, body_end_at};
 ghost use Rattle.idl_parser.specs.Lexemes.{Gives, IsWithin, IsUpTo, itself};
 
-use crate::document::Name;
 use crate::fault::{Fault, Stop};
-use crate::marks::sep_len;
+use crate::marks::{mark_at, sep_len};
 use crate::skipped::notes_at;
 use crate::tokens::{Lexeme, Tokens};
 use gate_base::Text;
+use idl_document::Name;
 use std::alloc::Global;
 
 fn has_dot(word: &[u8]) -> bool
@@ -37,6 +37,17 @@ pub(crate) fn name_at(alloc: Global, tokens: &Tokens<'_>) -> Result<(Name, usize
     }
 }
 
+/// A name that is declared, and notes.
+#[tactic(auto, unfolding(crate::specs::Fields::noted_name_at))]
+pub(crate) fn noted_name_at(alloc: Global, tokens: &Tokens<'_>) -> Result<(Name, usize), Stop>
+    ensures within { IsWithin (length tokens.now.list) result }
+    ensures exact { Gives itself result (noted_name_at tokens.now.edge tokens.now.list) }
+{
+    let (name, n) = name_at(alloc, tokens)?;
+    let n = n + notes_at(&tokens.rest(n))?.1;
+    Ok((name, n))
+}
+
 /// A name that is meant: it may have dots.
 #[tactic(auto, unfolding(crate::specs::Fields::path_at))]
 pub(crate) fn path_at(alloc: Global, tokens: &Tokens<'_>) -> Result<(Name, usize), Stop>
@@ -55,11 +66,22 @@ pub(crate) fn path_at(alloc: Global, tokens: &Tokens<'_>) -> Result<(Name, usize
 
 /// Notes and a separator, where they stand.
 #[tactic(auto, unfolding(crate::specs::Fields::tail_at))]
-pub(crate) fn tail_at(tokens: &Tokens<'_>) -> Result<((), usize), Stop>
+pub(crate) fn tail_at(tokens: &Tokens<'_>) -> Result<((), usize), Fault>
     ensures within { IsUpTo (length tokens.now.list) result }
-    ensures exact { Gives itself result (tail_at tokens.now.edge tokens.now.list) }
+    ensures exact { result ≡ tail_at tokens.now.edge tokens.now.list }
 {
     let (_, n) = notes_at(tokens)?;
     let more = sep_len(&tokens.rest(n));
     Ok(((), n + more))
+}
+
+/// The curly bracket that closes the body of a declaration, and notes.
+#[tactic(auto, unfolding(crate::specs::Fields::body_end_at))]
+pub(crate) fn body_end_at(tokens: &Tokens<'_>) -> Result<((), usize), Fault>
+    ensures within { IsWithin (length tokens.now.list) result }
+    ensures exact { result ≡ body_end_at tokens.now.edge tokens.now.list }
+{
+    let (_, n) = mark_at(tokens, b'}')?;
+    let n = n + notes_at(&tokens.rest(n))?.1;
+    Ok(((), n))
 }

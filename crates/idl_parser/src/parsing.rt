@@ -1,13 +1,14 @@
 //! The document of a whole text.
 ghost use Rattle.std.specs.Prelude.{◌≡◌, ◌≤◌, length, IfOk};
-ghost use Rattle.idl_parser.specs.Documents.{document_at, document_tree, parsed, Parses};
+ghost use Rattle.idl_parser.specs.Documents.{document_at, parsed, told, Parses};
+ghost use Rattle.idl_document.specs.Trees.{document_tree};
 ghost use Rattle.idl_parser.specs.Lexemes.{Gives, IsUpTo};
 
 use crate::definitions::definitions;
-use crate::document::Document;
 use crate::fault::{Fault, ParseError, Stop};
 use crate::headers::headers;
 use crate::tokens::Tokens;
+use idl_document::Document;
 use idl_lexer::{LexError, lex};
 use std::alloc::Global;
 
@@ -24,9 +25,18 @@ pub fn parse(alloc: Global, text: &[u8]) -> Result<Document, ParseError>
     };
     match document_at(alloc, &Tokens::of(text, tokens.as_slice())) {
         Ok((document, _)) => Ok(document),
-        Err(Stop::Fault(Fault::Syntax(at))) => Err(ParseError::Syntax(at)),
-        Err(Stop::Fault(Fault::Nested(at))) => Err(ParseError::Nested(at)),
-        Err(Stop::OutOfMemory) => Err(ParseError::OutOfMemory),
+        Err(stop) => Err(told(stop)),
+    }
+}
+
+// A fault is told as what it is, and want of memory as nothing else.
+fn told(stop: Stop) -> ParseError
+    ensures { result ≡ told stop }
+{
+    match stop {
+        Stop::Fault(Fault::Syntax(at)) => ParseError::Syntax(at),
+        Stop::Fault(Fault::Nested(at)) => ParseError::Nested(at),
+        Stop::OutOfMemory => ParseError::OutOfMemory,
     }
 }
 

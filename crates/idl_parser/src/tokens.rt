@@ -8,7 +8,7 @@ use idl_lexer::{Token, TokenForm};
 use std::marker::Model;
 
 /// What a token says to the grammar.
-#[derive(Clone, Copy, Debug, PartialEq, Eq)]
+#[derive(Clone, Copy)]
 pub(crate) enum Lexeme {
     Keyword(Keyword),
     /// A word that is no keyword.

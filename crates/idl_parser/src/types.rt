@@ -1,17 +1,20 @@
 //! Types.
-ghost use Rattle.std.specs.Prelude.{◌≡◌, ◌≤◌, ◌<◌, ◌-◌, length};
+ghost use Rattle.std.specs.Prelude.{◌≡◌, ◌≤◌, ◌<◌, ◌-◌, length, IfOk};
 ghost use Rattle.idl_parser.specs.Lexemes.{Gives, IsWithin};
-ghost use Rattle.idl_parser.specs.Trees.{type_tree, set_at, list_at};
-ghost use Rattle.idl_parser.specs.Types.{type_at, type_step, form_at, map_of, one_of, list_of};
+ghost use Rattle.idl_document.specs.Trees.{type_tree, map_at};
+ghost use Rattle.idl_parser.specs.Types.{type_at, type_step, form_at, opening_at, map_of, set_of, list_of, element_of, type_until};
 
-use crate::document::{TypeExpr, TypeForm};
 use crate::fault::{Fault, Stop};
 use crate::marks::mark_at;
 use crate::skipped::{cpp_at, notes_at};
 use crate::tokens::{Lexeme, Tokens};
 use crate::words::Keyword;
-use gate_base::Text;
+use gate_base::{OutOfMemory, Text};
+use idl_document::{TypeExpr, TypeForm};
 use std::alloc::Global;
+
+/// A type or a value nests no deeper.
+pub(crate) const MOST_LEVELS: usize = 64;
 
 /// A type at the front of the tokens, with so many levels left below it.
 #[cycle(types)]
@@ -79,6 +82,18 @@ fn type_here(at: usize, form: TypeForm) -> TypeExpr
     TypeExpr { at, form }
 }
 
+// The word `map`, `set` or `list`, up to the opening mark.
+#[tactic(auto, unfolding(crate::specs::Types::opening_at))]
+fn opening_at(tokens: &Tokens<'_>) -> Result<((), usize), Fault>
+    requires { 0 < length tokens.now.list }
+    ensures within { IsWithin (length tokens.now.list) result }
+    ensures exact { result ≡ opening_at tokens.now.edge tokens.now.list }
+{
+    let n = 1 + cpp_at(&tokens.rest(1))?.1;
+    let n = n + mark_at(&tokens.rest(n), b'<')?.1;
+    Ok(((), n))
+}
+
 // Behind the word `map`.
 #[cycle(types)]
 #[tactic(auto, unfolding(crate::specs::Types::map_of))]
@@ -88,36 +103,37 @@ fn map_of(alloc: Global, tokens: &Tokens<'_>, levels: usize) -> Result<(TypeExpr
     ensures within { IsWithin (length tokens.now.list) result }
     ensures exact { Gives type_tree result (map_of (type_at (levels - 1) tokens.now.edge) tokens.now.edge tokens.now.list) }
 {
-    let at = tokens.at();
-    let n = 1 + cpp_at(&tokens.rest(1))?.1;
-    let n = n + mark_at(&tokens.rest(n), b'<')?.1;
-    let (key, used) = type_at(alloc, &tokens.rest(n), levels - 1)?;
+    let (_, n) = opening_at(tokens)?;
+    let (key, used) = type_until(alloc, &tokens.rest(n), levels, b',')?;
     let n = n + used;
-    let n = n + mark_at(&tokens.rest(n), b',')?.1;
-    let (value, used) = type_at(alloc, &tokens.rest(n), levels - 1)?;
-    let n = n + used;
-    let n = n + mark_at(&tokens.rest(n), b'>')?.1;
+    let (value, used) = type_until(alloc, &tokens.rest(n), levels, b'>')?;
+    Ok((map_here(alloc, tokens.at(), key, value)?, n + used))
+}
+
+fn map_here(
+    alloc: Global,
+    at: usize,
+    key: TypeExpr,
+    value: TypeExpr,
+) -> Result<TypeExpr, OutOfMemory>
+    ensures { IfOk result (λ t. type_tree t ≡ map_at at (type_tree key) (type_tree value)) }
+{
     let form = TypeForm::Map(Box::new(alloc, key)?, Box::new(alloc, value)?);
-    Ok((type_here(at, form), n))
+    Ok(type_here(at, form))
 }
 
 // Behind the word `set`.
 #[cycle(types)]
-#[tactic(auto, unfolding(crate::specs::Types::one_of))]
+#[tactic(auto, unfolding(crate::specs::Types::set_of))]
 fn set_of(alloc: Global, tokens: &Tokens<'_>, levels: usize) -> Result<(TypeExpr, usize), Stop>
     requires word { 0 < length tokens.now.list }
     requires level { 0 < levels }
     ensures within { IsWithin (length tokens.now.list) result }
-    ensures exact { Gives type_tree result (one_of set_at (type_at (levels - 1) tokens.now.edge) tokens.now.edge tokens.now.list) }
+    ensures exact { Gives type_tree result (set_of (type_at (levels - 1) tokens.now.edge) tokens.now.edge tokens.now.list) }
 {
-    let at = tokens.at();
-    let n = 1 + cpp_at(&tokens.rest(1))?.1;
-    let n = n + mark_at(&tokens.rest(n), b'<')?.1;
-    let (element, used) = type_at(alloc, &tokens.rest(n), levels - 1)?;
-    let n = n + used;
-    let n = n + mark_at(&tokens.rest(n), b'>')?.1;
+    let (element, n) = element_of(alloc, tokens, levels)?;
     let form = TypeForm::Set(Box::new(alloc, element)?);
-    Ok((type_here(at, form), n))
+    Ok((type_here(tokens.at(), form), n))
 }
 
 // Behind the word `list`.
@@ -129,26 +145,40 @@ fn list_of(alloc: Global, tokens: &Tokens<'_>, levels: usize) -> Result<(TypeExp
     ensures within { IsWithin (length tokens.now.list) result }
     ensures exact { Gives type_tree result (list_of (type_at (levels - 1) tokens.now.edge) tokens.now.edge tokens.now.list) }
 {
-    let (ty, n) = elements_of(alloc, tokens, levels)?;
-    let (_, used) = cpp_at(&tokens.rest(n))?;
-    Ok((ty, n + used))
+    let (element, n) = element_of(alloc, tokens, levels)?;
+    let n = n + cpp_at(&tokens.rest(n))?.1;
+    let form = TypeForm::List(Box::new(alloc, element)?);
+    Ok((type_here(tokens.at(), form), n))
 }
 
-// Behind the word `list`, up to the closing mark.
+// Behind the word `set` or `list`, up to the closing mark.
 #[cycle(types)]
-#[tactic(auto, unfolding(crate::specs::Types::one_of))]
-fn elements_of(alloc: Global, tokens: &Tokens<'_>, levels: usize) -> Result<(TypeExpr, usize), Stop>
+#[tactic(auto, unfolding(crate::specs::Types::element_of))]
+fn element_of(alloc: Global, tokens: &Tokens<'_>, levels: usize) -> Result<(TypeExpr, usize), Stop>
     requires word { 0 < length tokens.now.list }
     requires level { 0 < levels }
     ensures within { IsWithin (length tokens.now.list) result }
-    ensures exact { Gives type_tree result (one_of list_at (type_at (levels - 1) tokens.now.edge) tokens.now.edge tokens.now.list) }
+    ensures exact { Gives type_tree result (element_of (type_at (levels - 1) tokens.now.edge) tokens.now.edge tokens.now.list) }
 {
-    let at = tokens.at();
-    let n = 1 + cpp_at(&tokens.rest(1))?.1;
-    let n = n + mark_at(&tokens.rest(n), b'<')?.1;
-    let (element, used) = type_at(alloc, &tokens.rest(n), levels - 1)?;
-    let n = n + used;
-    let n = n + mark_at(&tokens.rest(n), b'>')?.1;
-    let form = TypeForm::List(Box::new(alloc, element)?);
-    Ok((type_here(at, form), n))
+    let (_, n) = opening_at(tokens)?;
+    let (element, used) = type_until(alloc, &tokens.rest(n), levels, b'>')?;
+    Ok((element, n + used))
+}
+
+// An inner type, and the mark behind it.
+#[cycle(types)]
+#[tactic(auto, unfolding(crate::specs::Types::type_until))]
+fn type_until(
+    alloc: Global,
+    tokens: &Tokens<'_>,
+    levels: usize,
+    closing: u8,
+) -> Result<(TypeExpr, usize), Stop>
+    requires level { 0 < levels }
+    ensures within { IsWithin (length tokens.now.list) result }
+    ensures exact { Gives type_tree result (type_until closing (type_at (levels - 1) tokens.now.edge) tokens.now.edge tokens.now.list) }
+{
+    let (inner, n) = type_at(alloc, tokens, levels - 1)?;
+    let n = n + mark_at(&tokens.rest(n), closing)?.1;
+    Ok((inner, n))
 }

@@ -1,16 +1,17 @@
 //! Constant values.
 ghost use Rattle.std.specs.Prelude.{◌≡◌, ◌≤◌, ◌<◌, ◌-◌, length};
-ghost use Rattle.idl_parser.specs.Items.{items_of_value, items_of_pair};
+ghost use Rattle.idl_document.specs.Items.{items_of_value, items_of_pair};
 ghost use Rattle.idl_parser.specs.Lexemes.{Gives, IsWithin, IsUpTo, itself};
+ghost use Rattle.idl_parser.specs.Marks.{curly_close, square_close};
 ghost use Rattle.idl_parser.specs.Notes.{not_closed};
 ghost use Rattle.idl_parser.specs.Run.{run};
-ghost use Rattle.idl_parser.specs.Values.{value_at, value_step, list_of, map_of, element_of, pair_of};
+ghost use Rattle.idl_parser.specs.Values.{value_at, value_step, list_of, map_of, element_of, pair_of, key_at};
 
 use crate::fault::{Fault, Stop};
 use crate::marks::{mark_at, sep_len};
 use crate::tokens::{Lexeme, Tokens};
-use crate::value::{Pair, PairList, ValueExpr, ValueForm, ValueList};
 use gate_base::Text;
+use idl_document::{Pair, PairList, ValueExpr, ValueForm, ValueList};
 use std::alloc::Global;
 
 /// A value at the front of the tokens, with so many levels left below it.
@@ -94,7 +95,7 @@ fn list_of(alloc: Global, tokens: &Tokens<'_>, levels: usize) -> Result<(ValueEx
 fn elements(alloc: Global, tokens: &Tokens<'_>, levels: usize) -> Result<(ValueList, usize), Stop>
     requires level { 0 < levels }
     ensures within { IsUpTo (length tokens.now.list) result }
-    ensures exact { Gives itself result (run (not_closed 93) (element_of (value_at (levels - 1) tokens.now.edge)) tokens.now.edge tokens.now.list 0) }
+    ensures exact { Gives itself result (run (not_closed square_close) (element_of (value_at (levels - 1) tokens.now.edge)) tokens.now.edge tokens.now.list 0) }
 {
     let mut list = ValueList::new(alloc);
     let mut n = 0;
@@ -146,7 +147,7 @@ fn map_of(alloc: Global, tokens: &Tokens<'_>, levels: usize) -> Result<(ValueExp
 fn pairs(alloc: Global, tokens: &Tokens<'_>, levels: usize) -> Result<(PairList, usize), Stop>
     requires level { 0 < levels }
     ensures within { IsUpTo (length tokens.now.list) result }
-    ensures exact { Gives itself result (run (not_closed 125) (pair_of (value_at (levels - 1) tokens.now.edge) tokens.now.edge) tokens.now.edge tokens.now.list 0) }
+    ensures exact { let inner = value_at (levels - 1) tokens.now.edge in Gives itself result (run (not_closed curly_close) (pair_of inner tokens.now.edge) tokens.now.edge tokens.now.list 0) }
 {
     let mut list = PairList::new(alloc);
     let mut n = 0;
@@ -172,12 +173,22 @@ fn pair_of(alloc: Global, tokens: &Tokens<'_>, levels: usize) -> Result<(Pair, u
     ensures within { IsWithin (length tokens.now.list) result }
     ensures exact { Gives items_of_pair result (pair_of (value_at (levels - 1) tokens.now.edge) tokens.now.edge tokens.now.list) }
 {
+    let (key, n) = key_at(alloc, tokens, levels)?;
+    let (value, used) = element_of(alloc, &tokens.rest(n), levels)?;
+    Ok((pair_here(key, value), n + used))
+}
+
+// A key, and the colon behind it.
+#[cycle(values)]
+#[tactic(auto, unfolding(crate::specs::Values::key_at))]
+fn key_at(alloc: Global, tokens: &Tokens<'_>, levels: usize) -> Result<(ValueExpr, usize), Stop>
+    requires level { 0 < levels }
+    ensures within { IsWithin (length tokens.now.list) result }
+    ensures exact { Gives items_of_value result (key_at (value_at (levels - 1) tokens.now.edge) tokens.now.edge tokens.now.list) }
+{
     let (key, n) = value_at(alloc, tokens, levels - 1)?;
     let n = n + mark_at(&tokens.rest(n), b':')?.1;
-    let (value, used) = value_at(alloc, &tokens.rest(n), levels - 1)?;
-    let n = n + used;
-    let more = sep_len(&tokens.rest(n));
-    Ok((pair_here(key, value), n + more))
+    Ok((key, n))
 }
 
 fn pair_here(key: ValueExpr, value: ValueExpr) -> Pair

@@ -1,11 +1,11 @@
 //! The keywords of the IDL.
 ghost use Rattle.std.specs.Prelude.{◌≡◌};
-ghost use Rattle.idl_parser.specs.Words.{keyword_of, base_of, part_of, opening_of};
+ghost use Rattle.idl_parser.specs.Words.{keyword_of, base_of, integer_of, other_base_of, type_word_of, member_word_of, header_word_of, definition_word_of};
 
-use crate::document::BaseWord;
+use idl_document::BaseWord;
 
 /// A word that is never a name.
-#[derive(Clone, Copy, Debug, PartialEq, Eq)]
+#[derive(Clone, Copy)]
 pub(crate) enum Keyword {
     Base(BaseWord),
     Map,
@@ -38,10 +38,16 @@ pub(crate) fn keyword_of(word: &[u8]) -> Option<Keyword>
     if let Some(base) = base_of(word) {
         return Some(Keyword::Base(base));
     }
-    if let Some(part) = part_of(word) {
-        return Some(part);
+    if let Some(keyword) = type_word_of(word) {
+        return Some(keyword);
     }
-    opening_of(word)
+    if let Some(keyword) = member_word_of(word) {
+        return Some(keyword);
+    }
+    if let Some(keyword) = header_word_of(word) {
+        return Some(keyword);
+    }
+    definition_word_of(word)
 }
 
 // The words of types that have no parts.
@@ -49,11 +55,20 @@ pub(crate) fn keyword_of(word: &[u8]) -> Option<Keyword>
 fn base_of(word: &[u8]) -> Option<BaseWord>
     ensures { result ≡ base_of word.now }
 {
-    if word == b"bool".as_slice() {
-        Some(BaseWord::Bool)
-    } else if word == b"byte".as_slice() {
+    if let Some(integer) = integer_of(word) {
+        return Some(integer);
+    }
+    other_base_of(word)
+}
+
+// The words of whole numbers.
+#[tactic(auto, unfolding(crate::specs::Words::integer_of))]
+fn integer_of(word: &[u8]) -> Option<BaseWord>
+    ensures { result ≡ integer_of word.now }
+{
+    if word == b"i8".as_slice() {
         Some(BaseWord::I8)
-    } else if word == b"i8".as_slice() {
+    } else if word == b"byte".as_slice() {
         Some(BaseWord::I8)
     } else if word == b"i16".as_slice() {
         Some(BaseWord::I16)
@@ -61,6 +76,18 @@ fn base_of(word: &[u8]) -> Option<BaseWord>
         Some(BaseWord::I32)
     } else if word == b"i64".as_slice() {
         Some(BaseWord::I64)
+    } else {
+        None
+    }
+}
+
+// The words of all other types without parts.
+#[tactic(auto, unfolding(crate::specs::Words::other_base_of))]
+fn other_base_of(word: &[u8]) -> Option<BaseWord>
+    ensures { result ≡ other_base_of word.now }
+{
+    if word == b"bool".as_slice() {
+        Some(BaseWord::Bool)
     } else if word == b"double".as_slice() {
         Some(BaseWord::Double)
     } else if word == b"string".as_slice() {
@@ -74,10 +101,10 @@ fn base_of(word: &[u8]) -> Option<BaseWord>
     }
 }
 
-// The words inside a declaration.
-#[tactic(auto, unfolding(crate::specs::Words::part_of))]
-fn part_of(word: &[u8]) -> Option<Keyword>
-    ensures { result ≡ part_of word.now }
+// The words of types that have parts, and of no type.
+#[tactic(auto, unfolding(crate::specs::Words::type_word_of))]
+fn type_word_of(word: &[u8]) -> Option<Keyword>
+    ensures { result ≡ type_word_of word.now }
 {
     if word == b"map".as_slice() {
         Some(Keyword::Map)
@@ -89,7 +116,17 @@ fn part_of(word: &[u8]) -> Option<Keyword>
         Some(Keyword::CppType)
     } else if word == b"void".as_slice() {
         Some(Keyword::Void)
-    } else if word == b"oneway".as_slice() {
+    } else {
+        None
+    }
+}
+
+// The words beside fields, methods and services.
+#[tactic(auto, unfolding(crate::specs::Words::member_word_of))]
+fn member_word_of(word: &[u8]) -> Option<Keyword>
+    ensures { result ≡ member_word_of word.now }
+{
+    if word == b"oneway".as_slice() {
         Some(Keyword::Oneway)
     } else if word == b"throws".as_slice() {
         Some(Keyword::Throws)
@@ -104,10 +141,10 @@ fn part_of(word: &[u8]) -> Option<Keyword>
     }
 }
 
-// The words that open a header or a declaration.
-#[tactic(auto, unfolding(crate::specs::Words::opening_of))]
-fn opening_of(word: &[u8]) -> Option<Keyword>
-    ensures { result ≡ opening_of word.now }
+// The words that open a header.
+#[tactic(auto, unfolding(crate::specs::Words::header_word_of))]
+fn header_word_of(word: &[u8]) -> Option<Keyword>
+    ensures { result ≡ header_word_of word.now }
 {
     if word == b"include".as_slice() {
         Some(Keyword::Include)
@@ -115,7 +152,17 @@ fn opening_of(word: &[u8]) -> Option<Keyword>
         Some(Keyword::CppInclude)
     } else if word == b"namespace".as_slice() {
         Some(Keyword::Namespace)
-    } else if word == b"const".as_slice() {
+    } else {
+        None
+    }
+}
+
+// The words that open a declaration.
+#[tactic(auto, unfolding(crate::specs::Words::definition_word_of))]
+fn definition_word_of(word: &[u8]) -> Option<Keyword>
+    ensures { result ≡ definition_word_of word.now }
+{
+    if word == b"const".as_slice() {
         Some(Keyword::Const)
     } else if word == b"typedef".as_slice() {
         Some(Keyword::Typedef)

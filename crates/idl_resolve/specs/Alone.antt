@@ -1,10 +1,8 @@
 -- Law: files have one first refusal at most, however it is told how their definitions stand to cycles.
 use Rattle.std.specs.Prelude.{◌≡◌, ℕ, suc, List, [], ◌∷◌, ◌++◌, Option, Some, None, Bool, not, slice_get, refl}
 use Rattle.std.proofs.Common.{ap, sym, ◌∙◌}
-use Rattle.idl_parser.specs.declared.document.Name.{Name}
-use Rattle.idl_parser.specs.Declarations.{DefinitionTree, FunctionTree, const_of, typedef_of, enum_of, struct_of, service_of}
-use Rattle.idl_parser.specs.Fields.{FieldTree}
-use Rattle.idl_parser.specs.Trees.{TypeTree, base_at, named_at, map_at, set_at, list_at}
+use Rattle.idl_document.specs.declared.document.Name.{Name}
+use Rattle.idl_document.specs.Trees.{DefinitionTree, FunctionTree, const_of, typedef_of, enum_of, struct_of, service_of, FieldTree, TypeTree, base_at, named_at, map_at, set_at, list_at}
 use Rattle.idl_rules.specs.declared.row.IdlFault.{IdlFault}
 use Rattle.idl_rules.specs.declared.row.IdlRow.{IdlRow}
 use Rattle.idl_rules.specs.declared.row.IdlRow.TheVariants as rows

@@ -3,7 +3,7 @@ use Rattle.std.proofs.Common.{◌≡◌, ℕ, ℤ, pos, negsuc, List, [], ◌∷
 use Rattle.std.proofs.lemmas.Int.{ints}
 use Rattle.std.specs.Prelude.{int_lt, T, ◌||◌, if◌then◌else◌}
 use lib.Signed.{◌<ℤ◌, ◌≤ℤ◌, lt_z_yes, lt_z_no}
-use Rattle.idl_parser.specs.declared.document.Member.{Member}
+use Rattle.idl_document.specs.declared.document.Member.{Member}
 use Rattle.idl_rules.specs.declared.row.IdlRow.TheVariants as rows
 use Rattle.idl_rules.specs.Doubles.{when}
 use Rattle.idl_rules.specs.Order.{Refusal}

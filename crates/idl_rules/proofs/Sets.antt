@@ -4,7 +4,7 @@ use Rattle.std.specs.Cmp.Lexicographic.{pointwise}
 use Rattle.std.specs.List.{list_any}
 use Rattle.std.specs.Prelude.{◌||◌, ◌&&◌}
 use Rattle.std.proofs.lemmas.Bool.Decides.{nat_tests}
-use Rattle.idl_parser.specs.declared.document.Name.{Name}
+use Rattle.idl_document.specs.declared.document.Name.{Name}
 use Rattle.idl_rules.specs.declared.ids.FieldId.{FieldId}
 use Rattle.idl_rules.specs.declared.row.IdlRow.{IdlRow}
 use Rattle.idl_rules.specs.declared.row.IdlRow.TheVariants as rows

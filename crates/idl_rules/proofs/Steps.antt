@@ -1,11 +1,10 @@
 -- One step of a walk along a list that notes what is refused of each item, and its end.
 use Rattle.std.proofs.Common.{◌≡◌, ℕ, suc, ◌+◌, ◌<◌, ◌≤◌, List, [], ◌∷◌, ◌++◌, length, get_or, drop, ap, sym, ◌∙◌, add-one, drop-cons, Option, map, refl}
 use Rattle.std.proofs.lemmas.List.{drop_all}
-use Rattle.idl_parser.specs.declared.document.FieldDecl.{FieldDecl}
-use Rattle.idl_parser.specs.declared.document.Function.{Function}
-use Rattle.idl_parser.specs.declared.document.Name.{Name}
-use Rattle.idl_parser.specs.Declarations.{FunctionTree, function_trees}
-use Rattle.idl_parser.specs.Fields.{FieldTree, field_trees}
+use Rattle.idl_document.specs.declared.document.FieldDecl.{FieldDecl}
+use Rattle.idl_document.specs.declared.document.Function.{Function}
+use Rattle.idl_document.specs.declared.document.Name.{Name}
+use Rattle.idl_document.specs.Trees.{FunctionTree, function_trees, FieldTree, field_trees}
 use Rattle.idl_rules.specs.Leasts.{least_on, none_lesser}
 use Rattle.idl_rules.specs.Order.{Refusal, lesser, least_of}
 

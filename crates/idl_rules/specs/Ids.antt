@@ -2,7 +2,7 @@
 use Rattle.std.specs.Prelude.{◌≡◌, ℕ, ℤ, suc, List, [], ◌∷◌, ◌++◌, Option, Some, None, Bool, not, ◌&&◌, pos, negsuc, int_lt, nat_lt}
 use Rattle.std.specs.Ordering.{int_eq}
 use Rattle.std.specs.List.{list_any}
-use Rattle.idl_parser.specs.Fields.{FieldTree}
+use Rattle.idl_document.specs.Trees.{FieldTree}
 use Rattle.idl_rules.specs.declared.ids.FieldId.{FieldId}
 use Rattle.idl_rules.specs.declared.row.IdlRow.TheVariants as rows
 use Rattle.idl_rules.specs.Doubles.{when}

@@ -1,10 +1,7 @@
 -- What one file may not declare, whatever other files declare.
 use Rattle.std.specs.Prelude.{ℕ, List, [], ◌∷◌, ◌++◌, map, Option, Some, None, Bool, true, false}
-use Rattle.idl_parser.specs.declared.document.Name.{Name}
-use Rattle.idl_parser.specs.Declarations.{DefinitionTree, const_of, typedef_of, enum_of, struct_of, service_of, FunctionTree}
-use Rattle.idl_parser.specs.Documents.{DocumentTree}
-use Rattle.idl_parser.specs.Fields.{FieldTree}
-use Rattle.idl_parser.specs.Trees.{TypeTree}
+use Rattle.idl_document.specs.declared.document.Name.{Name}
+use Rattle.idl_document.specs.Trees.{DefinitionTree, const_of, typedef_of, enum_of, struct_of, service_of, FunctionTree, DocumentTree, FieldTree, TypeTree}
 use Rattle.idl_rules.specs.declared.row.IdlRow.TheVariants as rows
 use Rattle.idl_rules.specs.declared.scopes.Scope.{Scope}
 use Rattle.idl_rules.specs.declared.scopes.Scope.TheVariants as scopes

@@ -1,7 +1,7 @@
 -- The numbers of an enum's members. One that is not given is the one before it plus 1, the first is 0.
 use Rattle.std.specs.Prelude.{ℤ, List, [], ◌∷◌, ◌++◌, Option, Some, None, Bool, ◌||◌, pos, negsuc, int_lt, ◌+ℤ◌, if◌then◌else◌}
-use Rattle.idl_parser.specs.declared.document.Member.{Member}
-use Rattle.idl_parser.specs.declared.document.Name.{Name}
+use Rattle.idl_document.specs.declared.document.Member.{Member}
+use Rattle.idl_document.specs.declared.document.Name.{Name}
 use Rattle.idl_rules.specs.declared.row.IdlRow.TheVariants as rows
 use Rattle.idl_rules.specs.Doubles.{when}
 use Rattle.idl_rules.specs.Order.{Refusal}

@@ -7,12 +7,12 @@ use crate::least::Least;
 use crate::row::IdlRow;
 use crate::seen::NameSet;
 use gate_base::OutOfMemory;
-use idl_parser::{FieldDecl, Function, Member, Name};
+use idl_document::{FieldDecl, Function, Member, Name};
 use std::alloc::Global;
 
 /// What has a name.
 pub(crate) trait Named {
-    ghost use Rattle.idl_parser.specs.declared.document.Name.{Name};
+    ghost use Rattle.idl_document.specs.declared.document.Name.{Name};
 
     ghost named: { Self → Name };
 

@@ -1,6 +1,6 @@
 //! The ids of fields.
 ghost use Rattle.std.specs.Prelude.{◌≡◌, ◌<◌, ◌^◌, OnOk, negsuc, nat_lt};
-ghost use Rattle.idl_parser.specs.Fields.{field_tree, field_trees};
+ghost use Rattle.idl_document.specs.Trees.{field_tree, field_trees};
 ghost use Rattle.idl_rules.specs.Ids.{id_of, counted, is_given_id, id_refusals};
 ghost use Rattle.idl_rules.specs.Order.{lesser, least_of};
 
@@ -8,11 +8,11 @@ use crate::least::Least;
 use crate::row::IdlRow;
 use crate::seen::IdSet;
 use gate_base::OutOfMemory;
-use idl_parser::FieldDecl;
+use idl_document::FieldDecl;
 use std::alloc::Global;
 
 /// The id that a field has: where it is told, its number, and whether this is one that a field may have.
-#[derive(Clone, Copy, Debug)]
+#[derive(Clone, Copy)]
 pub struct FieldId {
     pub at: usize,
     pub id: i64,

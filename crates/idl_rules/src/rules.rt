@@ -1,8 +1,6 @@
 //! The rules that one file keeps by itself.
 ghost use Rattle.std.specs.Prelude.{◌≡◌, OnOk};
-ghost use Rattle.idl_parser.specs.Declarations.{definition_tree, definition_trees, function_tree, function_trees};
-ghost use Rattle.idl_parser.specs.Documents.{document_tree};
-ghost use Rattle.idl_parser.specs.Fields.{field_trees};
+ghost use Rattle.idl_document.specs.Trees.{definition_tree, definition_trees, function_tree, function_trees, document_tree, field_trees};
 ghost use Rattle.idl_rules.specs.Order.{lesser, least_of};
 ghost use Rattle.idl_rules.specs.Rules.{rule_refusals, answers, all_inner, inner_refusals, field_refusals, method_refusals, methods_refusals, oneway_refusals};
 
@@ -13,7 +11,7 @@ use crate::row::IdlRow;
 use crate::scopes::{Scope, check_scope};
 use crate::values::check_values;
 use gate_base::OutOfMemory;
-use idl_parser::{Definition, Document, FieldDecl, Function};
+use idl_document::{Definition, Document, FieldDecl, Function};
 use std::alloc::Global;
 
 /// Notes what a document may not declare, whatever other files declare: names that stand twice in a scope, an enum or a

@@ -1,6 +1,6 @@
 //! The three scopes of a file.
 ghost use Rattle.std.specs.Prelude.{◌≡◌, OnOk, option_copied};
-ghost use Rattle.idl_parser.specs.Declarations.{definition_tree, definition_trees};
+ghost use Rattle.idl_document.specs.Trees.{definition_tree, definition_trees};
 ghost use Rattle.idl_rules.specs.Order.{lesser, least_of};
 ghost use Rattle.idl_rules.specs.Rules.{name_in, listed_name, scope_refusals};
 
@@ -8,11 +8,11 @@ use crate::least::Least;
 use crate::row::IdlRow;
 use crate::seen::NameSet;
 use gate_base::OutOfMemory;
-use idl_parser::{Definition, Name};
+use idl_document::{Definition, Name};
 use std::alloc::Global;
 
 /// A scope of a file: in each a name is declared once.
-#[derive(Clone, Copy, Debug, PartialEq, Eq)]
+#[derive(Clone, Copy)]
 pub enum Scope {
     /// Typedefs, enums, structs, unions and exceptions.
     Types,

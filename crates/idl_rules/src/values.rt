@@ -5,7 +5,7 @@ ghost use Rattle.idl_rules.specs.Values.{value_by, number_after, is_outside, val
 
 use crate::least::Least;
 use crate::row::IdlRow;
-use idl_parser::Member;
+use idl_document::Member;
 
 /// The number of a member, where one that has none gets this one.
 pub fn member_value(next: i64, member: &Member) -> i64

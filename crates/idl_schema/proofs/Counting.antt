@@ -1,8 +1,6 @@
 -- How many types and structs a definition adds.
 use Rattle.std.proofs.Common.{◌≡◌, ℕ, ◌+◌, ◌*◌, List, [], ◌∷◌, ◌++◌, length, length-append, refl, arith, Option, Some, None}
-use Rattle.idl_parser.specs.Declarations.{FunctionTree}
-use Rattle.idl_parser.specs.Fields.{FieldTree}
-use Rattle.idl_parser.specs.Trees.{TypeTree, base_at, named_at, map_at, set_at, list_at}
+use Rattle.idl_document.specs.Trees.{FunctionTree, FieldTree, TypeTree, base_at, named_at, map_at, set_at, list_at}
 use Rattle.type_tables.specs.declared.declared.Ty.{Ty}
 use Rattle.idl_schema.specs.Fields.{fields_types, returns_types}
 use Rattle.idl_schema.specs.Methods.{methods_types, methods_structs, result_types}

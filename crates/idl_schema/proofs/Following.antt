@@ -1,14 +1,14 @@
 -- Typedefs, one step at a time.
 use Rattle.std.proofs.Common.{◌≡◌, ℕ, zero, suc, ◌-◌, ◌<◌, List, refl, ap, sym, ◌∙◌, arith, Result, Ok, Err}
 use Rattle.std.specs.Prelude.{IfOk}
-use Rattle.idl_parser.specs.declared.document.TypeForm.{TypeForm}
-use Rattle.idl_parser.specs.declared.document.TypeForm.TheVariants as forms
-use Rattle.idl_parser.specs.Trees.{TypeTree, named_at, form_tree}
+use Rattle.idl_document.specs.declared.document.TypeForm.{TypeForm}
+use Rattle.idl_document.specs.declared.document.TypeForm.TheVariants as forms
+use Rattle.idl_document.specs.Trees.{TypeTree, named_at, form_tree}
 use Rattle.type_tables.specs.declared.declared.Ty.{Ty}
 use Rattle.type_tables.specs.declared.declared.Ty.TheVariants as types
 use Rattle.idl_names.specs.Files.{FileTree}
-use Rattle.idl_schema.specs.Types.{Target, found, further, ty_by, target, target_of, followed, plain_ty, ty_ahead}
-use Rattle.idl_schema.specs.declared.types.Ahead.{Ahead}
+use Rattle.idl_schema.specs.Types.{Target, found, further, ty_by, target, target_of, followed, plain_ty, ty_resolution}
+use Rattle.idl_schema.specs.declared.types.Resolution.{Resolution}
 
 module _ (files : List FileTree) (left file base at : ℕ) (form : TypeForm) (whole : Ty) (i : followed left files file base (form_tree at form) ≡ whole) where
   one_less : (m : ℕ) → suc m - 1 ≡ m
@@ -33,13 +33,13 @@ module _ (files : List FileTree) (left file base at : ℕ) (form : TypeForm) (wh
           ∙ stepped (suc m) word l e
 
   -- a name that means a type
-  pub found_here : (word : List ℕ) (ty : Ty) (a : Ahead) → form ≡ forms.Named word → 0 < left → found ty ≡ target_of a.meant
-      → ty_ahead files a ≡ ty_by (target files file word) (followed (left - 1) files) → ty ≡ whole
+  pub found_here : (word : List ℕ) (ty : Ty) (a : Resolution) → form ≡ forms.Named word → 0 < left → found ty ≡ target_of a.meant
+      → ty_resolution files a ≡ ty_by (target files file word) (followed (left - 1) files) → ty ≡ whole
   found_here word ty a e some t h = ap (λ (t : Target). ty_by t (followed a.left files)) t ∙ h ∙ name_whole word e some
 
   -- a name that leads on
-  pub goes_on : (word : List ℕ) (f b : ℕ) (t : TypeTree) (a : Ahead) → form ≡ forms.Named word → 0 < left → further f b t ≡ target_of a.meant
-      → ty_ahead files a ≡ ty_by (target files file word) (followed (left - 1) files) → followed a.left files f b t ≡ whole
+  pub goes_on : (word : List ℕ) (f b : ℕ) (t : TypeTree) (a : Resolution) → form ≡ forms.Named word → 0 < left → further f b t ≡ target_of a.meant
+      → ty_resolution files a ≡ ty_by (target files file word) (followed (left - 1) files) → followed a.left files f b t ≡ whole
   goes_on word f b t a e some d h = ap (λ (t : Target). ty_by t (followed a.left files)) d ∙ h ∙ name_whole word e some
 
 plain_by : (files : List FileTree) (n file base at : ℕ) (form : TypeForm) → ((word : List ℕ) → form ≡ forms.Named word → ⊥) → plain_ty base (form_tree at form) ≡ followed n files file base (form_tree at form)

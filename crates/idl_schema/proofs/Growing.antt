@@ -1,6 +1,6 @@
 -- A schema that grows, list by list.
 use Rattle.std.proofs.Common.{◌≡◌, ℕ, ℤ, ◌+◌, List, [], ◌∷◌, ◌++◌, length, length-append, append_assoc, refl, ap, ◌∙◌, arith}
-use Rattle.idl_parser.specs.Trees.{TypeTree}
+use Rattle.idl_document.specs.Trees.{TypeTree}
 use Rattle.type_tables.specs.declared.declared.ServiceId.{ServiceId}
 use Rattle.type_tables.specs.declared.declared.Ty.{Ty}
 use Rattle.type_tables.specs.declared.services.ServiceDecl.{ServiceDecl}

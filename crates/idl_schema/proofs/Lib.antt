@@ -2,7 +2,7 @@
 pub mod Counting
 pub mod Following
 pub mod Growing
-pub mod Landing
+pub mod Resolving
 pub mod Listing
 pub mod Meaning
 pub mod Servicing

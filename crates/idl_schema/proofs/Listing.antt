@@ -1,8 +1,6 @@
 -- Fields and methods, one at a time.
 use Rattle.std.proofs.Common.{◌≡◌, ℕ, suc, ◌+◌, ◌<◌, List, [], ◌∷◌, ◌++◌, length, length-append, append_assoc, append-nil, get_or, drop, ap, sym, ◌∙◌, arith, add-one, drop-cons}
-use Rattle.idl_parser.specs.Declarations.{FunctionTree}
-use Rattle.idl_parser.specs.Fields.{FieldTree}
-use Rattle.idl_parser.specs.Trees.{TypeTree}
+use Rattle.idl_document.specs.Trees.{FunctionTree, FieldTree, TypeTree}
 use Rattle.idl_rules.specs.Ids.{counted}
 use Rattle.type_tables.specs.declared.declared.FieldInfo.{FieldInfo}
 use Rattle.type_tables.specs.declared.declared.Form.{Form}

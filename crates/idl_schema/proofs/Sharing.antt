@@ -1,6 +1,6 @@
 -- What definitions add, one after another.
 use Rattle.std.proofs.Common.{◌≡◌, ℕ, suc, ◌+◌, List, [], ◌∷◌, ◌++◌, length, length-append, append_assoc, append-nil, refl, ap, sym, ◌∙◌, arith, Option, Some, None}
-use Rattle.idl_parser.specs.Declarations.{DefinitionTree, const_of, typedef_of, enum_of, struct_of, service_of}
+use Rattle.idl_document.specs.Trees.{DefinitionTree, const_of, typedef_of, enum_of, struct_of, service_of}
 use Rattle.idl_names.specs.Files.{FileTree}
 use Rattle.type_tables.specs.declared.declared.MethodInfo.{MethodInfo}
 use Rattle.type_tables.specs.declared.declared.ServiceId.{ServiceId}

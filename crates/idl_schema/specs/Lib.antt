@@ -6,5 +6,5 @@ pub mod Methods
 pub mod Numbers
 pub mod Schema
 pub mod Shares
-pub mod Sights
+pub mod Indexes
 pub mod Types

@@ -1,12 +1,13 @@
 -- The methods of a service, and the structs that their arguments and results travel as.
-use Rattle.std.specs.Prelude.{ℕ, ◌+◌, List, [], ◌∷◌, ◌++◌, is_some}
-use Rattle.idl_parser.specs.Declarations.{FunctionTree}
-use Rattle.idl_parser.specs.Trees.{TypeTree}
+use Rattle.std.specs.Prelude.{ℕ, ◌+◌, List, [], ◌∷◌, ◌++◌, length, is_some}
+use Rattle.idl_document.specs.Trees.{FunctionTree, TypeTree}
 use Rattle.type_tables.specs.declared.declared.Form.TheVariants as forms
 use Rattle.type_tables.specs.declared.declared.MethodInfo.{MethodInfo}
 use Rattle.type_tables.specs.declared.declared.StructId.{StructId}
 use Rattle.type_tables.specs.declared.declared.Ty.{Ty}
 use Rattle.type_tables.specs.declared.tables.StructDecl.{StructDecl}
+use Rattle.type_tables.specs.Declarations.{Declarations}
+use Rattle.idl_schema.specs.Adding.{with_structs}
 use Rattle.idl_schema.specs.Fields.{fields_from, fields_types, success, returns_types}
 use Rattle.idl_schema.specs.Numbers.{fields_parts, returns_parts, method_parts}
 
@@ -31,6 +32,19 @@ module _ (ty : ℕ → TypeTree → Ty) where
   abbrev pub methods_types : ℕ → List FunctionTree → List Ty
   methods_types base [] = []
   methods_types base (f ∷ fs) = fields_types ty base f.args ++ result_types (base + fields_parts f.args) f ++ methods_types (base + method_parts f) fs
+
+module _ (ty : ℕ → TypeTree → Ty) (d : Declarations) where
+  -- with the struct that a method's arguments travel as
+  abbrev pub with_args : FunctionTree → Declarations
+  with_args f = with_structs d (fields_types ty (length d.types) f.args) (args_struct ty (length d.types) f ∷ [])
+
+  -- with the struct that a method's result travels as
+  abbrev pub with_result : FunctionTree → Declarations
+  with_result f = with_structs d (result_types ty (length d.types) f) (result_struct ty (length d.types) f ∷ [])
+
+  -- with both structs of each method
+  abbrev pub with_all_structs : List FunctionTree → Declarations
+  with_all_structs fs = with_structs d (methods_types ty (length d.types) fs) (methods_structs ty (length d.types) fs)
 
 abbrev pub method_info : ℕ → FunctionTree → MethodInfo
 method_info n f = record { args = struct_id n; result = struct_id (n + 1); oneway = is_some f.oneway }

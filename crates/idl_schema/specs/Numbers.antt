@@ -1,9 +1,7 @@
 -- The numbers of what is declared: file by file, in the order of the text.
 use Rattle.std.specs.Prelude.{ℕ, ◌+◌, ◌*◌, List, [], ◌∷◌, length, Option, Some, None, slice_get, option_and_then, option_map}
-use Rattle.idl_parser.specs.declared.document.TypeExpr.{TypeExpr}
-use Rattle.idl_parser.specs.Declarations.{DefinitionTree, FunctionTree, const_of, typedef_of, enum_of, struct_of, service_of}
-use Rattle.idl_parser.specs.Fields.{FieldTree}
-use Rattle.idl_parser.specs.Trees.{TypeTree, base_at, named_at, map_at, set_at, list_at, type_tree}
+use Rattle.idl_document.specs.declared.document.TypeExpr.{TypeExpr}
+use Rattle.idl_document.specs.Trees.{DefinitionTree, FunctionTree, const_of, typedef_of, enum_of, struct_of, service_of, FieldTree, TypeTree, base_at, named_at, map_at, set_at, list_at, type_tree}
 use Rattle.idl_names.specs.declared.documents.Spot.{Spot}
 use Rattle.idl_names.specs.Files.{FileTree}
 use Rattle.idl_schema.specs.declared.numbers.First.{First}

@@ -1,7 +1,7 @@
 -- What each definition adds to a schema.
 use Rattle.std.specs.Prelude.{ℕ, ℤ, suc, ◌==◌, List, [], ◌∷◌, ◌++◌, map, Option, Some, None, Bool, false, if◌then◌else◌, option_map, slice_get}
-use Rattle.idl_parser.specs.declared.document.Name.{Name}
-use Rattle.idl_parser.specs.Declarations.{DefinitionTree, FunctionTree, const_of, typedef_of, enum_of, struct_of, service_of}
+use Rattle.idl_document.specs.declared.document.Name.{Name}
+use Rattle.idl_document.specs.Trees.{DefinitionTree, FunctionTree, const_of, typedef_of, enum_of, struct_of, service_of}
 use Rattle.idl_rules.specs.Values.{member_values}
 use Rattle.idl_rules.specs.declared.scopes.Scope.TheVariants as scopes
 use Rattle.idl_names.specs.declared.documents.Spot.{Spot}

@@ -1,9 +1,8 @@
 -- What a type of the text means.
-use Rattle.std.specs.Prelude.{ℕ, zero, suc, ◌+◌, List, [], ◌∷◌, ◌++◌, Option, Some, None}
-use Rattle.idl_parser.specs.declared.document.BaseWord.{BaseWord}
-use Rattle.idl_parser.specs.declared.document.BaseWord.TheVariants as words
-use Rattle.idl_parser.specs.Declarations.{DefinitionTree, typedef_of, enum_of, struct_of}
-use Rattle.idl_parser.specs.Trees.{TypeTree, base_at, named_at, map_at, set_at, list_at, type_tree}
+use Rattle.std.specs.Prelude.{ℕ, zero, suc, ◌+◌, List, [], ◌∷◌, ◌++◌, length, Option, Some, None}
+use Rattle.idl_document.specs.declared.document.BaseWord.{BaseWord}
+use Rattle.idl_document.specs.declared.document.BaseWord.TheVariants as words
+use Rattle.idl_document.specs.Trees.{DefinitionTree, typedef_of, enum_of, struct_of, TypeTree, base_at, named_at, map_at, set_at, list_at, type_tree}
 use Rattle.type_tables.specs.declared.declared.Ty.{Ty}
 use Rattle.type_tables.specs.declared.declared.Ty.TheVariants as types
 use Rattle.type_tables.specs.declared.declared.TyId.{TyId}
@@ -13,9 +12,11 @@ use Rattle.idl_names.specs.Files.{FileTree}
 use Rattle.idl_names.specs.Meaning.{meaning}
 use Rattle.idl_names.specs.Targets.{definition_at, definition_count}
 use Rattle.idl_schema.specs.declared.numbers.First.{First}
-use Rattle.idl_schema.specs.declared.types.Ahead.{Ahead}
-use Rattle.idl_schema.specs.declared.types.Meant.{Meant}
-use Rattle.idl_schema.specs.declared.types.Meant.TheVariants as meants
+use Rattle.idl_schema.specs.declared.types.Resolution.{Resolution}
+use Rattle.idl_schema.specs.declared.types.TypeOrAlias.{TypeOrAlias}
+use Rattle.idl_schema.specs.declared.types.TypeOrAlias.TheVariants as meants
+use Rattle.type_tables.specs.Declarations.{Declarations}
+use Rattle.idl_schema.specs.Adding.{with_types}
 use Rattle.idl_schema.specs.Numbers.{parts, first_of}
 
 abbrev pub base_ty : BaseWord → Ty
@@ -45,9 +46,9 @@ pub data Target : Type 0 where
   found : Ty → Target
   further : ℕ → ℕ → TypeTree → Target
 
-abbrev pub target_of : Meant → Target
+abbrev pub target_of : TypeOrAlias → Target
 target_of (meants.Found ty) = found ty
-target_of (meants.Further e) = further e.file e.base (type_tree e.tree.now)
+target_of (meants.Alias e) = further e.file e.base (type_tree e.tree.now)
 
 abbrev pub target_by : ℕ → Option DefinitionTree → Option First → Target
 target_by file (Some (typedef_of name ty)) (Some n) = further file n.types ty
@@ -73,8 +74,8 @@ followed zero files file base tree = plain_ty base tree
 followed (suc n) files file base (named_at at word) = ty_by (target files file word) (followed n files)
 followed (suc n) files file base tree = plain_ty base tree
 
-abbrev pub ty_ahead : List FileTree → Ahead → Ty
-ty_ahead files a = ty_by (target_of a.meant) (followed a.left files)
+abbrev pub ty_resolution : List FileTree → Resolution → Ty
+ty_resolution files a = ty_by (target_of a.meant) (followed a.left files)
 
 -- the type that an expression of the file at this place means; the first of its parts has the number `base`
 unfoldable pub ty_in : List FileTree → ℕ → ℕ → TypeTree → Ty
@@ -96,3 +97,14 @@ element_types ty base element = ty (base + 1) element ∷ part_types ty (base + 
 abbrev pub pair_types : (ℕ → TypeTree → Ty) → ℕ → TypeTree → TypeTree → List Ty
 pair_types ty base key value =
     ty (base + 2) key ∷ ty (base + 2 + parts key) value ∷ (part_types ty (base + 2) key ++ part_types ty (base + 2 + parts key) value)
+
+-- with these types behind the parts that there are
+module _ (ty : ℕ → TypeTree → Ty) (d : Declarations) where
+  abbrev pub with_parts : TypeTree → Declarations
+  with_parts tree = with_types d (part_types ty (length d.types) tree)
+
+  abbrev pub with_element : TypeTree → Declarations
+  with_element element = with_types d (element_types ty (length d.types) element)
+
+  abbrev pub with_pair : TypeTree → TypeTree → Declarations
+  with_pair key value = with_types d (pair_types ty (length d.types) key value)

@@ -1,18 +1,16 @@
 //! The fields of a struct, of the arguments of a method or of what it throws.
-ghost use Rattle.std.specs.Prelude.{◌≡◌, ◌++◌, ◌∷◌, [], ◌<◌, ◌^◌, IfOk, OnOk, length, pos, codes};
-ghost use Rattle.idl_parser.specs.Fields.{field_tree, field_trees};
-ghost use Rattle.idl_parser.specs.Trees.{type_tree};
-ghost use Rattle.idl_rules.specs.Ids.{id_of};
-ghost use Rattle.idl_schema.specs.Adding.{with_types};
-ghost use Rattle.idl_schema.specs.Fields.{need_of, fields_from, fields_types, success, returns_types};
+ghost use Rattle.std.specs.Prelude.{◌≡◌, ◌++◌, ◌∷◌, [], ◌<◌, ◌^◌, IfOk, OnOk, SomeIff, FitsSigned, length, pos, codes};
+ghost use Rattle.std.specs.Int.{w16};
+ghost use Rattle.idl_document.specs.Trees.{field_tree, field_trees, type_tree};
+ghost use Rattle.idl_schema.specs.Fields.{field_of, need_of, fields_from, success, with_fields_types, with_returns_types};
 ghost use Rattle.idl_schema.specs.Numbers.{option_tree};
-ghost use Rattle.idl_schema.specs.Sights.{files_of};
+ghost use Rattle.idl_schema.specs.Indexes.{files_of};
 ghost use Rattle.idl_schema.specs.Types.{ty_in};
 
 use crate::parts::{add_parts, next_part};
-use crate::sight::Sight;
+use crate::index::SchemaIndex;
 use gate_base::{OutOfMemory, Text};
-use idl_parser::{Asked, FieldDecl, TypeExpr};
+use idl_document::{Asked, FieldDecl, TypeExpr};
 use idl_rules::{count_on, field_id};
 use std::alloc::Global;
 use type_tables::{FieldInfo, FieldList, Need, SchemaBuilder, Ty};
@@ -21,21 +19,21 @@ use type_tables::{FieldInfo, FieldList, Need, SchemaBuilder, Ty};
 pub(crate) fn add_fields(
     alloc: Global,
     builder: &mut SchemaBuilder,
-    sight: &Sight<'_, '_>,
+    index: &SchemaIndex<'_, '_>,
     file: u32,
     list: FieldList,
     fields: &[FieldDecl],
 ) -> Result<FieldList, OutOfMemory>
-    ensures list { IfOk result (λ l. l ≡ list ++ fields_from (ty_in (files_of sight.now) file) 0 (length builder.old.types) (field_trees fields.now)) }
-    ensures types { OnOk result (builder.new ≡ with_types builder.old (fields_types (ty_in (files_of sight.now) file) (length builder.old.types) (field_trees fields.now))) }
+    ensures list { IfOk result (λ l. l ≡ list ++ fields_from (ty_in (files_of index.now) file) 0 (length builder.old.types) (field_trees fields.now)) }
+    ensures types { OnOk result (builder.new ≡ with_fields_types (ty_in (files_of index.now) file) builder.old (field_trees fields.now)) }
 {
     let mut list = list;
     let mut before = 0;
     for field in fields {
         let base = next_part(builder)?;
-        let ty = sight.ty(file, base, &field.ty)?;
+        let ty = index.type_of(file, base, &field.ty)?;
         push_field(alloc, &mut list, before, field, ty)?;
-        add_parts(builder, sight, file, &field.ty)?;
+        add_parts(builder, index, file, &field.ty)?;
         before = count_on(before, field);
     }
     Ok(list)
@@ -49,7 +47,7 @@ fn push_field(
     ty: Ty,
 ) -> Result<(), OutOfMemory>
     requires { before < 2 ^ 63 }
-    ensures { OnOk result (list.new ≡ list.old ++ record { id = (id_of before (field_tree field.now)).id; name = field.now.name.text; ty = ty; need = need_of field.now.asked } ∷ []) }
+    ensures { OnOk result (list.new ≡ list.old ++ field_of before (field_tree field.now) ty ∷ []) }
 {
     let id = field_id(before, field).id;
     let name = Text::new(alloc, field.name.text.as_slice())?;
@@ -63,7 +61,7 @@ fn push(list: &mut FieldList, id: i64, name: Text, ty: Ty, need: Need) -> Result
     if !list.has_room() {
         return Err(OutOfMemory);
     }
-    let Ok(id) = i16::try_from(id) else {
+    let Some(id) = short_id(id) else {
         return Err(OutOfMemory);
     };
     match list.push(FieldInfo { id, name, ty, need }) {
@@ -72,22 +70,32 @@ fn push(list: &mut FieldList, id: i64, name: Text, ty: Ty, need: Need) -> Result
     }
 }
 
+// An id that has 16 bits.
+fn short_id(id: i64) -> Option<i16>
+    ensures { SomeIff result (FitsSigned w16 id) id }
+{
+    match i16::try_from(id) {
+        Ok(short) => Some(short),
+        Err(_) => None,
+    }
+}
+
 /// The field of a result, where there is one. The parts of its type are added.
 pub(crate) fn add_success(
     alloc: Global,
     builder: &mut SchemaBuilder,
-    sight: &Sight<'_, '_>,
+    index: &SchemaIndex<'_, '_>,
     file: u32,
     returns: &Option<TypeExpr>,
 ) -> Result<FieldList, OutOfMemory>
-    ensures list { IfOk result (λ l. l ≡ success (ty_in (files_of sight.now) file) (length builder.old.types) (option_tree returns.now)) }
-    ensures types { OnOk result (builder.new ≡ with_types builder.old (returns_types (ty_in (files_of sight.now) file) (length builder.old.types) (option_tree returns.now))) }
+    ensures list { IfOk result (λ l. l ≡ success (ty_in (files_of index.now) file) (length builder.old.types) (option_tree returns.now)) }
+    ensures types { OnOk result (builder.new ≡ with_returns_types (ty_in (files_of index.now) file) builder.old (option_tree returns.now)) }
 {
     match returns {
         Some(tree) => {
             let base = next_part(builder)?;
-            let ty = sight.ty(file, base, tree)?;
-            add_parts(builder, sight, file, tree)?;
+            let ty = index.type_of(file, base, tree)?;
+            add_parts(builder, index, file, tree)?;
             success(alloc, ty)
         }
         None => Ok(FieldList::new(alloc)),

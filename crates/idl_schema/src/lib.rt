@@ -11,7 +11,7 @@ mod making;
 mod methods;
 mod numbers;
 mod parts;
-mod sight;
+mod index;
 mod types;
 
 pub use laws::typedefs_are_followed;

@@ -1,6 +1,7 @@
 //! The schema of the files of an IDL.
-ghost use Rattle.std.specs.Prelude.{◌≡◌, ◌<◌, ◌^◌, IfOk, OnOk, length, map};
-ghost use Rattle.idl_parser.specs.Declarations.{definition_tree, definition_trees, function_trees};
+ghost use Rattle.std.specs.Prelude.{◌≡◌, ◌<◌, ◌^◌, IfOk, OnOk, SomeIff, FitsSigned, length, map};
+ghost use Rattle.std.specs.Int.{w32};
+ghost use Rattle.idl_document.specs.Trees.{definition_tree, definition_trees, function_trees};
 ghost use Rattle.idl_rules.specs.Values.{member_values};
 ghost use Rattle.idl_names.specs.Files.{file_trees};
 ghost use Rattle.idl_names.specs.Meaning.{HasFewDefinitions};
@@ -9,16 +10,16 @@ ghost use Rattle.idl_schema.specs.Adding.{firsts};
 ghost use Rattle.idl_schema.specs.Fields.{form_of};
 ghost use Rattle.idl_schema.specs.Schema.{declarations_of};
 ghost use Rattle.idl_schema.specs.Shares.{share, shares, files_shares, with_share, service_share, prefix_of, root_name};
-ghost use Rattle.idl_schema.specs.Sights.{files_of};
+ghost use Rattle.idl_schema.specs.Indexes.{files_of};
 
 use crate::fields::add_fields;
 use crate::methods::{add_methods, add_struct, add_structs};
 use crate::numbers::small;
 use crate::parts::add_parts;
-use crate::sight::Sight;
+use crate::index::SchemaIndex;
 use gate_base::{OutOfMemory, Text};
 use idl_names::{Documents, FileDoc, Names};
-use idl_parser::{Definition, Function, Kin, Member, Name};
+use idl_document::{Definition, Function, Kin, Member, Name};
 use idl_rules::{member_value, number_after};
 use std::alloc::Global;
 use type_tables::{FieldList, Form, Schema, SchemaBuilder};
@@ -46,9 +47,9 @@ pub fn schema_of(alloc: Global, documents: &Documents) -> Result<Schema, OutOfMe
 pub fn schema_by(alloc: Global, names: &Names<'_>) -> Result<Schema, OutOfMemory>
     ensures { IfOk result (λ s. s ≡ declarations_of (file_trees names.now.files.now)) }
 {
-    let sight = Sight::new(alloc, names)?;
+    let index = SchemaIndex::new(alloc, names)?;
     let mut builder = SchemaBuilder::new(alloc)?;
-    add_files(alloc, &mut builder, &sight, names.files)?;
+    add_files(alloc, &mut builder, &index, names.files)?;
     finished(builder, names.files.len())
 }
 
@@ -59,7 +60,7 @@ fn finished(builder: SchemaBuilder, files: usize) -> Result<Schema, OutOfMemory>
     if !builder.is_closed() {
         return Err(OutOfMemory);
     }
-    if !builder.is_ending()? {
+    if !builder.is_acyclic()? {
         return Err(OutOfMemory);
     }
     Ok(builder.finish(files as u64))
@@ -68,18 +69,18 @@ fn finished(builder: SchemaBuilder, files: usize) -> Result<Schema, OutOfMemory>
 fn add_files(
     alloc: Global,
     builder: &mut SchemaBuilder,
-    sight: &Sight<'_, '_>,
+    index: &SchemaIndex<'_, '_>,
     files: &[FileDoc],
 ) -> Result<(), OutOfMemory>
-    ensures { OnOk result (builder.new ≡ with_share builder.old (files_shares (files_of sight.now) 0 (firsts builder.old) (file_trees files.now))) }
+    ensures { OnOk result (builder.new ≡ with_share builder.old (files_shares (files_of index.now) 0 (firsts builder.old) (file_trees files.now))) }
 {
     for (at, file) in files.iter().enumerate() {
         let place = small(at)?;
-        let prefix = sight.prefix_of(alloc, place)?;
+        let prefix = index.prefix_of(alloc, place)?;
         add_definitions(
             alloc,
             builder,
-            sight,
+            index,
             place,
             &prefix,
             file.document.definitions.as_slice(),
@@ -91,16 +92,16 @@ fn add_files(
 fn add_definitions(
     alloc: Global,
     builder: &mut SchemaBuilder,
-    sight: &Sight<'_, '_>,
+    index: &SchemaIndex<'_, '_>,
     file: u32,
     prefix: &Option<Text>,
     definitions: &[Definition],
 ) -> Result<(), OutOfMemory>
-    requires { prefix.now ≡ prefix_of (files_of sight.now) file }
-    ensures { OnOk result (builder.new ≡ with_share builder.old (shares (files_of sight.now) file (firsts builder.old) (definition_trees definitions.now))) }
+    requires { prefix.now ≡ prefix_of (files_of index.now) file }
+    ensures { OnOk result (builder.new ≡ with_share builder.old (shares (files_of index.now) file (firsts builder.old) (definition_trees definitions.now))) }
 {
     for definition in definitions {
-        add_definition(alloc, builder, sight, file, prefix, definition)?;
+        add_definition(alloc, builder, index, file, prefix, definition)?;
     }
     Ok(())
 }
@@ -108,21 +109,21 @@ fn add_definitions(
 fn add_definition(
     alloc: Global,
     builder: &mut SchemaBuilder,
-    sight: &Sight<'_, '_>,
+    index: &SchemaIndex<'_, '_>,
     file: u32,
     prefix: &Option<Text>,
     definition: &Definition,
 ) -> Result<(), OutOfMemory>
-    requires { prefix.now ≡ prefix_of (files_of sight.now) file }
-    ensures { OnOk result (builder.new ≡ with_share builder.old (share (files_of sight.now) file (firsts builder.old) (definition_tree definition.now))) }
+    requires { prefix.now ≡ prefix_of (files_of index.now) file }
+    ensures { OnOk result (builder.new ≡ with_share builder.old (share (files_of index.now) file (firsts builder.old) (definition_tree definition.now))) }
 {
     match definition {
         Definition::Const(_, _, _) => Ok(()),
-        Definition::Typedef(_, ty) => add_parts(builder, sight, file, ty),
+        Definition::Typedef(_, ty) => add_parts(builder, index, file, ty),
         Definition::Enum(_, members) => add_enum(alloc, builder, members.as_slice()),
         Definition::Struct(kin, _, fields) => {
             let none = FieldList::new(alloc);
-            let list = add_fields(alloc, builder, sight, file, none, fields.as_slice())?;
+            let list = add_fields(alloc, builder, index, file, none, fields.as_slice())?;
             add_struct(builder, form_of(*kin), list)
         }
         Definition::Service(name, base, functions) => {
@@ -130,7 +131,7 @@ fn add_definition(
             add_service(
                 alloc,
                 builder,
-                sight,
+                index,
                 file,
                 name,
                 base,
@@ -173,13 +174,23 @@ fn values(alloc: Global, members: &[Member]) -> Result<Vec<i32>, OutOfMemory>
     for member in members {
         let value = member_value(next, member);
         // A number with more than 32 bits is none that the rules allow.
-        let Ok(short) = i32::try_from(value) else {
+        let Some(short) = short_value(value) else {
             return Err(OutOfMemory);
         };
         values.push(short)?;
         next = number_after(value);
     }
     Ok(values)
+}
+
+// The number of an enum's member that has 32 bits.
+fn short_value(value: i64) -> Option<i32>
+    ensures { SomeIff result (FitsSigned w32 value) value }
+{
+    match i32::try_from(value) {
+        Ok(short) => Some(short),
+        Err(_) => None,
+    }
 }
 
 // The name of a service in the root file, where it has one.
@@ -199,21 +210,21 @@ fn root_name(alloc: Global, prefix: &Option<Text>, name: &[u8]) -> Result<Option
 fn add_service(
     alloc: Global,
     builder: &mut SchemaBuilder,
-    sight: &Sight<'_, '_>,
+    index: &SchemaIndex<'_, '_>,
     file: u32,
     name: Option<Text>,
     base: &Option<Name>,
     functions: &[Function],
 ) -> Result<(), OutOfMemory>
-    ensures { OnOk result (builder.new ≡ with_share builder.old (service_share (files_of sight.now) file (firsts builder.old) name base.now (function_trees functions.now))) }
+    ensures { let first = firsts builder.old in OnOk result (builder.new ≡ with_share builder.old (service_share (files_of index.now) file first name base.now (function_trees functions.now))) }
 {
     let first = small(builder.struct_count())?;
     if !builder.has_room() {
         return Err(OutOfMemory);
     }
-    let Ok(service) = builder.add_service(name, sight.base_of(file, base)) else {
+    let Ok(service) = builder.add_service(name, index.base_of(file, base)) else {
         return Err(OutOfMemory);
     };
-    add_structs(alloc, builder, sight, file, functions)?;
+    add_structs(alloc, builder, index, file, functions)?;
     add_methods(alloc, builder, service, first, functions)
 }

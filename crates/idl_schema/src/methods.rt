@@ -1,18 +1,17 @@
 //! The methods of a service, and the structs that their arguments and results travel as.
-ghost use Rattle.std.specs.Prelude.{◌≡◌, ◌<◌, ◌∷◌, [], OnOk, length};
-ghost use Rattle.idl_parser.specs.Declarations.{function_tree, function_trees};
+ghost use Rattle.std.specs.Prelude.{◌≡◌, ◌<◌, OnOk, length};
+ghost use Rattle.idl_document.specs.Trees.{function_tree, function_trees};
 ghost use Rattle.type_tables.specs.Declarations.{with_fields, with_method};
-ghost use Rattle.idl_schema.specs.Adding.{with_structs, with_methods};
-ghost use Rattle.idl_schema.specs.Methods.{args_struct, result_struct, result_types, methods_structs, methods_types, methods_from, method_info};
-ghost use Rattle.idl_schema.specs.Fields.{fields_types};
-ghost use Rattle.idl_schema.specs.Sights.{files_of};
+ghost use Rattle.idl_schema.specs.Adding.{with_methods};
+ghost use Rattle.idl_schema.specs.Methods.{with_args, with_result, with_all_structs, methods_from, method_info};
+ghost use Rattle.idl_schema.specs.Indexes.{files_of};
 ghost use Rattle.idl_schema.specs.Types.{ty_in};
 
 use crate::fields::{add_fields, add_success};
 use crate::numbers::sum;
-use crate::sight::Sight;
+use crate::index::SchemaIndex;
 use gate_base::{OutOfMemory, Text};
-use idl_parser::Function;
+use idl_document::Function;
 use std::alloc::Global;
 use type_tables::{FieldList, Form, MethodInfo, SchemaBuilder, ServiceId, StructId};
 
@@ -35,15 +34,15 @@ pub(crate) fn add_struct(
 pub(crate) fn add_structs(
     alloc: Global,
     builder: &mut SchemaBuilder,
-    sight: &Sight<'_, '_>,
+    index: &SchemaIndex<'_, '_>,
     file: u32,
     methods: &[Function],
 ) -> Result<(), OutOfMemory>
-    ensures { OnOk result (builder.new ≡ with_structs builder.old (methods_types (ty_in (files_of sight.now) file) (length builder.old.types) (function_trees methods.now)) (methods_structs (ty_in (files_of sight.now) file) (length builder.old.types) (function_trees methods.now))) }
+    ensures { OnOk result (builder.new ≡ with_all_structs (ty_in (files_of index.now) file) builder.old (function_trees methods.now)) }
 {
     for method in methods {
-        add_args(alloc, builder, sight, file, method)?;
-        add_result(alloc, builder, sight, file, method)?;
+        add_args(alloc, builder, index, file, method)?;
+        add_result(alloc, builder, index, file, method)?;
     }
     Ok(())
 }
@@ -51,31 +50,31 @@ pub(crate) fn add_structs(
 fn add_args(
     alloc: Global,
     builder: &mut SchemaBuilder,
-    sight: &Sight<'_, '_>,
+    index: &SchemaIndex<'_, '_>,
     file: u32,
     method: &Function,
 ) -> Result<(), OutOfMemory>
-    ensures { OnOk result (builder.new ≡ with_structs builder.old (fields_types (ty_in (files_of sight.now) file) (length builder.old.types) (function_tree method.now).args) (args_struct (ty_in (files_of sight.now) file) (length builder.old.types) (function_tree method.now) ∷ [])) }
+    ensures { OnOk result (builder.new ≡ with_args (ty_in (files_of index.now) file) builder.old (function_tree method.now)) }
 {
     let none = FieldList::new(alloc);
-    let fields = add_fields(alloc, builder, sight, file, none, method.args.as_slice())?;
+    let fields = add_fields(alloc, builder, index, file, none, method.args.as_slice())?;
     add_struct(builder, Form::Args, fields)
 }
 
 fn add_result(
     alloc: Global,
     builder: &mut SchemaBuilder,
-    sight: &Sight<'_, '_>,
+    index: &SchemaIndex<'_, '_>,
     file: u32,
     method: &Function,
 ) -> Result<(), OutOfMemory>
-    ensures { OnOk result (builder.new ≡ with_structs builder.old (result_types (ty_in (files_of sight.now) file) (length builder.old.types) (function_tree method.now)) (result_struct (ty_in (files_of sight.now) file) (length builder.old.types) (function_tree method.now) ∷ [])) }
+    ensures { OnOk result (builder.new ≡ with_result (ty_in (files_of index.now) file) builder.old (function_tree method.now)) }
 {
-    let success = add_success(alloc, builder, sight, file, &method.returns)?;
+    let success = add_success(alloc, builder, index, file, &method.returns)?;
     let fields = add_fields(
         alloc,
         builder,
-        sight,
+        index,
         file,
         success,
         method.throws.as_slice(),

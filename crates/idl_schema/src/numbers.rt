@@ -1,18 +1,16 @@
 //! The numbers of what is declared: file by file, in the order of the text.
 ghost use Rattle.std.specs.Prelude.{◌≡◌, ◌+◌, ◌*◌, IfOk, length};
-ghost use Rattle.idl_parser.specs.Declarations.{definition_tree, definition_trees, function_tree, function_trees};
-ghost use Rattle.idl_parser.specs.Fields.{field_trees};
-ghost use Rattle.idl_parser.specs.Trees.{type_tree};
+ghost use Rattle.idl_document.specs.Trees.{definition_tree, definition_trees, function_tree, function_trees, field_trees, type_tree};
 ghost use Rattle.idl_names.specs.Files.{file_trees};
 ghost use Rattle.idl_schema.specs.Numbers.{parts, fields_parts, returns_parts, method_parts, methods_parts, after, after_all, numbers_in, numbers_of, start, option_tree};
 
 use gate_base::OutOfMemory;
 use idl_names::FileDoc;
-use idl_parser::{Definition, FieldDecl, Function, Seq, TypeExpr, TypeForm};
+use idl_document::{Definition, FieldDecl, Function, Seq, TypeExpr, TypeForm};
 use std::alloc::Global;
 
 /// The first numbers that a definition takes.
-#[derive(Clone, Copy, Debug)]
+#[derive(Clone, Copy)]
 pub(crate) struct First {
     pub(crate) structs: u32,
     pub(crate) enums: u32,
@@ -129,7 +127,7 @@ fn numbers_in(
     first: First,
     definitions: &[Definition],
 ) -> Result<(Seq<First>, First), OutOfMemory>
-    ensures { IfOk result (λ r. (r.0 ≡ numbers_in first (definition_trees definitions.now)) × (r.1 ≡ after_all first (definition_trees definitions.now))) }
+    ensures { let trees = definition_trees definitions.now in IfOk result (λ r. (r.0 ≡ numbers_in first trees) × (r.1 ≡ after_all first trees)) }
 {
     let mut n = first;
     let mut list = Seq::new(alloc);

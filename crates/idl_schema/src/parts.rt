@@ -1,15 +1,14 @@
 //! The types that are parts of others.
 ghost use Rattle.std.specs.Prelude.{◌≡◌, IfOk, OnOk, length};
-ghost use Rattle.idl_parser.specs.Trees.{type_tree};
+ghost use Rattle.idl_document.specs.Trees.{type_tree};
 ghost use Rattle.type_tables.specs.Declarations.{with_type, with_fields};
-ghost use Rattle.idl_schema.specs.Adding.{with_types};
-ghost use Rattle.idl_schema.specs.Sights.{files_of};
-ghost use Rattle.idl_schema.specs.Types.{part_types, pair_types, element_types, ty_in};
+ghost use Rattle.idl_schema.specs.Indexes.{files_of};
+ghost use Rattle.idl_schema.specs.Types.{with_parts, with_pair, with_element, ty_in};
 
 use crate::numbers::{parts, small, sum};
-use crate::sight::Sight;
+use crate::index::SchemaIndex;
 use gate_base::OutOfMemory;
-use idl_parser::{TypeExpr, TypeForm};
+use idl_document::{TypeExpr, TypeForm};
 use type_tables::{SchemaBuilder, Ty};
 
 /// The number of the next type that is a part of another.
@@ -33,18 +32,18 @@ fn add_part(builder: &mut SchemaBuilder, ty: Ty) -> Result<(), OutOfMemory>
 #[cycle(parts)]
 pub(crate) fn add_parts(
     builder: &mut SchemaBuilder,
-    sight: &Sight<'_, '_>,
+    index: &SchemaIndex<'_, '_>,
     file: u32,
     tree: &TypeExpr,
 ) -> Result<(), OutOfMemory>
-    ensures { OnOk result (builder.new ≡ with_types builder.old (part_types (ty_in (files_of sight.now) file) (length builder.old.types) (type_tree tree.now))) }
+    ensures { OnOk result (builder.new ≡ with_parts (ty_in (files_of index.now) file) builder.old (type_tree tree.now)) }
 {
     match &tree.form {
         TypeForm::Base(_) => Ok(()),
         TypeForm::Named(_) => Ok(()),
-        TypeForm::Map(key, value) => add_pair(builder, sight, file, key, value),
-        TypeForm::Set(element) => add_element(builder, sight, file, element),
-        TypeForm::List(element) => add_element(builder, sight, file, element),
+        TypeForm::Map(key, value) => add_pair(builder, index, file, key, value),
+        TypeForm::Set(element) => add_element(builder, index, file, element),
+        TypeForm::List(element) => add_element(builder, index, file, element),
     }
 }
 
@@ -52,35 +51,35 @@ pub(crate) fn add_parts(
 #[cycle(parts)]
 fn add_pair(
     builder: &mut SchemaBuilder,
-    sight: &Sight<'_, '_>,
+    index: &SchemaIndex<'_, '_>,
     file: u32,
     key: &TypeExpr,
     value: &TypeExpr,
 ) -> Result<(), OutOfMemory>
-    ensures { OnOk result (builder.new ≡ with_types builder.old (pair_types (ty_in (files_of sight.now) file) (length builder.old.types) (type_tree key.now) (type_tree value.now))) }
+    ensures { OnOk result (builder.new ≡ with_pair (ty_in (files_of index.now) file) builder.old (type_tree key.now) (type_tree value.now)) }
 {
     let inner = sum(next_part(builder)?, 2)?;
     let behind = sum(inner, parts(key)?)?;
-    let key_ty = sight.ty(file, inner, key)?;
-    let value_ty = sight.ty(file, behind, value)?;
+    let key_ty = index.type_of(file, inner, key)?;
+    let value_ty = index.type_of(file, behind, value)?;
     add_part(builder, key_ty)?;
     add_part(builder, value_ty)?;
-    add_parts(builder, sight, file, key)?;
-    add_parts(builder, sight, file, value)
+    add_parts(builder, index, file, key)?;
+    add_parts(builder, index, file, value)
 }
 
 // The type within a set or a list, and its parts.
 #[cycle(parts)]
 fn add_element(
     builder: &mut SchemaBuilder,
-    sight: &Sight<'_, '_>,
+    index: &SchemaIndex<'_, '_>,
     file: u32,
     element: &TypeExpr,
 ) -> Result<(), OutOfMemory>
-    ensures { OnOk result (builder.new ≡ with_types builder.old (element_types (ty_in (files_of sight.now) file) (length builder.old.types) (type_tree element.now))) }
+    ensures { OnOk result (builder.new ≡ with_element (ty_in (files_of index.now) file) builder.old (type_tree element.now)) }
 {
     let inner = sum(next_part(builder)?, 1)?;
-    let ty = sight.ty(file, inner, element)?;
+    let ty = index.type_of(file, inner, element)?;
     add_part(builder, ty)?;
-    add_parts(builder, sight, file, element)
+    add_parts(builder, index, file, element)
 }

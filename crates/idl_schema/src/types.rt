@@ -1,5 +1,5 @@
 //! What a name of a type means.
-use idl_parser::TypeExpr;
+use idl_document::TypeExpr;
 use type_tables::Ty;
 
 /// A type as it stands in a text: the place of its file, the number of its first part, and the type.
@@ -12,14 +12,14 @@ pub(crate) struct Expression<'d> {
 
 /// A type, or what stands in a typedef.
 #[derive(Clone, Copy)]
-pub(crate) enum Meant<'d> {
+pub(crate) enum TypeOrAlias<'d> {
     Found(Ty),
-    Further(Expression<'d>),
+    Alias(Expression<'d>),
 }
 
 /// What a name means, and how many typedefs may be followed from there.
 #[derive(Clone, Copy)]
-pub(crate) struct Ahead<'d> {
-    pub(crate) meant: Meant<'d>,
+pub(crate) struct Resolution<'d> {
+    pub(crate) meant: TypeOrAlias<'d>,
     pub(crate) left: usize,
 }

@@ -1,2 +1,2 @@
 -- Where typedefs of typedefs end.
-pub mod Hops
+pub mod AliasLinks

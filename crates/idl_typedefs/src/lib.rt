@@ -5,4 +5,4 @@
 mod typedefs;
 mod walk;
 
-pub use typedefs::{Landing, Typedefs};
+pub use typedefs::{ResolvedAlias, Typedefs};

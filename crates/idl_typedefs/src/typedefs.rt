@@ -1,7 +1,7 @@
 //! What is kept of each typedef.
 ghost use Rattle.std.specs.Prelude.{◌≡◌, ◌<◌, List, IfOk, IfSome, Some, slice_get};
 ghost use Rattle.idl_names.specs.Files.{FileTree, file_trees};
-ghost use Rattle.idl_typedefs.specs.Hops.{AreHops, Follows, IsHop, LandsAt, reached};
+ghost use Rattle.idl_typedefs.specs.AliasLinks.{AreAliasLinks, Follows, IsAliasLink, ResolvesTo, reached};
 
 use crate::walk::{follow, next};
 use gate_base::OutOfMemory;
@@ -10,7 +10,7 @@ use std::alloc::Global;
 
 /// From a typedef over names alone to the last definition that they lead to.
 #[derive(Clone, Copy)]
-pub(crate) struct Hop {
+pub(crate) struct AliasLink {
     pub(crate) first: Spot,
     pub(crate) last: Spot,
     /// How many names are followed.
@@ -18,23 +18,23 @@ pub(crate) struct Hop {
 }
 
 /// A definition, and how many typedefs may be followed from there.
-#[derive(Clone, Copy, Debug, PartialEq, Eq)]
-pub struct Landing {
+#[derive(Clone, Copy)]
+pub struct ResolvedAlias {
     pub spot: Spot,
     pub left: usize,
 }
 
 /// Where the typedefs of an IDL lead that are nothing but a name.
 ///
-/// Of each file it has the number of the definitions before it, and for each definition its hop, as far as it is known.
+/// Of each file it has the number of the definitions before it, and for each definition its link, as far as it is known.
 #[derive(Drop)]
 pub struct Typedefs {
     starts: Vec<usize>,
-    hops: Vec<Option<Hop>>,
+    links: Vec<Option<AliasLink>>,
 }
 
 impl Typedefs {
-    /// Follows the typedefs of these files. Those that lead round have no hop.
+    /// Follows the typedefs of these files. Those that lead round have no link.
     ///
     /// `OutOfMemory`: the memory for it was not found.
     pub fn build(alloc: Global, names: &Names<'_>) -> Result<Typedefs, OutOfMemory>
@@ -42,7 +42,7 @@ impl Typedefs {
     {
         let mut typedefs = Typedefs {
             starts: starts(alloc, names.files)?,
-            hops: blank(alloc, names.definition_count())?,
+            links: blank(alloc, names.definition_count())?,
         };
         for (place, file) in names.files.iter().enumerate() {
             let count = file.document.definitions.as_slice().len();
@@ -53,22 +53,22 @@ impl Typedefs {
 
     /// Where a definition leads to over typedefs that are names alone, if no more than so many may be followed. Where more
     /// would have to be, and where they lead round, it is the definition itself.
-    pub fn land(&self, spot: Spot, left: usize) -> Landing
-        ensures { (files : List FileTree) → Follows files self.now → LandsAt files spot left result }
+    pub fn resolve_chain(&self, spot: Spot, left: usize) -> ResolvedAlias
+        ensures { (files : List FileTree) → Follows files self.now → ResolvesTo files spot left result }
     {
-        match self.hop(spot) {
-            Some(hop) => behind(hop, spot, left),
-            None => Landing { spot, left },
+        match self.link(spot) {
+            Some(link) => behind(link, spot, left),
+            None => ResolvedAlias { spot, left },
         }
     }
 
-    /// The hop from a definition, where it is known. A definition that is no name of another leads to itself.
-    pub(crate) fn hop(&self, spot: Spot) -> Option<Hop>
-        ensures first { IfSome result (λ hop. hop.first ≡ spot) }
-        ensures hop { (files : List FileTree) → Follows files self.now → IfSome result (λ hop. reached files hop.steps spot ≡ Some hop.last) }
+    /// The link from a definition, where it is known. A definition that is no name of another leads to itself.
+    pub(crate) fn link(&self, spot: Spot) -> Option<AliasLink>
+        ensures first { IfSome result (λ link. link.first ≡ spot) }
+        ensures link { (files : List FileTree) → Follows files self.now → IfSome result (λ link. reached files link.steps spot ≡ Some link.last) }
     {
-        match hop_in(self.hops.as_slice(), self.place(spot)) {
-            Some(Some(hop)) => hop_from(hop, spot),
+        match link_in(self.links.as_slice(), self.place(spot)) {
+            Some(Some(link)) => link_from(link, spot),
             _ => None,
         }
     }
@@ -94,7 +94,7 @@ impl Typedefs {
         }
     }
 
-    /// Notes the hop of a definition and of each that it leads over.
+    /// Notes the link of a definition and of each that it leads over.
     fn note_all(&mut self, names: &Names<'_>, spot: Spot)
         requires { Follows (file_trees names.now.files.now) self.old }
         ensures { Follows (file_trees names.now.files.now) self.new }
@@ -103,69 +103,69 @@ impl Typedefs {
             return;
         };
         let mut left = whole;
-        'names: while self.hop(left.first).is_none() {
+        'names: while self.link(left.first).is_none() {
             self.note(left);
             match shorter(names, left) {
-                Some(hop) => left = hop,
+                Some(link) => left = link,
                 None => return,
             }
         }
     }
 
-    fn note(&mut self, hop: Hop)
-        ensures { (files : List FileTree) → Follows files self.old → IsHop files hop → Follows files self.new }
+    fn note(&mut self, link: AliasLink)
+        ensures { (files : List FileTree) → Follows files self.old → IsAliasLink files link → Follows files self.new }
     {
-        let place = self.place(hop.first);
-        if place < self.hops.len() {
-            self.hops[place] = Some(hop);
+        let place = self.place(link.first);
+        if place < self.links.len() {
+            self.links[place] = Some(link);
         }
     }
 }
 
-fn behind(hop: Hop, spot: Spot, left: usize) -> Landing
-    ensures { (files : List FileTree) → reached files hop.steps spot ≡ Some hop.last → LandsAt files spot left result }
+fn behind(link: AliasLink, spot: Spot, left: usize) -> ResolvedAlias
+    ensures { (files : List FileTree) → reached files link.steps spot ≡ Some link.last → ResolvesTo files spot left result }
 {
-    if hop.steps <= left {
-        Landing {
-            spot: hop.last,
-            left: left - hop.steps,
+    if link.steps <= left {
+        ResolvedAlias {
+            spot: link.last,
+            left: left - link.steps,
         }
     } else {
-        Landing { spot, left }
+        ResolvedAlias { spot, left }
     }
 }
 
-/// The hop from what the first name of a hop means.
-fn shorter(names: &Names<'_>, hop: Hop) -> Option<Hop>
-    ensures hop { IsHop (file_trees names.now.files.now) hop → IfSome result (IsHop (file_trees names.now.files.now)) }
-    ensures fewer { IfSome result (λ other. other.steps < hop.steps) }
+/// The link from what the first name of a link means.
+fn shorter(names: &Names<'_>, link: AliasLink) -> Option<AliasLink>
+    ensures link { IsAliasLink (file_trees names.now.files.now) link → IfSome result (IsAliasLink (file_trees names.now.files.now)) }
+    ensures fewer { IfSome result (λ other. other.steps < link.steps) }
 {
-    if hop.steps == 0 {
+    if link.steps == 0 {
         return None;
     }
-    let first = next(names, hop.first)?;
-    Some(Hop {
+    let first = next(names, link.first)?;
+    Some(AliasLink {
         first,
-        last: hop.last,
-        steps: hop.steps - 1,
+        last: link.last,
+        steps: link.steps - 1,
     })
 }
 
-fn hop_from(hop: Hop, spot: Spot) -> Option<Hop>
-    ensures same { IfSome result (λ other. other ≡ hop) }
+fn link_from(link: AliasLink, spot: Spot) -> Option<AliasLink>
+    ensures same { IfSome result (λ other. other ≡ link) }
     ensures first { IfSome result (λ other. other.first ≡ spot) }
 {
-    if hop.first.file == spot.file && hop.first.definition == spot.definition {
-        Some(hop)
+    if link.first.file == spot.file && link.first.definition == spot.definition {
+        Some(link)
     } else {
         None
     }
 }
 
-fn hop_in(hops: &[Option<Hop>], place: usize) -> Option<Option<Hop>>
-    ensures { result ≡ slice_get hops.now place }
+fn link_in(links: &[Option<AliasLink>], place: usize) -> Option<Option<AliasLink>>
+    ensures { result ≡ slice_get links.now place }
 {
-    hops.get(place).copied()
+    links.get(place).copied()
 }
 
 fn starts(alloc: Global, files: &[FileDoc]) -> Result<Vec<usize>, OutOfMemory> {
@@ -178,12 +178,12 @@ fn starts(alloc: Global, files: &[FileDoc]) -> Result<Vec<usize>, OutOfMemory> {
     Ok(starts)
 }
 
-fn blank(alloc: Global, count: usize) -> Result<Vec<Option<Hop>>, OutOfMemory>
-    ensures { IfOk result (λ hops. (files : List FileTree) → AreHops files hops.items) }
+fn blank(alloc: Global, count: usize) -> Result<Vec<Option<AliasLink>>, OutOfMemory>
+    ensures { IfOk result (λ links. (files : List FileTree) → AreAliasLinks files links.items) }
 {
-    let mut hops = Vec::new(alloc);
-    'hops: for _ in 0..count {
-        hops.push(None)?;
+    let mut links = Vec::new(alloc);
+    'links: for _ in 0..count {
+        links.push(None)?;
     }
-    Ok(hops)
+    Ok(links)
 }

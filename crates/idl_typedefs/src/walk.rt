@@ -1,16 +1,15 @@
 //! The names of typedefs followed one by one.
 ghost use Rattle.std.specs.Prelude.{◌≡◌, ◌+◌, IfSome, option_copied, option_map};
-ghost use Rattle.idl_parser.specs.Declarations.{definition_tree};
-ghost use Rattle.idl_parser.specs.Trees.{type_tree};
+ghost use Rattle.idl_document.specs.Trees.{definition_tree, type_tree};
 ghost use Rattle.idl_names.specs.Files.{file_trees};
-ghost use Rattle.idl_typedefs.specs.Hops.{Follows, IsHop, alias_in, alias_of, next};
+ghost use Rattle.idl_typedefs.specs.AliasLinks.{Follows, IsAliasLink, alias_in, alias_of, next};
 
-use crate::typedefs::{Hop, Typedefs};
+use crate::typedefs::{AliasLink, Typedefs};
+use idl_document::{Definition, TypeExpr, TypeForm};
 use idl_names::{Names, Scope, Spot, definition_at};
-use idl_parser::{Definition, TypeExpr, TypeForm};
 
 /// What the name means that is a typedef's whole type.
-#[tactic(auto, unfolding(crate::specs::Hops::next))]
+#[tactic(auto, unfolding(crate::specs::AliasLinks::next))]
 pub(crate) fn next(names: &Names<'_>, spot: Spot) -> Option<Spot>
     ensures { result ≡ next (file_trees names.now.files.now) spot }
 {
@@ -36,23 +35,23 @@ fn alias_of(ty: &TypeExpr) -> Option<&[u8]>
     }
 }
 
-/// The hop from a definition: the names are followed up to the first from which a hop is known. None where they lead
+/// The link from a definition: the names are followed up to the first from which a link is known. None where they lead
 /// round.
-pub(crate) fn follow(typedefs: &Typedefs, names: &Names<'_>, spot: Spot) -> Option<Hop>
+pub(crate) fn follow(typedefs: &Typedefs, names: &Names<'_>, spot: Spot) -> Option<AliasLink>
     requires { Follows (file_trees names.now.files.now) typedefs.now }
-    ensures { IfSome result (IsHop (file_trees names.now.files.now)) }
+    ensures { IfSome result (IsAliasLink (file_trees names.now.files.now)) }
 {
     let limit = names.definition_count();
     let mut at = spot;
     let mut steps = 0;
     'names: while steps <= limit {
-        if let Some(hop) = typedefs.hop(at) {
-            return joined(spot, steps, hop);
+        if let Some(link) = typedefs.link(at) {
+            return joined(spot, steps, link);
         }
         match next(names, at) {
             Some(further) => at = further,
             None => {
-                return Some(Hop {
+                return Some(AliasLink {
                     first: spot,
                     last: at,
                     steps,
@@ -64,14 +63,14 @@ pub(crate) fn follow(typedefs: &Typedefs, names: &Names<'_>, spot: Spot) -> Opti
     None
 }
 
-fn joined(first: Spot, steps: usize, hop: Hop) -> Option<Hop>
+fn joined(first: Spot, steps: usize, link: AliasLink) -> Option<AliasLink>
     ensures first { IfSome result (λ whole. whole.first ≡ first) }
-    ensures last { IfSome result (λ whole. whole.last ≡ hop.last) }
-    ensures steps { IfSome result (λ whole. whole.steps ≡ steps + hop.steps) }
+    ensures last { IfSome result (λ whole. whole.last ≡ link.last) }
+    ensures steps { IfSome result (λ whole. whole.steps ≡ steps + link.steps) }
 {
-    Some(Hop {
+    Some(AliasLink {
         first,
-        last: hop.last,
-        steps: steps.checked_add(hop.steps)?,
+        last: link.last,
+        steps: steps.checked_add(link.steps)?,
     })
 }

@@ -7,3 +7,4 @@ pub mod BlobPieces
 pub mod Lanes
 pub mod Runs
 pub mod Numbers
+pub mod Laid

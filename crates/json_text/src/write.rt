@@ -16,7 +16,7 @@ pub fn write_int(value: i64, out: &mut Out)
     out.push(buffer.format(value).as_bytes());
 }
 
-fn hex(digit: u8) -> u8
+pub(crate) fn hex(digit: u8) -> u8
     requires { digit < 16 }
     ensures { result ≡ digit_char digit }
 {

@@ -19,9 +19,9 @@ use Rattle.type_walk.specs.Positions.{Position, called_for, entered, hint_of, pa
 use Rattle.translate_core.specs.Positions.{typed}
 use Rattle.translate_core.specs.Body.{Source, going}
 use Rattle.translate_core.proofs.Whole.{whole_step, whole_fault}
-use Rattle.message_show.specs.declared.here.Here.{Here}
-use Rattle.message_show.specs.declared.here.Turn.{Turn}
-use Rattle.message_show.specs.declared.here.Turn.TheVariants as turns
+use Rattle.message_show.specs.declared.open_level.OpenLevel.{OpenLevel}
+use Rattle.message_show.specs.declared.open_level.LevelStep.{LevelStep}
+use Rattle.message_show.specs.declared.open_level.LevelStep.TheVariants as turns
 use Rattle.message_show.specs.Inside.{IsSound, Passes, at, behind, begins}
 use Rattle.message_show.specs.Line.{item_text, opens}
 use Rattle.message_show.specs.Pieces.{Output, Tells, Waiting}
@@ -29,10 +29,10 @@ use Rattle.message_show.specs.Shown.{Place, place, line_target}
 use Rattle.message_show.specs.Turns.{Standing, standing, rest_from, Leads, Turned}
 use Rattle.message_show.proofs.Told.{tells_then}
 
-pub closes_stop : (d : Declarations) (here : Here) → IsSound d here → Passes d here here stop turns.Closed
+pub closes_stop : (d : Declarations) (here : OpenLevel) → IsSound d here → Passes d here here stop turns.Closed
 closes_stop d here sound = record { after = λ up. refl; first = refl; depth = λ up. omega arith; sound = sound }
 
-pub closes_end : (d : Declarations) (here : Here) → IsSound d here → Passes d here here end turns.Closed
+pub closes_end : (d : Declarations) (here : OpenLevel) → IsSound d here → Passes d here here end turns.Closed
 closes_end d here sound = record { after = λ up. refl; first = refl; depth = λ up. omega arith; sound = sound }
 
 -- an item that is a value, whole
@@ -42,7 +42,7 @@ pub record IsWhole (item : Item) : Type 0 where
   pub depth : (n : ℕ) → depth_after item n ≡ n
   pub weighs : 0 < weight item
 
-pub value_passes : (d : Declarations) (old here : Here) (item : Item) → IsWhole item → ((up : List Level) → here.known ∷ up ≡ passed (old.known ∷ up)) → here.next ≡ called_for (Some here.known) → here.first ≡ false
+pub value_passes : (d : Declarations) (old here : OpenLevel) (item : Item) → IsWhole item → ((up : List Level) → here.known ∷ up ≡ passed (old.known ∷ up)) → here.next ≡ called_for (Some here.known) → here.first ≡ false
     → IsSound d here → Passes d old here item turns.Open
 value_passes d old here item whole spent next first sound = record {
   after = λ up. rw (whole.after (at d old up), ← spent up, next) refl;
@@ -76,7 +76,7 @@ is_whole_value (events.UnknownText bytes) no_field no_stop no_end no_struct no_m
 is_whole_value events.EmptyMap no_field no_stop no_end no_struct no_map no_set no_list = whole_value _ (λ p. refl) refl (λ n. refl) (omega arith)
 is_whole_value (events.Uuid bytes) no_field no_stop no_end no_struct no_map no_set no_list = whole_value _ (λ p. refl) refl (λ n. refl) (omega arith)
 
-pub opens_passes : (d : Declarations) (old here : Here) (item : Item) (inner : Level) → ((up : List Level) → after (at d old up) item ≡ entered (at d old up) inner) → opens item ≡ true → ((n : ℕ) → depth_after item n ≡ n + 1)
+pub opens_passes : (d : Declarations) (old here : OpenLevel) (item : Item) (inner : Level) → ((up : List Level) → after (at d old up) item ≡ entered (at d old up) inner) → opens item ≡ true → ((n : ℕ) → depth_after item n ≡ n + 1)
     → ((up : List Level) → here.known ∷ up ≡ passed (old.known ∷ up)) → IsSound d here → Passes d old here item (turns.Opened inner)
 opens_passes d old here item inner is first depth spent sound = record {
   after = λ up. rw (is up, ← spent up) refl;
@@ -93,7 +93,7 @@ module _ {S : Type 0} (source : Source S) (nest : S → List Slot) where
   leads_then a b c p q f g begun told = f begun told ∙ (g begun (told ++ p) ∙ ap (rest_from source nest begun c) (append_assoc told p q))
 
   -- behind a struct or container the level around it goes on
-  pub resumed : (reader new : S) (d : Declarations) (here : Here) (inner : Level) (up : List Level) (text : List ℕ) → here.next ≡ called_for (Some here.known) → here.first ≡ false
+  pub resumed : (reader new : S) (d : Declarations) (here : OpenLevel) (inner : Level) (up : List Level) (text : List ℕ) → here.next ≡ called_for (Some here.known) → here.first ≡ false
       → Leads source nest (standing reader (open_at d (inner ∷ here.known ∷ up)) true) (standing new (open_at d (here.known ∷ up)) false) text
       → Leads source nest (standing reader (open_at d (inner ∷ here.known ∷ up)) true) (standing new (at d here up) here.first) text
   resumed reader new d here inner up text next first h = rw (next, first) h
@@ -106,7 +106,7 @@ module _ {S : Type 0} (source : Source S) (nest : S → List Slot) where
     stepped reader new p first item open_is e follows deep begun told =
         rw (follows, deep) (whole_step source typed (line_target begun) pays (going reader p (place p (record { nest = nest reader; first = first })) (length p.levels) None told) item new open_is e)
 
-    pub passes : (reader new : S) (d : Declarations) (old here : Here) (turn : Turn) (item : Item) (up : List Level) → Passes d old here item turn
+    pub passes : (reader new : S) (d : Declarations) (old here : OpenLevel) (turn : LevelStep) (item : Item) (up : List Level) → Passes d old here item turn
         → source.reads reader (hint_of (at d old up)) ≡ Ok (item, new) → nest new ≡ levels_after item (nest reader)
         → Leads source nest (standing reader (at d old up) old.first) (standing new (behind d turn here up) (begins turn here)) (item_text d (Some old.known) (record { nest = nest reader; first = old.first }) item)
     passes reader new d old here turn item up is e follows =
@@ -118,10 +118,10 @@ module _ {S : Type 0} (source : Source S) (nest : S → List Slot) where
 
     -- an item was read, gone past and told
     pub told_item : (follows : (s : S) (hint : Hint) → IfOk (source.reads s hint) (λ x. nest x.1 ≡ levels_after x.0 (nest s)))
-        → (reader new : S) (d : Declarations) (old here : Here) (turn : Turn) (item : Item) (up : List Level) (a b : Output) (l n : Waiting) → Passes d old here item turn
+        → (reader new : S) (d : Declarations) (old here : OpenLevel) (turn : LevelStep) (item : Item) (up : List Level) (a b : Output) (l n : Waiting) → Passes d old here item turn
         → source.reads reader (hint_of (at d old up)) ≡ Ok (item, new)
         → Tells a l b n (item_text d (Some old.known) (record { nest = nest reader; first = old.first }) item)
-        → Turned source nest (Ok turn) (standing reader (at d old up) old.first) (λ (turn : Turn). standing new (behind d turn here up) (begins turn here)) a l b n
+        → Turned source nest (Ok turn) (standing reader (at d old up) old.first) (λ (turn : LevelStep). standing new (behind d turn here up) (begins turn here)) a l b n
     told_item follows reader new d old here turn item up a b l n is e told = (
       item_text d (Some old.known) (record { nest = nest reader; first = old.first }) item,
       passes reader new d old here turn item up is e (subst (λ (r : Step S Item). IfOk r (λ x. nest x.1 ≡ levels_after x.0 (nest reader))) e (follows reader (hint_of (at d old up)))),

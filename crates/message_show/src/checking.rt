@@ -7,10 +7,10 @@ ghost use Rattle.translate_core.specs.Routes.{start_of};
 ghost use Rattle.translate_core.specs.declared.route.Route.TheVariants.{ByName};
 ghost use Rattle.message_show.specs.Shown.{shown_by, after_body, body_from, IsService, IsChecked};
 
-use crate::bodies::body_struct;
 use binary_protocol::BinaryRead;
 use compact_protocol::CompactRead;
 use protocol_traits::{Fault, Hint, ReadRules, WireRead};
+use translate_core::{Route, body_struct};
 use type_tables::{Schema, ServiceId, StructId};
 use type_walk::{Undeclared, Walk, Walking};
 
@@ -23,20 +23,20 @@ pub enum Checked {
 }
 
 /// A reader that reads a string alike whatever is declared of its position.
-pub trait Blind: ReadRules {
-    ghost blind: { (s : Self) (a b : Hint) → Self.ReadRules.reads s a ≡ Self.ReadRules.reads s b };
+pub trait HintIndependent: ReadRules {
+    ghost alike: { (s : Self) (a b : Hint) → Self.ReadRules.reads s a ≡ Self.ReadRules.reads s b };
 }
 
-impl<'f> Blind for BinaryRead<'f> {
-    ghost blind = { λ s a b. refl };
+impl<'f> HintIndependent for BinaryRead<'f> {
+    ghost alike = { λ s a b. refl };
 }
 
-impl<'f> Blind for CompactRead<'f> {
-    ghost blind = { λ s a b. refl };
+impl<'f> HintIndependent for CompactRead<'f> {
+    ghost alike = { λ s a b. refl };
 }
 
 /// Whether a frame is a message, or the fault that stands in it. Nothing declared is looked at.
-pub fn check_blind<'f, R: WireRead<'f> + Blind>(
+pub fn check_undeclared<'f, R: WireRead<'f> + HintIndependent>(
     schema: &Schema,
     service: Option<ServiceId>,
     frame: &'f [u8],
@@ -44,7 +44,8 @@ pub fn check_blind<'f, R: WireRead<'f> + Blind>(
 ) -> Checked
     requires room { length frame.now ≤ length room.old }
     requires size { length frame.now < 2 ^ 31 }
-    ensures { IsChecked result (shown_by (source_of R.begun R.reads_head R.reads R.reads_end R.value_place R.ahead) (start_of schema.now (ByName service)) frame.now) }
+    ensures { let source = source_of R.begun R.reads_head R.reads R.reads_end R.value_place R.ahead in
+        IsChecked result (shown_by source (start_of schema.now (ByName service)) frame.now) }
 {
     let mut reader = R::over(frame, room);
     match reader.head() {
@@ -55,9 +56,10 @@ pub fn check_blind<'f, R: WireRead<'f> + Blind>(
 }
 
 /// Whether the rest of a message follows, whatever its body's struct, or the fault that stands in it.
-fn check_any<'f, R: WireRead<'f> + Blind>(schema: &Schema, reader: &mut R) -> Checked
+fn check_any<'f, R: WireRead<'f> + HintIndependent>(schema: &Schema, reader: &mut R) -> Checked
     requires begins { R.depth reader.old ≡ 1 }
-    ensures { (position : Position) (told : List ℕ) → IsChecked result (after_body (source_of R.begun R.reads_head R.reads R.reads_end R.value_place R.ahead) (body_from (source_of R.begun R.reads_head R.reads R.reads_end R.value_place R.ahead) reader.old position told)) }
+    ensures { let source = source_of R.begun R.reads_head R.reads R.reads_end R.value_place R.ahead in
+        (position : Position) (told : List ℕ) → IsChecked result (after_body source (body_from source reader.old position told)) }
 {
     let mut walk = Undeclared::start(schema);
     'events: while walk.is_open() {
@@ -84,11 +86,12 @@ pub fn check<'f, R: WireRead<'f>>(
     requires service { IsService schema.now service }
     requires room { length frame.now ≤ length room.old }
     requires size { length frame.now < 2 ^ 31 }
-    ensures { IsChecked result (shown_by (source_of R.begun R.reads_head R.reads R.reads_end R.value_place R.ahead) (start_of schema.now (ByName service)) frame.now) }
+    ensures { let source = source_of R.begun R.reads_head R.reads R.reads_end R.value_place R.ahead in
+        IsChecked result (shown_by source (start_of schema.now (ByName service)) frame.now) }
 {
     let mut reader = R::over(frame, room);
     let body = match reader.head() {
-        Ok(head) => body_struct(schema, service, &head),
+        Ok(head) => body_struct(schema, Route::ByName(service), &head),
         Err(fault) => return Checked::Unread(fault),
     };
     check_body(schema, body, &mut reader)
@@ -102,7 +105,8 @@ fn check_body<'f, R: WireRead<'f>>(
 ) -> Checked
     requires known { IfSome body (λ s. s.0 < length schema.now.structs) }
     requires begins { R.depth reader.old ≡ 1 }
-    ensures { (told : List ℕ) → IsChecked result (after_body (source_of R.begun R.reads_head R.reads R.reads_end R.value_place R.ahead) (body_from (source_of R.begun R.reads_head R.reads R.reads_end R.value_place R.ahead) reader.old (start schema.now body) told)) }
+    ensures { let source = source_of R.begun R.reads_head R.reads R.reads_end R.value_place R.ahead in
+        (told : List ℕ) → IsChecked result (after_body source (body_from source reader.old (start schema.now body) told)) }
 {
     if body.is_none() {
         let mut walk = Undeclared::start(schema);
@@ -120,7 +124,8 @@ fn check_declared<'f, R: WireRead<'f>>(
 ) -> Checked
     requires known { IfSome body (λ s. s.0 < length schema.now.structs) }
     requires begins { R.depth reader.old ≡ 1 }
-    ensures { (told : List ℕ) → IsChecked result (after_body (source_of R.begun R.reads_head R.reads R.reads_end R.value_place R.ahead) (body_from (source_of R.begun R.reads_head R.reads R.reads_end R.value_place R.ahead) reader.old (start schema.now body) told)) }
+    ensures { let source = source_of R.begun R.reads_head R.reads R.reads_end R.value_place R.ahead in
+        (told : List ℕ) → IsChecked result (after_body source (body_from source reader.old (start schema.now body) told)) }
 {
     let mut walk = Walk::start(schema, body);
     check_by(reader, &mut walk)
@@ -130,7 +135,8 @@ fn check_declared<'f, R: WireRead<'f>>(
 fn check_by<'f, R: WireRead<'f>, K: Walking>(reader: &mut R, walk: &mut K) -> Checked
     requires begins { R.depth reader.old ≡ 1 }
     requires walks { length (K.at walk.old).levels ≡ 1 }
-    ensures { (told : List ℕ) → IsChecked result (after_body (source_of R.begun R.reads_head R.reads R.reads_end R.value_place R.ahead) (body_from (source_of R.begun R.reads_head R.reads R.reads_end R.value_place R.ahead) reader.old (K.at walk.old) told)) }
+    ensures { let source = source_of R.begun R.reads_head R.reads R.reads_end R.value_place R.ahead in
+        (told : List ℕ) → IsChecked result (after_body source (body_from source reader.old (K.at walk.old) told)) }
 {
     'events: while walk.is_open() {
         match reader.next(walk.hint()) {

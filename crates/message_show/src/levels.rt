@@ -2,14 +2,14 @@
 ghost use Rattle.std.specs.Prelude.{◌≡◌, ◌+◌, ◌≤◌, ◌++◌, ◌∷◌, [], Some, length};
 ghost use Rattle.message_show.specs.Line.{comma, mark_before, closing};
 
-use crate::line::Line;
+use crate::line::{Line, ROOM};
 use protocol_traits::Slot;
 
 /// Appends what stands before a field, an element, a key or a value: the first of its level has no comma.
 #[inline(always)]
 #[tactic(auto, unfolding(crate::specs::Line::colon), using(crate::proofs::Told::same_line))]
 pub fn push_lead<'c>(line: Line<'c>, level: Slot, first: bool) -> Line<'c>
-    requires { length line.bytes + 2 ≤ 4096 }
+    requires { length line.bytes + 2 ≤ ROOM }
     ensures text { result ≡ record line.entry { bytes = line.entry.bytes ++ mark_before first (Some level) } }
     ensures short { length result.bytes ≤ length line.entry.bytes + 2 }
 {
@@ -23,7 +23,7 @@ pub fn push_lead<'c>(line: Line<'c>, level: Slot, first: bool) -> Line<'c>
 #[inline(always)]
 #[tactic(auto, unfolding(crate::specs::Line::comma), using(crate::proofs::Told::same_line))]
 fn push_comma<'c>(line: Line<'c>, first: bool) -> Line<'c>
-    requires { length line.bytes + 2 ≤ 4096 }
+    requires { length line.bytes + 2 ≤ ROOM }
     ensures text { result ≡ record line.entry { bytes = line.entry.bytes ++ comma first } }
     ensures short { length result.bytes ≤ length line.entry.bytes + 2 }
 {

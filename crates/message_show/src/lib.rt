@@ -6,13 +6,12 @@
 //! taken.
 #![tactic(auto)]
 
-mod bodies;
 mod checking;
 mod events;
-mod here;
+mod failing_sink;
 mod levels;
 mod line;
-mod nowhere;
+mod open_level;
 mod printed;
 mod showing;
 mod telling;

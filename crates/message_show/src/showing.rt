@@ -4,9 +4,9 @@ ghost use Rattle.gate_base.specs.Causes.{Rose};
 ghost use Rattle.message_show.specs.Pieces.{Output, Told, output as output_of};
 ghost use Rattle.message_show.specs.Shown.{shown, IsService, IsShown, IsLeft, IsChecked, IsLine, IsWritten, HasLine};
 
-use crate::checking::{Checked, check, check_blind};
-use crate::line::{Cells, Line};
-use crate::nowhere::Nowhere;
+use crate::checking::{Checked, check, check_undeclared};
+use crate::failing_sink::FailingSink;
+use crate::line::{Line, LineBuffer};
 use crate::telling::tell;
 use binary_protocol::BinaryRead;
 use compact_protocol::CompactRead;
@@ -75,10 +75,10 @@ fn show_once<O: Sink>(
     ensures later { O.faults output.old ≤ O.faults output.new }
     ensures cause { result ≡ Shown.WriteFault → Rose (O.faults output.old) (O.faults output.new) }
 {
-    let mut cells = Cells::new();
-    let mut nowhere = Nowhere::new();
-    let line = Line::over(&mut cells);
-    let (line, found) = tell_frame(schema, service, from, frame, room, line, &mut nowhere);
+    let mut buffer = LineBuffer::new();
+    let mut failing = FailingSink::new();
+    let line = Line::over(&mut buffer);
+    let (line, found) = tell_frame(schema, service, from, frame, room, line, &mut failing);
     match found {
         Checked::Message => {
             if line.is_whole() {
@@ -133,8 +133,8 @@ fn show_long<O: Sink>(
     ensures later { O.faults output.old ≤ O.faults output.new }
     ensures cause { result ≡ Shown.WriteFault → Rose (O.faults output.old) (O.faults output.new) }
 {
-    let mut cells = Cells::new();
-    let line = Line::over(&mut cells);
+    let mut buffer = LineBuffer::new();
+    let line = Line::over(&mut buffer);
     let (line, _) = tell_frame(schema, service, from, frame, room, line, output);
     end(line, output)
 }
@@ -166,8 +166,8 @@ fn check_frame(
     ensures { IsChecked result (shown schema.now service from frame.now) }
 {
     match from {
-        Proto::Binary => check_blind::<BinaryRead>(schema, service, frame, room),
-        Proto::Compact => check_blind::<CompactRead>(schema, service, frame, room),
+        Proto::Binary => check_undeclared::<BinaryRead>(schema, service, frame, room),
+        Proto::Compact => check_undeclared::<CompactRead>(schema, service, frame, room),
         Proto::Json => check::<JsonRead>(schema, service, frame, room),
     }
 }

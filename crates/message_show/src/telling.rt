@@ -5,6 +5,7 @@ ghost use Rattle.protocol_traits.specs.declared.nest.Slot.TheVariants.{Fields};
 ghost use Rattle.protocol_traits.specs.Heads.{header_of};
 ghost use Rattle.type_tables.specs.Declarations.{Declarations};
 ghost use Rattle.type_walk.specs.declared.levels.Level.{Level};
+ghost use Rattle.message_show.specs.declared.open_level.LevelStep.{LevelStep};
 ghost use Rattle.type_walk.specs.Known.{IsKnownLevel};
 ghost use Rattle.type_walk.specs.Positions.{Position, start, struct_level, standing as open_at};
 ghost use Rattle.translate_core.specs.Body.{Going, source_of};
@@ -16,17 +17,17 @@ ghost use Rattle.message_show.specs.Pieces.{Output, Told, Tells, output};
 ghost use Rattle.message_show.specs.Turns.{Turned, standing};
 ghost use Rattle.message_show.specs.Shown.{Place, shown_by, body_from, after_body, IsService, IsChecked, IsLine};
 
-use crate::bodies::body_struct;
 use crate::checking::Checked;
 use crate::events::Events;
-use crate::here::{Here, Turn};
 use crate::levels::{closing, push_lead};
-use crate::line::Line;
+use crate::line::{Line, ROOM};
+use crate::open_level::{LevelStep, OpenLevel};
 use crate::texts::{push_number, type_word};
 use crate::values::{push_list, push_map, tell_field, tell_string, tell_value};
 use gate_io::Sink;
 use protocol_traits::{Fault, Head, Slot, WireRead};
 use thrift_value::{Event, MessageType};
+use translate_core::{Route, body_struct};
 use type_tables::{Schema, ServiceId, StructId};
 use type_walk::{Level, hint_at, in_list, in_map, in_set, in_struct};
 
@@ -42,15 +43,18 @@ pub fn tell<'c, 'f, R: WireRead<'f> + Events, O: Sink>(
     requires service { IsService schema.now service }
     requires room { length frame.now ≤ length room.old }
     requires size { length frame.now < 2 ^ 31 }
-    ensures found { IsChecked result.1 (shown_by (source_of R.begun R.reads_head R.reads R.reads_end R.value_place R.ahead) (start_of schema.now (ByName service)) frame.now) }
-    ensures told { (from : Output) (text : List ℕ)
-        → IsLine (shown_by (source_of R.begun R.reads_head R.reads R.reads_end R.value_place R.ahead) (start_of schema.now (ByName service)) frame.now) text
-        → Told from (output (O.written out.old) (O.faults out.old)) line.entry [] → Told from (output (O.written out.new) (O.faults out.new)) result.0 text }
+    ensures found { let source = source_of R.begun R.reads_head R.reads R.reads_end R.value_place R.ahead in
+        IsChecked result.1 (shown_by source (start_of schema.now (ByName service)) frame.now) }
+    ensures told { let source = source_of R.begun R.reads_head R.reads R.reads_end R.value_place R.ahead in
+        let old = output (O.written out.old) (O.faults out.old) in
+        let new = output (O.written out.new) (O.faults out.new) in
+        (from : Output) (text : List ℕ) → IsLine (shown_by source (start_of schema.now (ByName service)) frame.now) text
+        → Told from old line.entry [] → Told from new result.0 text }
 {
     let mut reader = R::over(frame, room);
     let (line, body) = match reader.head() {
         Ok(head) => {
-            let body = body_struct(schema, service, &head);
+            let body = body_struct(schema, Route::ByName(service), &head);
             (tell_head(&head, line, out), body)
         }
         Err(fault) => return (line, Checked::Unread(fault)),
@@ -61,7 +65,9 @@ pub fn tell<'c, 'f, R: WireRead<'f> + Events, O: Sink>(
 
 /// Tells a header and the body's parenthesis.
 fn tell_head<'c, O: Sink>(head: &Head<'_>, line: Line<'c>, out: &mut O) -> Line<'c>
-    ensures { Tells (output (O.written out.old) (O.faults out.old)) line.entry (output (O.written out.new) (O.faults out.new)) result (head_text (header_of head.now)) }
+    ensures { let old = output (O.written out.old) (O.faults out.old) in
+        let new = output (O.written out.new) (O.faults out.new) in
+        Tells old line.entry new result (head_text (header_of head.now)) }
 {
     let line = tell_string(head.name, push_type(line.make_room(out), head.mtype), out);
     push_sequence(line.make_room(out), head.seq)
@@ -69,7 +75,7 @@ fn tell_head<'c, O: Sink>(head: &Head<'_>, line: Line<'c>, out: &mut O) -> Line<
 
 #[tactic(auto, unfolding(crate::specs::Line::type_text))]
 fn push_type<'c>(line: Line<'c>, mtype: MessageType) -> Line<'c>
-    requires { length line.bytes + 20 ≤ 4096 }
+    requires { length line.bytes + 20 ≤ ROOM }
     ensures { result ≡ record line.entry { bytes = line.entry.bytes ++ type_text mtype } }
 {
     line.push(type_word(mtype)).push(b" ")
@@ -77,7 +83,7 @@ fn push_type<'c>(line: Line<'c>, mtype: MessageType) -> Line<'c>
 
 #[tactic(auto, unfolding(crate::specs::Line::sequence_text))]
 fn push_sequence<'c>(line: Line<'c>, seq: i32) -> Line<'c>
-    requires { length line.bytes + 50 ≤ 4096 }
+    requires { length line.bytes + 50 ≤ ROOM }
     ensures { result ≡ record line.entry { bytes = line.entry.bytes ++ sequence_text seq } }
 {
     push_number(line.push(b" "), seq).push(b" (")
@@ -93,10 +99,13 @@ fn tell_body<'c, 'f, R: WireRead<'f> + Events, O: Sink>(
 ) -> (Line<'c>, Checked)
     requires known { IfSome body (λ s. s.0 < length schema.now.structs) }
     requires begins { R.nest reader.old ≡ Fields (pos 0) ∷ [] }
-    ensures found { (told : List ℕ) → IsChecked result.1 (after_body (source_of R.begun R.reads_head R.reads R.reads_end R.value_place R.ahead) (body_from (source_of R.begun R.reads_head R.reads R.reads_end R.value_place R.ahead) reader.old (start schema.now body) told)) }
-    ensures told { (from : Output) (text : List ℕ) (end : Going R Position Place)
-        → body_from (source_of R.begun R.reads_head R.reads R.reads_end R.value_place R.ahead) reader.old (start schema.now body) text ≡ Ok end
-        → Told from (output (O.written out.old) (O.faults out.old)) line.entry text → Told from (output (O.written out.new) (O.faults out.new)) result.0 end.bytes }
+    ensures found { let source = source_of R.begun R.reads_head R.reads R.reads_end R.value_place R.ahead in
+        (told : List ℕ) → IsChecked result.1 (after_body source (body_from source reader.old (start schema.now body) told)) }
+    ensures told { let source = source_of R.begun R.reads_head R.reads R.reads_end R.value_place R.ahead in
+        let old = output (O.written out.old) (O.faults out.old) in
+        let new = output (O.written out.new) (O.faults out.new) in
+        (from : Output) (text : List ℕ) (end : Going R Position Place) → body_from source reader.old (start schema.now body) text ≡ Ok end
+        → Told from old line.entry text → Told from new result.0 end.bytes }
 {
     let (line, told) = tell_level(reader, schema, body_level(body), line, out);
     match told {
@@ -131,21 +140,25 @@ fn tell_level<'c, R: Events, O: Sink>(
 ) -> (Line<'c>, Result<(), Fault>)
     requires open { 0 < R.depth reader.old }
     requires known { IsKnownLevel schema.now known }
-    ensures turned { (up : List Level) → R.depth reader.old ≡ suc (length up) → Turned (source_of R.begun R.reads_head R.reads R.reads_end R.value_place R.ahead) R.nest result.1
-        (standing reader.old (open_at schema.now (known ∷ up)) true) (λ u. standing reader.new (open_at schema.now up) false)
-        (output (O.written out.old) (O.faults out.old)) line.entry (output (O.written out.new) (O.faults out.new)) result.0 }
+    ensures turned { let source = source_of R.begun R.reads_head R.reads R.reads_end R.value_place R.ahead in
+        let old = output (O.written out.old) (O.faults out.old) in
+        let new = output (O.written out.new) (O.faults out.new) in
+        (up : List Level) → R.depth reader.old ≡ suc (length up) →
+        let before = standing reader.old (open_at schema.now (known ∷ up)) true in
+        let after = standing reader.new (open_at schema.now up) false in
+        Turned source R.nest result.1 before (λ u. after) old line.entry new result.0 }
     ensures depth { IfOk result.1 (λ u. R.depth reader.old ≡ suc (R.depth reader.new)) }
     ensures falls { IfOk result.1 (λ u. R.ahead reader.new < R.ahead reader.old) }
 {
-    let mut here = Here::inside(known);
+    let mut here = OpenLevel::inside(known);
     let mut line = line;
     'turns: loop {
         let (told, turned) = event(reader, schema, &mut here, line, out);
         line = told;
         match turned {
-            Ok(turn) => match turn {
-                Turn::Open => {}
-                Turn::Opened(inner) => {
+            Ok(step) => match step {
+                LevelStep::Open => {}
+                LevelStep::Opened(inner) => {
                     let (told, ended) = tell_level(reader, schema, inner, line, out);
                     line = told;
                     match ended {
@@ -153,7 +166,7 @@ fn tell_level<'c, R: Events, O: Sink>(
                         Err(fault) => return (line, Err(by_fields(&fault))),
                     }
                 }
-                Turn::Closed => return (line, Ok(())),
+                LevelStep::Closed => return (line, Ok(())),
             },
             Err(fault) => return (line, Err(by_fields(&fault))),
         }
@@ -165,19 +178,23 @@ fn tell_level<'c, R: Events, O: Sink>(
 fn event<'c, R: Events, O: Sink>(
     reader: &mut R,
     schema: &Schema,
-    here: &mut Here,
+    here: &mut OpenLevel,
     line: Line<'c>,
     out: &mut O,
-) -> (Line<'c>, Result<Turn, Fault>)
+) -> (Line<'c>, Result<LevelStep, Fault>)
     requires open { 0 < R.depth reader.old }
     requires sound { IsSound schema.now here.old }
-    ensures turned { (up : List Level) → R.depth reader.old ≡ suc (length up) → Turned (source_of R.begun R.reads_head R.reads R.reads_end R.value_place R.ahead) R.nest result.1
-        (standing reader.old (at schema.now here.old up) here.old.first) (λ turn. standing reader.new (behind schema.now turn here.new up) (begins turn here.new))
-        (output (O.written out.old) (O.faults out.old)) line.entry (output (O.written out.new) (O.faults out.new)) result.0 }
-    ensures depth { IfOk result.1 (λ turn. R.depth reader.new ≡ depth_behind turn (R.depth reader.old)) }
-    ensures sound { IfOk result.1 (λ turn. IsSound schema.now here.new) }
-    ensures spent { IfOk result.1 (λ turn. IsSpent schema.now turn here.new) }
-    ensures falls { IfOk result.1 (λ turn. R.ahead reader.new < R.ahead reader.old) }
+    ensures turned { let source = source_of R.begun R.reads_head R.reads R.reads_end R.value_place R.ahead in
+        let old = output (O.written out.old) (O.faults out.old) in
+        let new = output (O.written out.new) (O.faults out.new) in
+        (up : List Level) → R.depth reader.old ≡ suc (length up) →
+        let before = standing reader.old (at schema.now here.old up) here.old.first in
+        let after = λ (step : LevelStep). standing reader.new (behind schema.now step here.new up) (begins step here.new) in
+        Turned source R.nest result.1 before after old line.entry new result.0 }
+    ensures depth { IfOk result.1 (λ step. R.depth reader.new ≡ depth_behind step (R.depth reader.old)) }
+    ensures sound { IfOk result.1 (λ step. IsSound schema.now here.new) }
+    ensures spent { IfOk result.1 (λ step. IsSpent schema.now step here.new) }
+    ensures falls { IfOk result.1 (λ step. R.ahead reader.new < R.ahead reader.old) }
 {
     let Some(level) = reader.innermost() else {
         unreachable!()
@@ -190,10 +207,10 @@ fn event<'c, R: Events, O: Sink>(
             Event::Field(id, kind) => {
                 let found = here.announce(schema, id, kind);
                 let line = tell_field(level, first, id, found, kind, line, out);
-                (line, Ok(Turn::Open))
+                (line, Ok(LevelStep::Open))
             }
-            Event::Stop => (line.push_byte(b')'), Ok(Turn::Closed)),
-            Event::End => (line.push_byte(closing(level)), Ok(Turn::Closed)),
+            Event::Stop => (line.push_byte(b')'), Ok(LevelStep::Closed)),
+            Event::End => (line.push_byte(closing(level)), Ok(LevelStep::Closed)),
             Event::StructBegin => {
                 let line = push_lead(line, level, first).push_byte(b'(');
                 (line, Ok(here.open(in_struct(next))))
@@ -213,7 +230,7 @@ fn event<'c, R: Events, O: Sink>(
             _ => {
                 let line = tell_value(&event, push_lead(line, level, first), out);
                 here.spend();
-                (line, Ok(Turn::Open))
+                (line, Ok(LevelStep::Open))
             }
         },
         Err(fault) => (line, Err(by_fields(&fault))),

@@ -2,7 +2,7 @@
 ghost use Rattle.std.specs.Prelude.{◌≡◌, ◌+◌, ◌*◌, ◌≤◌, ◌<◌, ◌++◌, ◌∷◌, [], length, flat_map, codes};
 ghost use Rattle.message_show.specs.Texts.{is_plain, kind_word, type_word, bool_word, upper_digit, lower_digit, upper_byte, lower_byte, double_text, dashed, uuid_text};
 
-use crate::line::Line;
+use crate::line::{Line, NUMBER_ROOM, ROOM};
 use itoa::{Buffer, Integer};
 use thrift_value::{Kind, MessageType};
 
@@ -54,9 +54,9 @@ pub fn bool_word(value: bool) -> &'static [u8]
 /// Appends a number in digits.
 #[inline(always)]
 pub fn push_number<'c, I: Integer>(line: Line<'c>, number: I) -> Line<'c>
-    requires { length line.bytes + 40 ≤ 4096 }
+    requires { length line.bytes + NUMBER_ROOM ≤ ROOM }
     ensures text { result ≡ record line.entry { bytes = line.entry.bytes ++ I.text number } }
-    ensures short { length result.bytes ≤ length line.entry.bytes + 40 }
+    ensures short { length result.bytes ≤ length line.entry.bytes + NUMBER_ROOM }
 {
     let mut digits = Buffer::new();
     line.push(digits.format(number).as_bytes())
@@ -101,14 +101,14 @@ fn lower_digit(n: u8) -> u8
 /// Appends a double.
 #[tactic(auto, unfolding(crate::specs::Texts::double_text))]
 pub fn push_double<'c>(line: Line<'c>, bytes: &[u8; 8]) -> Line<'c>
-    requires { length line.bytes + 18 ≤ 4096 }
+    requires { length line.bytes + 18 ≤ ROOM }
     ensures { result ≡ record line.entry { bytes = line.entry.bytes ++ double_text bytes.now } }
 {
     push_upper(line.push(b"0x"), bytes)
 }
 
 fn push_upper<'c>(line: Line<'c>, bytes: &[u8]) -> Line<'c>
-    requires { length line.bytes + 2 * length bytes.now ≤ 4096 }
+    requires { length line.bytes + 2 * length bytes.now ≤ ROOM }
     ensures { result ≡ record line.entry { bytes = line.entry.bytes ++ flat_map upper_byte bytes.now } }
 {
     let mut line = line;
@@ -121,7 +121,7 @@ fn push_upper<'c>(line: Line<'c>, bytes: &[u8]) -> Line<'c>
 /// Appends a uuid.
 #[tactic(auto, unfolding(crate::specs::Texts::uuid_text))]
 pub fn push_uuid<'c>(line: Line<'c>, bytes: [u8; 16]) -> Line<'c>
-    requires { length line.bytes + 36 ≤ 4096 }
+    requires { length line.bytes + 36 ≤ ROOM }
     ensures { result ≡ record line.entry { bytes = line.entry.bytes ++ uuid_text bytes } }
 {
     let line = push_dashed(line, &bytes[..4]);
@@ -133,7 +133,7 @@ pub fn push_uuid<'c>(line: Line<'c>, bytes: [u8; 16]) -> Line<'c>
 
 #[tactic(auto, unfolding(crate::specs::Texts::dashed))]
 fn push_dashed<'c>(line: Line<'c>, bytes: &[u8]) -> Line<'c>
-    requires { length line.bytes + 2 * length bytes.now + 1 ≤ 4096 }
+    requires { length line.bytes + 2 * length bytes.now + 1 ≤ ROOM }
     ensures text { result ≡ record line.entry { bytes = line.entry.bytes ++ dashed bytes.now } }
     ensures short { length result.bytes ≡ length line.entry.bytes + 2 * length bytes.now + 1 }
 {
@@ -141,7 +141,7 @@ fn push_dashed<'c>(line: Line<'c>, bytes: &[u8]) -> Line<'c>
 }
 
 fn push_lower<'c>(line: Line<'c>, bytes: &[u8]) -> Line<'c>
-    requires { length line.bytes + 2 * length bytes.now ≤ 4096 }
+    requires { length line.bytes + 2 * length bytes.now ≤ ROOM }
     ensures text { result ≡ record line.entry { bytes = line.entry.bytes ++ flat_map lower_byte bytes.now } }
     ensures short { length result.bytes ≡ length line.entry.bytes + 2 * length bytes.now }
 {

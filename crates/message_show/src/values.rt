@@ -9,9 +9,9 @@ ghost use Rattle.message_show.specs.Texts.{is_plain, upper_byte, byte_text, quot
 ghost use Rattle.message_show.specs.Line.{value_text, mark_before, closing, item_text, field_name, field_text, name_text, kind_text, map_text, list_text};
 ghost use Rattle.message_show.specs.Pieces.{Tells, output};
 
-use crate::here::{Here, Turn};
 use crate::levels::{closing, push_lead};
-use crate::line::{Line, SPARE};
+use crate::line::{EVENT_ROOM, Line, NUMBER_ROOM, ROOM, SPARE};
+use crate::open_level::{LevelStep, OpenLevel};
 use crate::texts::{bool_word, kind_word, push_double, push_number, push_uuid};
 use gate_io::Sink;
 use protocol_traits::Slot;
@@ -25,8 +25,10 @@ const PIECE: usize = 512;
 #[inline(always)]
 #[tactic(auto, unfolding(crate::specs::Line::struct_text, crate::specs::Line::empty_map_text), using(crate::proofs::Told::tells_behind))]
 pub fn tell_value<'c, O: Sink>(event: &Event<'_>, line: Line<'c>, out: &mut O) -> Line<'c>
-    requires { length line.bytes + 120 ≤ 4096 }
-    ensures told { Tells (output (O.written out.old) (O.faults out.old)) line.entry (output (O.written out.new) (O.faults out.new)) result (value_text (item_of event.now)) }
+    requires { length line.bytes + EVENT_ROOM ≤ ROOM }
+    ensures told { let old = output (O.written out.old) (O.faults out.old) in
+        let new = output (O.written out.new) (O.faults out.new) in
+        Tells old line.entry new result (value_text (item_of event.now)) }
 {
     match *event {
         Event::Bool(value) => line.push(bool_word(value)),
@@ -52,7 +54,7 @@ pub fn tell_value<'c, O: Sink>(event: &Event<'_>, line: Line<'c>, out: &mut O) -
 
 #[tactic(auto, unfolding(crate::specs::Line::map_text))]
 pub fn push_map<'c>(line: Line<'c>, key: Kind, value: Kind) -> Line<'c>
-    requires { length line.bytes + 120 ≤ 4096 }
+    requires { length line.bytes + EVENT_ROOM ≤ ROOM }
     ensures { result ≡ record line.entry { bytes = line.entry.bytes ++ map_text key value } }
 {
     line.push(b"{")
@@ -64,7 +66,7 @@ pub fn push_map<'c>(line: Line<'c>, key: Kind, value: Kind) -> Line<'c>
 
 #[tactic(auto, unfolding(crate::specs::Line::list_text))]
 pub fn push_list<'c>(line: Line<'c>, kind: Kind) -> Line<'c>
-    requires { length line.bytes + 120 ≤ 4096 }
+    requires { length line.bytes + EVENT_ROOM ≤ ROOM }
     ensures { result ≡ record line.entry { bytes = line.entry.bytes ++ list_text kind } }
 {
     line.push(b"[").push(kind_word(kind)).push(b"| ")
@@ -81,8 +83,10 @@ pub fn tell_field<'c, O: Sink>(
     line: Line<'c>,
     out: &mut O,
 ) -> Line<'c>
-    requires { length line.bytes + SPARE ≤ 4096 }
-    ensures told { Tells (output (O.written out.old) (O.faults out.old)) line.entry (output (O.written out.new) (O.faults out.new)) result
+    requires { length line.bytes + SPARE ≤ ROOM }
+    ensures told { let old = output (O.written out.old) (O.faults out.old) in
+        let new = output (O.written out.new) (O.faults out.new) in
+        Tells old line.entry new result
         (mark_before first (Some level) ++ field_text id (field_name (option_copied field.entry)) kind) }
 {
     let line = tell_number(id, field, push_lead(line, level, first), out);
@@ -97,8 +101,10 @@ fn tell_number<'c, O: Sink>(
     line: Line<'c>,
     out: &mut O,
 ) -> Line<'c>
-    requires { length line.bytes + 120 ≤ 4096 }
-    ensures told { Tells (output (O.written out.old) (O.faults out.old)) line.entry (output (O.written out.new) (O.faults out.new)) result
+    requires { length line.bytes + EVENT_ROOM ≤ ROOM }
+    ensures told { let old = output (O.written out.old) (O.faults out.old) in
+        let new = output (O.written out.new) (O.faults out.new) in
+        Tells old line.entry new result
         (signed_decimal id ++ name_text (field_name (option_copied field.entry))) }
 {
     match short_name(id, field, &line) {
@@ -112,7 +118,7 @@ fn tell_number<'c, O: Sink>(
 fn short_name<'n>(id: i16, field: Option<&'n FieldInfo>, line: &Line<'_>) -> Option<(u8, &'n [u8])>
     ensures digit { IfSome result (λ r. signed_decimal id ≡ r.0 ∷ []) }
     ensures name { IfSome result (λ r. field_name (option_copied field.entry) ≡ Some r.1.now) }
-    ensures fits { IfSome result (λ r. length line.now.bytes + (length r.1.now + 2) ≤ 4096) }
+    ensures fits { IfSome result (λ r. length line.now.bytes + (length r.1.now + 2) ≤ ROOM) }
 {
     let digit = one_digit(id)?;
     let name = field?.name.as_slice();
@@ -126,9 +132,9 @@ fn short_name<'n>(id: i16, field: Option<&'n FieldInfo>, line: &Line<'_>) -> Opt
 /// Appends a field's id. Most ids are small.
 #[inline(always)]
 fn push_id<'c>(line: Line<'c>, id: i16) -> Line<'c>
-    requires { length line.bytes + 40 ≤ 4096 }
+    requires { length line.bytes + NUMBER_ROOM ≤ ROOM }
     ensures text { result ≡ record line.entry { bytes = line.entry.bytes ++ signed_decimal id } }
-    ensures short { length result.bytes ≤ length line.entry.bytes + 40 }
+    ensures short { length result.bytes ≤ length line.entry.bytes + NUMBER_ROOM }
 {
     match one_digit(id) {
         Some(digit) => line.push_byte(digit),
@@ -155,7 +161,7 @@ fn one_digit(id: i16) -> Option<u8>
 #[inline(always)]
 #[tactic(auto, unfolding(crate::specs::Line::kind_text, crate::specs::Texts::kind_word))]
 fn push_kind<'c>(line: Line<'c>, kind: Kind) -> Line<'c>
-    requires { length line.bytes + 120 ≤ 4096 }
+    requires { length line.bytes + EVENT_ROOM ≤ ROOM }
     ensures { result ≡ record line.entry { bytes = line.entry.bytes ++ kind_text kind } }
 {
     match kind {
@@ -177,8 +183,10 @@ fn push_kind<'c>(line: Line<'c>, kind: Kind) -> Line<'c>
 /// Tells a colon and the name of a field, where it is declared.
 #[inline(always)]
 fn tell_name<'c, O: Sink>(field: Option<&FieldInfo>, line: Line<'c>, out: &mut O) -> Line<'c>
-    requires { length line.bytes + 1 ≤ 4096 }
-    ensures told { Tells (output (O.written out.old) (O.faults out.old)) line.entry (output (O.written out.new) (O.faults out.new)) result
+    requires { length line.bytes + 1 ≤ ROOM }
+    ensures told { let old = output (O.written out.old) (O.faults out.old) in
+        let new = output (O.written out.new) (O.faults out.new) in
+        Tells old line.entry new result
         (name_text (field_name (option_copied field.entry))) }
 {
     match field {
@@ -190,7 +198,9 @@ fn tell_name<'c, O: Sink>(field: Option<&FieldInfo>, line: Line<'c>, out: &mut O
 /// Tells a string between quotes.
 #[tactic(auto, unfolding(crate::specs::Texts::quoted))]
 pub fn tell_string<'c, O: Sink>(bytes: &[u8], line: Line<'c>, out: &mut O) -> Line<'c>
-    ensures told { Tells (output (O.written out.old) (O.faults out.old)) line.entry (output (O.written out.new) (O.faults out.new)) result (quoted bytes.now) }
+    ensures told { let old = output (O.written out.old) (O.faults out.old) in
+        let new = output (O.written out.new) (O.faults out.new) in
+        Tells old line.entry new result (quoted bytes.now) }
 {
     if line.has_room_for(bytes.len()) {
         line.push_byte(b'"').push_printed(bytes).push_byte(b'"')
@@ -203,7 +213,9 @@ pub fn tell_string<'c, O: Sink>(bytes: &[u8], line: Line<'c>, out: &mut O) -> Li
 #[inline(never)]
 #[tactic(auto, unfolding(crate::specs::Texts::quoted))]
 fn tell_long<'c, O: Sink>(bytes: &[u8], line: Line<'c>, out: &mut O) -> Line<'c>
-    ensures told { Tells (output (O.written out.old) (O.faults out.old)) line.entry (output (O.written out.new) (O.faults out.new)) result (quoted bytes.now) }
+    ensures told { let old = output (O.written out.old) (O.faults out.old) in
+        let new = output (O.written out.new) (O.faults out.new) in
+        Tells old line.entry new result (quoted bytes.now) }
 {
     let line = tell_bytes(bytes, line.make_room(out).push_byte(b'"'), out);
     line.make_room(out).push_byte(b'"')
@@ -211,7 +223,9 @@ fn tell_long<'c, O: Sink>(bytes: &[u8], line: Line<'c>, out: &mut O) -> Line<'c>
 
 /// Tells the bytes of a string, piece by piece.
 fn tell_bytes<'c, O: Sink>(bytes: &[u8], line: Line<'c>, out: &mut O) -> Line<'c>
-    ensures told { Tells (output (O.written out.old) (O.faults out.old)) line.entry (output (O.written out.new) (O.faults out.new)) result (flat_map byte_text bytes.now) }
+    ensures told { let old = output (O.written out.old) (O.faults out.old) in
+        let new = output (O.written out.new) (O.faults out.new) in
+        Tells old line.entry new result (flat_map byte_text bytes.now) }
 {
     let mut line = line;
     let mut at = 0;
@@ -226,7 +240,9 @@ fn tell_bytes<'c, O: Sink>(bytes: &[u8], line: Line<'c>, out: &mut O) -> Line<'c
 /// Tells so few bytes that they fit where nothing waits.
 fn tell_piece<'c, O: Sink>(bytes: &[u8], line: Line<'c>, out: &mut O) -> Line<'c>
     requires { length bytes.now ≤ PIECE }
-    ensures told { Tells (output (O.written out.old) (O.faults out.old)) line.entry (output (O.written out.new) (O.faults out.new)) result (flat_map byte_text bytes.now) }
+    ensures told { let old = output (O.written out.old) (O.faults out.old) in
+        let new = output (O.written out.new) (O.faults out.new) in
+        Tells old line.entry new result (flat_map byte_text bytes.now) }
 {
     if line.has_room_for(bytes.len()) {
         line.push_printed(bytes)

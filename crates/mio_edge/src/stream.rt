@@ -39,6 +39,8 @@ impl Source for Incoming<'_> {
         self.faults = self.faults.saturating_add(1);
         Got::Failed
     }
+
+    ghost bytes = { λ _. tt };
 }
 
 /// Reads once into all the room of a buffer.

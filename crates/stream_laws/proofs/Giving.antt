@@ -1,7 +1,7 @@
 -- What each frame gives, and what all of them give.
-use Rattle.std.proofs.Common.{◌≡◌, ℕ, true, false, List, [], ◌∷◌, refl, ap, ◌∙◌, sym, inl, inr}
+use Rattle.std.proofs.Common.{◌≡◌, ℕ, ◌<◌, true, false, List, [], ◌∷◌, refl, ap, ◌∙◌, sym, inl, inr}
 use Rattle.std.specs.List.{flat_map}
-use Rattle.thrift_value.specs.Trees.{Message}
+use Rattle.thrift_value.specs.Trees.{Message, depth_of_members}
 use Rattle.protocol_traits.specs.declared.fault.Fault.{Fault}
 use Rattle.protocol_traits.specs.declared.proto.Proto.{Proto}
 use Rattle.protocol_traits.specs.declared.proto.Proto.TheVariants as protocols
@@ -9,12 +9,16 @@ use Rattle.type_tables.specs.Declarations.{Declarations}
 use Rattle.translate_core.specs.declared.route.Route.{Route}
 use Rattle.translate_core.specs.declared.route.Route.TheVariants.{ByName}
 use Rattle.protocol_traits.specs.Heads.{Header}
-use Rattle.translate_core.specs.Judged.{Judged}
+use Rattle.translate_core.specs.declared.verdict.Cause.{Cause}
+use Rattle.translate_core.specs.declared.verdict.HeadInfo.{HeadInfo}
+use Rattle.translate_core.specs.declared.verdict.Verdict.TheVariants.{Refused}
+use Rattle.translate_core.specs.Judged.{Judged, judged}
 use Rattle.framed_transport.specs.Frames.{framed}
 use Rattle.binary_laws.specs.Bytes.{AreBytes}
+use Rattle.verdict_laws.specs.Bars.{Spot}
 use Rattle.verdict_laws.specs.Rounds.{SpellsIn, plain_in}
 use Rattle.verdict_laws.specs.Verdicts.{IsPlain, IsVerdict}
-use Rattle.verdict_laws.specs.Verdicts.IsVerdict.{Passes, IsFaulty, IsUnread}
+use Rattle.verdict_laws.specs.Verdicts.IsVerdict.{Passes, IsBarred, IsFaulty, IsUnread}
 use Rattle.verdict_laws.proofs.Faulted.{binary_told, compact_told}
 use Rattle.verdict_laws.proofs.Round.{round}
 use Rattle.gate_run.specs.declared.doing.Doing.TheVariants.{Convert}
@@ -26,10 +30,10 @@ use Rattle.stream_laws.specs.Streams.{Gives, GiveAll, AreFrames}
 written : (k : Terms) (from to : Proto) (frame : List ℕ) → k.doing ≡ Convert from to → output_of k frame ≡ bytes_of (translated (judged_by k from to frame))
 written k from to frame e = ap (λ doing. bytes_of (treated_by k doing frame)) e
 
-is_plain : (to : Proto) (d : Declarations) (route : Route) (m : Message) (bytes : List ℕ) → IsPlain to d route m bytes → bytes ≡ plain_in to d route m
-is_plain protocols.Binary d route m bytes e = e
-is_plain protocols.Compact d route m bytes e = e
-is_plain protocols.Json d route m bytes e = absurd e
+is_plain : (to : Proto) (d : Declarations) (route : Route) (m : Message) (bytes : List ℕ) → (to ≡ protocols.Json → ⊥) → IsPlain to d route m bytes → bytes ≡ plain_in to d route m
+is_plain protocols.Binary d route m bytes other e = e
+is_plain protocols.Compact d route m bytes other e = e
+is_plain protocols.Json d route m bytes other e = absurd (other refl)
 
 no_pass : (j : Judged) (i : Judged) → j ≡ i → is_passed (translated i) ≡ false → (p : Judged) → j ≡ p → is_passed (translated p) ≡ true → ⊥
 no_pass j i a none p b some = let wrong : false ≡ true = sym none ∙ ap (λ x. is_passed (translated x)) (sym a ∙ b) ∙ some in absurd (cc)
@@ -43,16 +47,21 @@ module _ (k : Terms) (from to : Proto) (frame : List ℕ) (doing : k.doing ≡ C
         written k from to frame doing ∙ ap (λ x. bytes_of (translated x)) e ∙ empty,
       )
 
-  by_verdict : (SpellsHead : Header → List ℕ → Type 0) (FaultAt : List ℕ → Fault → Type 0) → IsVerdict SpellsHead (SpellsIn from) FaultAt k.declarations (ByName k.service) to frame (judged_by k from to frame)
+  -- between protocols that hold each message none is barred
+  never_barred : (m : Message) (info : HeadInfo) (cause : Cause) → SpellsIn from m frame → depth_of_members m.body < 256 → judged_by k from to frame ≡ judged (Refused info cause) [] → ⊥
+  never_barred m info cause spells deep e = no_pass (judged_by k from to frame) _ e refl _ (round k.declarations (ByName k.service) from to m frame spells deep other).goes refl
+
+  by_verdict : (SpellsHead : Header → List ℕ → Type 0) (FaultAt : List ℕ → Fault → Type 0) (Place : Message → List ℕ → Spot → ℕ → Type 0) → IsVerdict SpellsHead (SpellsIn from) FaultAt Place k.declarations (ByName k.service) to frame (judged_by k from to frame)
       → Gives k from to frame (output_of k frame)
-  by_verdict SpellsHead FaultAt (Passes m bytes spells deep plain e) =
-      inl (m, spells, deep, written k from to frame doing ∙ ap (λ x. bytes_of (translated x)) e ∙ ap framed (is_plain to k.declarations (ByName k.service) m bytes plain))
-  by_verdict SpellsHead FaultAt (IsFaulty header front rest f laid head stands e) = none_given _ e refl refl
-  by_verdict SpellsHead FaultAt (IsUnread f none stands e) = none_given _ e refl refl
+  by_verdict SpellsHead FaultAt Place (IsBarred m spot place bar spells deep first at e) = absurd (never_barred m _ _ spells deep e)
+  by_verdict SpellsHead FaultAt Place (Passes m bytes spells deep holds plain e) =
+      inl (m, spells, deep, written k from to frame doing ∙ ap (λ x. bytes_of (translated x)) e ∙ ap framed (is_plain to k.declarations (ByName k.service) m bytes other plain))
+  by_verdict SpellsHead FaultAt Place (IsFaulty header front rest f laid head stands e) = none_given _ e refl refl
+  by_verdict SpellsHead FaultAt Place (IsUnread f none stands e) = none_given _ e refl refl
 
 given : (k : Terms) (from to : Proto) (frame : List ℕ) → AreBytes frame → k.doing ≡ Convert from to → (from ≡ protocols.Json → ⊥) → (to ≡ protocols.Json → ⊥) → Gives k from to frame (output_of k frame)
-given k protocols.Binary to frame are doing first other = by_verdict k protocols.Binary to frame doing other _ _ (binary_told k.declarations (ByName k.service) to frame are other)
-given k protocols.Compact to frame are doing first other = by_verdict k protocols.Compact to frame doing other _ _ (compact_told k.declarations (ByName k.service) to frame are other)
+given k protocols.Binary to frame are doing first other = by_verdict k protocols.Binary to frame doing other _ _ _ (binary_told k.declarations (ByName k.service) to frame are)
+given k protocols.Compact to frame are doing first other = by_verdict k protocols.Compact to frame doing other _ _ _ (compact_told k.declarations (ByName k.service) to frame are)
 given k protocols.Json to frame are doing first other = absurd (first refl)
 
 pub all_given : (k : Terms) (from to : Proto) (frames : List (List ℕ)) → AreFrames frames → k.doing ≡ Convert from to → (from ≡ protocols.Json → ⊥) → (to ≡ protocols.Json → ⊥) → GiveAll k from to frames (flat_map (output_of k) frames)

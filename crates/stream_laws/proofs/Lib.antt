@@ -1,1 +1,4 @@
 pub mod Giving
+pub mod Sessions
+pub mod Covering
+pub mod Words

@@ -1,2 +1,4 @@
 -- What a stream gives in the words of the grammars.
 pub mod Streams
+pub mod Sessions
+pub mod Covering

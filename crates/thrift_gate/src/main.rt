@@ -8,10 +8,16 @@ use gate_run::run;
 use mio_edge::MioHub;
 use std::alloc::Global;
 use std::env::Env;
+use std::fs::File;
+use std::io;
 use std::process::ExitCode;
+use std::rt::Files;
 
 /// The longest word that the system hands to a program, in bytes.
 const LONGEST_WORD: usize = 131_072;
+
+/// A folder that is always there.
+const FOLDER: &str = "/";
 
 /// The exit code where memory is wanted.
 const NO_MEMORY: u8 = 9;
@@ -28,6 +34,7 @@ fn main(rt: HostRuntime) -> ExitCode {
 
 // Runs the command over the files of the disk and the real sockets.
 fn run_words(rt: &HostRuntime) -> Result<u8, OutOfMemory> {
+    let _held = hold_streams(rt);
     let alloc = rt.alloc();
     let words = read_words(rt, alloc)?;
     let mut files = DiskFiles::new(rt);
@@ -45,6 +52,16 @@ fn run_words(rt: &HostRuntime) -> Result<u8, OutOfMemory> {
         &mut hub,
     );
     Ok(status.code)
+}
+
+// Opens a folder once for each standard stream, so that one that was closed has it: to read it or to write to it is a fault.
+// Else a socket would take its place, and a session's line would be sent to a peer.
+fn hold_streams<R: Files>(rt: &R) -> [io::Result<R::File>; 3] {
+    [
+        File::open(rt, FOLDER),
+        File::open(rt, FOLDER),
+        File::open(rt, FOLDER),
+    ]
 }
 
 // The words behind the program's name.

@@ -1,11 +1,4 @@
--- Values and events as clauses see them.
-pub mod Bodies
-pub mod Coding
-pub mod Counts
-pub mod Gathering
+-- Kinds, events and trees as clauses see them.
 pub mod Items
-pub mod Sizes
-pub mod Stands
-pub mod Telling
+pub mod Kinds
 pub mod Trees
-pub mod Views

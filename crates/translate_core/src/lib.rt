@@ -20,6 +20,6 @@ mod verdict;
 pub use answering::answer;
 pub use laws::an_answer_is_a_declared_failure;
 pub use message::{head_type, translate, translate_quickly};
-pub use route::Route;
+pub use route::{Route, body_struct};
 pub use texts::{bar_text, reason_text};
 pub use verdict::{Cause, HeadInfo, Verdict};

@@ -50,6 +50,15 @@ pub(crate) fn told_of(schema: &Schema, route: Route, head: &Head<'_>) -> Told
     }
 }
 
+/// The struct of a message's body, where it is known.
+pub fn body_struct(schema: &Schema, route: Route, head: &Head<'_>) -> Option<StructId>
+    requires { IsKnownRoute schema.now route }
+    ensures value { result ≡ body_of schema.now route (header_of head.now) }
+    ensures known { IfSome result (λ s. s.0 < length schema.now.structs) }
+{
+    told_of(schema, route, head).body
+}
+
 fn info_of(head: &Head<'_>, method: Option<MethodInfo>) -> HeadInfo
     ensures { result ≡ record { mtype = head.now.mtype; seq = head.now.seq; method = method } }
 {

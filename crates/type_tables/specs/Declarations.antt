@@ -1,5 +1,5 @@
 -- What a schema is seen as: the lists of what is declared.
-use Rattle.std.specs.Prelude.{ℕ, ℤ, List, [], ◌∷◌, ◌++◌, length, Option}
+use Rattle.std.specs.Prelude.{ℕ, ℤ, ◌<◌, ◌+◌, ◌^◌, List, [], ◌∷◌, ◌++◌, length, Option}
 use Rattle.type_tables.specs.declared.declared.FieldInfo.{FieldInfo}
 use Rattle.type_tables.specs.declared.declared.Form.{Form}
 use Rattle.type_tables.specs.declared.declared.MethodInfo.{MethodInfo}
@@ -19,6 +19,13 @@ pub record Declarations : Type 0 where
   pub services : List ServiceDecl
   pub names : List (List ℕ × ServiceId)
   pub files : ℕ
+
+-- there is room for one more of each kind of things
+pub record HasRoom (d : Declarations) : Type 0 where
+  pub types : length d.types + 1 < 2 ^ 32
+  pub enums : length d.enums + 1 < 2 ^ 32
+  pub structs : length d.structs + 1 < 2 ^ 32
+  pub services : length d.services + 1 < 2 ^ 32
 
 abbrev pub nothing : Declarations
 nothing = record { types = []; enums = []; structs = []; services = []; names = []; files = 0 }

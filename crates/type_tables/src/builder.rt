@@ -1,7 +1,7 @@
 //! What builds a schema: each thing is added with the number that it then has.
 ghost use Rattle.std.specs.Prelude.{◌≡◌, ◌↔◌, IsTrue, ◌<◌, ◌+◌, ◌^◌, IfOk, OnOk, OnErr, length};
 ghost use Rattle.type_tables.specs.Adding.{Adds};
-ghost use Rattle.type_tables.specs.Declarations.{with_type, with_enum, with_struct, with_fields, with_field, with_service, with_method, with_files};
+ghost use Rattle.type_tables.specs.Declarations.{HasRoom, nothing, with_type, with_enum, with_struct, with_fields, with_field, with_service, with_method, with_files};
 ghost use Rattle.type_tables.specs.Fields.{place_of};
 ghost use Rattle.type_tables.specs.Known.{built_in, IsClosed, IsAcyclic};
 ghost use Rattle.type_tables.specs.Names.{name_place};
@@ -28,7 +28,7 @@ pub struct SchemaBuilder {
 }
 
 impl Model for SchemaBuilder {
-    ghost use Rattle.type_tables.specs.Declarations.{Declarations};
+    ghost use Rattle.type_tables.specs.Declarations.{HasRoom, Declarations};
     ghost use Rattle.type_tables.specs.Known.{IsBuilt};
 
     ghost Value = { Declarations };
@@ -44,15 +44,7 @@ impl SchemaBuilder {
         ensures { IfOk result (λ b. b ≡ built_in) }
     {
         let mut tables = Tables::new(alloc);
-        let failure = tables.add_struct(alloc, Form::Exception)?;
-        let message = field(1, Text::new(alloc, b"message")?, Ty::Text);
-        if tables.add_field(failure, message).is_err() {
-            return Err(OutOfMemory);
-        }
-        let kind = field(2, Text::new(alloc, b"type")?, Ty::I32);
-        if tables.add_field(failure, kind).is_err() {
-            return Err(OutOfMemory);
-        }
+        declare_failure(alloc, &mut tables)?;
         Ok(SchemaBuilder { alloc, tables })
     }
 
@@ -66,7 +58,7 @@ impl SchemaBuilder {
         self.tables.add_type(t)
     }
 
-    /// Adds a struct without fields.
+    /// Adds a struct without fields, and tells the number that it takes.
     pub fn slot(&mut self, form: Form) -> Result<StructId, OutOfMemory>
         requires { length self.old.structs + 1 < 2 ^ 32 }
         ensures number { IfOk result (λ id. id.0 ≡ length self.old.structs) }
@@ -137,7 +129,7 @@ impl SchemaBuilder {
         ensures enums { IsTrue result → length self.now.enums + 1 < 2 ^ 32 }
         ensures structs { IsTrue result → length self.now.structs + 1 < 2 ^ 32 }
         ensures services { IsTrue result → length self.now.services + 1 < 2 ^ 32 }
-        ensures full { length self.now.types + 1 < 2 ^ 32 → length self.now.enums + 1 < 2 ^ 32 → length self.now.structs + 1 < 2 ^ 32 → length self.now.services + 1 < 2 ^ 32 → IsTrue result }
+        ensures full { HasRoom self.now → IsTrue result }
     {
         self.tables.has_room()
     }
@@ -166,8 +158,8 @@ impl SchemaBuilder {
     /// Whether no service leads back to itself.
     ///
     /// `OutOfMemory`: the memory for a number of each service was not found.
-    pub fn is_ending(&self) -> Result<bool, OutOfMemory>
-        ensures { IfOk result (λ ending. IsTrue ending → IsAcyclic self.now.services) }
+    pub fn is_acyclic(&self) -> Result<bool, OutOfMemory>
+        ensures { IfOk result (λ acyclic. IsTrue acyclic → IsAcyclic self.now.services) }
     {
         let services = self.tables.services.as_slice();
         let ranks = closing::ranks(self.alloc, services)?;
@@ -182,6 +174,23 @@ impl SchemaBuilder {
     {
         Schema::of(self.tables, files)
     }
+}
+
+// Declares the built-in TApplicationException, where nothing is declared.
+fn declare_failure(alloc: Global, tables: &mut Tables) -> Result<(), OutOfMemory>
+    requires { tables.old ≡ nothing }
+    ensures { OnOk result (tables.new ≡ built_in) }
+{
+    let failure = tables.add_struct(alloc, Form::Exception)?;
+    let message = field(1, Text::new(alloc, b"message")?, Ty::Text);
+    if tables.add_field(failure, message).is_err() {
+        return Err(OutOfMemory);
+    }
+    let kind = field(2, Text::new(alloc, b"type")?, Ty::I32);
+    if tables.add_field(failure, kind).is_err() {
+        return Err(OutOfMemory);
+    }
+    Ok(())
 }
 
 fn field(id: i16, name: Text, ty: Ty) -> FieldInfo

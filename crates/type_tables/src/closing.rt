@@ -81,7 +81,7 @@ fn fields_closed(tables: &Tables, fields: &FieldList) -> bool
 fn services_closed(tables: &Tables, services: &[ServiceDecl]) -> bool
     ensures methods { IsTrue result → All (λ s. All (λ m. IsKnownMethod tables.now m.1) s.methods) services.now }
     ensures bases { IsTrue result → All (λ s. IsKnownBase tables.now s.base) services.now }
-    ensures closed { All (λ s. All (λ m. IsKnownMethod tables.now m.1) s.methods) services.now → All (λ s. IsKnownBase tables.now s.base) services.now → IsTrue result }
+    ensures closed { let d = tables.now in All (λ s. All (λ m. IsKnownMethod d m.1) s.methods) services.now → All (λ s. IsKnownBase d s.base) services.now → IsTrue result }
 {
     for decl in services {
         if !service_closed(tables, decl) {

@@ -6,7 +6,7 @@ use gate_base::Text;
 use thrift_value::Kind;
 
 /// The number of an enum, from 0 in the order of adding.
-#[derive(Clone, Copy, Debug, PartialEq, Eq)]
+#[derive(Clone, Copy)]
 pub struct EnumId(pub u32);
 
 /// The number of a struct. Number 0 is the built-in TApplicationException.
@@ -14,7 +14,7 @@ pub struct EnumId(pub u32);
 pub struct StructId(pub u32);
 
 /// The number of a type that is a part of another.
-#[derive(Clone, Copy, Debug, PartialEq, Eq)]
+#[derive(Clone, Copy)]
 pub struct TyId(pub u32);
 
 /// The number of a service.
@@ -22,7 +22,7 @@ pub struct TyId(pub u32);
 pub struct ServiceId(pub u32);
 
 /// A declared type. A typedef stands for its target; `string` is `Text` and `binary` is `Blob`.
-#[derive(Clone, Copy, Debug, PartialEq, Eq)]
+#[derive(Clone, Copy)]
 pub enum Ty {
     /// No declaration says what stands here.
     Unknown,
@@ -68,7 +68,7 @@ impl Ty {
 }
 
 /// What a list of fields is the list of: a declared struct, union or exception, or a method's arguments or results.
-#[derive(Clone, Copy, Debug, PartialEq, Eq)]
+#[derive(Clone, Copy)]
 pub enum Form {
     Struct,
     Union,
@@ -78,7 +78,7 @@ pub enum Form {
 }
 
 /// Whether a field is asked for.
-#[derive(Clone, Copy, Debug, PartialEq, Eq)]
+#[derive(Clone, Copy)]
 pub enum Need {
     Required,
     Optional,
@@ -103,7 +103,7 @@ pub struct MethodInfo {
 }
 
 /// How many files, structs (with unions and exceptions) and services are declared.
-#[derive(Clone, Copy, Debug, PartialEq, Eq)]
+#[derive(Clone, Copy)]
 pub struct Counts {
     pub files: u64,
     pub structs: u64,
@@ -111,7 +111,7 @@ pub struct Counts {
 }
 
 /// Why a thing was not added.
-#[derive(Clone, Copy, Debug, PartialEq, Eq)]
+#[derive(Clone, Copy)]
 pub enum AddFault {
     /// A field of that id, or a method or service of that name, stands at this place already.
     Duplicate(usize),

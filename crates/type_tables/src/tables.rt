@@ -1,7 +1,7 @@
 //! The tables of a schema, in the order of their numbers.
 ghost use Rattle.std.specs.Prelude.{◌≡◌, ◌↔◌, IsTrue, ◌<◌, ◌+◌, ◌^◌, IfOk, OnOk, OnErr, length};
 ghost use Rattle.type_tables.specs.Adding.{Adds};
-ghost use Rattle.type_tables.specs.Declarations.{nothing, with_type, with_enum, with_struct, with_fields, with_field, with_service, with_method, with_files};
+ghost use Rattle.type_tables.specs.Declarations.{HasRoom, nothing, with_type, with_enum, with_struct, with_fields, with_field, with_service, with_method, with_files};
 ghost use Rattle.type_tables.specs.Fields.{place_of};
 ghost use Rattle.type_tables.specs.Names.{name_place};
 ghost use Rattle.type_tables.specs.Roots.{named_place};
@@ -36,7 +36,7 @@ pub(crate) struct Tables {
 }
 
 impl Model for Tables {
-    ghost use Rattle.type_tables.specs.Declarations.{Declarations};
+    ghost use Rattle.type_tables.specs.Declarations.{HasRoom, Declarations};
 
     ghost Value = { Declarations };
 
@@ -143,7 +143,7 @@ impl Tables {
         ensures enums { IsTrue result → length self.now.enums + 1 < 2 ^ 32 }
         ensures structs { IsTrue result → length self.now.structs + 1 < 2 ^ 32 }
         ensures services { IsTrue result → length self.now.services + 1 < 2 ^ 32 }
-        ensures full { length self.now.types + 1 < 2 ^ 32 → length self.now.enums + 1 < 2 ^ 32 → length self.now.structs + 1 < 2 ^ 32 → length self.now.services + 1 < 2 ^ 32 → IsTrue result }
+        ensures full { HasRoom self.now → IsTrue result }
     {
         is_few(self.types.len())
             && is_few(self.enums.len())

@@ -7,7 +7,7 @@ use Rattle.type_walk.specs.declared.levels.Level.TheVariants as levels
 use Rattle.type_walk.specs.Stack.{first_of, rest_of}
 use Rattle.thrift_value.specs.declared.kind.Kind.{Kind}
 use Rattle.thrift_value.specs.declared.kind.Kind.TheVariants as kinds
-use Rattle.thrift_value.specs.Gathering.{rank_of, same_kind}
+use Rattle.thrift_value.specs.Kinds.{rank_of, same_kind}
 use Rattle.type_tables.specs.declared.declared.FieldInfo.{FieldInfo}
 use Rattle.type_tables.specs.declared.declared.Ty.TheVariants as types
 use Rattle.type_tables.specs.Fields.{field_in}

@@ -5,7 +5,7 @@ use Rattle.std.specs.Prelude.{ℤ, List, [], ◌∷◌, Bool, false, Option, Som
 use Rattle.thrift_value.specs.declared.kind.Kind.{Kind}
 use Rattle.thrift_value.specs.declared.kind.Kind.TheVariants as kinds
 use Rattle.thrift_value.specs.Items.{Item, field, stop, struct_begin, map_begin, set_begin, list_begin, end}
-use Rattle.thrift_value.specs.Gathering.{same_kind}
+use Rattle.thrift_value.specs.Kinds.{same_kind}
 use Rattle.protocol_traits.specs.declared.proto.Hint.{Hint}
 use Rattle.protocol_traits.specs.declared.proto.Hint.TheVariants as hints
 use Rattle.protocol_traits.specs.declared.proto.Mark.{Mark}

@@ -1,6 +1,6 @@
 //! The declared types at one step down from a struct or container.
 ghost use Rattle.std.specs.Prelude.{◌≡◌, IfSome, None, Some, option_copied};
-ghost use Rattle.thrift_value.specs.Gathering.{rank_of};
+ghost use Rattle.thrift_value.specs.Kinds.{rank_of};
 ghost use Rattle.type_tables.specs.Declarations.{Declarations};
 ghost use Rattle.type_tables.specs.Kinds.{kind_of};
 ghost use Rattle.type_tables.specs.Known.{IsKnown};

@@ -27,8 +27,8 @@ mod memory_hub_tests;
 #[cfg(test)]
 mod message_show_tests;
 #[cfg(test)]
-mod thrift_value_tests;
-#[cfg(test)]
 mod type_tables_tests;
+#[cfg(test)]
+mod value_trees_tests;
 #[cfg(test)]
 mod varint_zigzag_tests;

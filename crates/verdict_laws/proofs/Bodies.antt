@@ -1,8 +1,9 @@
 -- A body that is read to its end, or to a fault, whatever the source and the target.
-use Rattle.std.proofs.Common.{◌≡◌, ℕ, ◌+◌, ◌<◌, ◌≤◌, List, [], ◌∷◌, ◌++◌, None, Ok, Err, refl, ap, ◌∙◌, sym, subst, append_assoc}
-use Rattle.std.specs.Prelude.{IfOk}
+use Rattle.std.proofs.Common.{◌≡◌, ℕ, ◌+◌, ◌<◌, ◌≤◌, List, [], ◌∷◌, ◌++◌, None, Ok, Err, refl, ap, ◌∙◌, sym, subst, append_assoc, Some, false}
+use Rattle.std.specs.Prelude.{IfOk, is_some}
 use Rattle.std.proofs.lemmas.List.{append-nil}
 use Rattle.thrift_value.specs.Items.{Item}
+use Rattle.protocol_traits.specs.declared.fault.Bar.{Bar}
 use Rattle.protocol_traits.specs.declared.fault.Fault.{Fault}
 use Rattle.protocol_traits.specs.declared.proto.Hint.{Hint}
 use Rattle.protocol_traits.specs.declared.proto.Mark.{Mark}
@@ -10,11 +11,12 @@ use Rattle.protocol_traits.specs.Follow.{depth_after}
 use Rattle.protocol_traits.specs.Heads.{Header}
 use Rattle.protocol_traits.specs.Room.{weight}
 use Rattle.type_walk.specs.Positions.{Position, hint_of, mark_of, after}
-use Rattle.translate_core.specs.declared.verdict.Cause.TheVariants.{Grammar}
+use Rattle.translate_core.specs.declared.verdict.Cause.{Cause}
+use Rattle.translate_core.specs.declared.verdict.Cause.TheVariants.{Grammar, Barred}
 use Rattle.translate_core.specs.declared.verdict.HeadInfo.{HeadInfo}
 use Rattle.translate_core.specs.declared.verdict.Verdict.TheVariants.{Passed, Refused}
 use Rattle.translate_core.specs.Positions.{typed}
-use Rattle.translate_core.specs.Body.{Going, Source, Target, going, moved, whole}
+use Rattle.translate_core.specs.Body.{Going, Source, Target, going, moved, whole, first_cause, tried}
 use Rattle.translate_core.specs.Judged.{judge, judged, head_cause}
 use Rattle.translate_core.specs.Answers.{TakesAll, marked, spelled}
 use Rattle.translate_core.proofs.Whole.{whole_step, whole_fault, whole_end}
@@ -22,7 +24,7 @@ use Rattle.translate_core.proofs.Judging.{judge_ok}
 use Rattle.verdict_laws.specs.Following.{behind, Follows}
 
 -- the writer behind these items
-abbrev writers : {T : Type 0} → Target T → T → List (Item × Mark) → T
+abbrev pub writers : {T : Type 0} → Target T → T → List (Item × Mark) → T
 writers target w [] = w
 writers target w (x ∷ xs) = writers target (target.after w x.0 x.1) xs
 
@@ -82,6 +84,24 @@ module _ {S T : Type 0} (source : Source S) (target : Target T) (level : S → �
       let r = whole_ends items last (moved source typed target g (item, next)) more (ap (depth_after item) deep ∙ sym (is_deep g.reader next g.walk item reads)) none in
       (r.0, whole_step source typed target nested.pays g item next some_open reads ∙ r.1, r.2)
 
+  -- a bar stays the cause, whatever is barred behind it
+  stays : (g : Going S Position T) (item : Item) (next : S) (c : Cause) → g.cause ≡ Some c → (moved source typed target g (item, next)).cause ≡ Some c
+  stays g item next c is = ap (λ q. first_cause q (tried (is_some g.cause) (target.bar item (mark_of g.walk item))) (source.place next)) is
+
+  -- to the end of the body, behind a bar
+  pub whole_barred : (items : List Item) (last : S) (g : Going S Position T) (c : Cause) → g.cause ≡ Some c → Follows source g.reader g.walk items last → g.depth ≡ level g.reader
+      → level last ≡ 0 → (new : Going S Position T) × (whole source typed target g ≡ Ok new) × (new.reader ≡ last) × (new.cause ≡ Some c)
+  whole_barred [] last g c is same deep none = (g, whole_end source typed target nested.pays g (deep ∙ ap level same ∙ none), same, is)
+  whole_barred (item ∷ items) last g c is (next, reads, more) deep none =
+      let some_open : 0 < g.depth = subst (λ n. 0 < n) (sym deep) (is_open g.reader next g.walk item reads) in
+      let r = whole_barred items last (moved source typed target g (item, next)) c (stays g item next c is) more (ap (depth_after item) deep ∙ sym (is_deep g.reader next g.walk item reads)) none in
+      (r.0, whole_step source typed target nested.pays g item next some_open reads ∙ r.1, r.2, r.3)
+
+  -- items one after another, cut in two
+  pub follows_apart : (before rest : List Item) (s last : S) (p : Position) → Follows source s p (before ++ rest) last → (mid : S) × Follows source s p before mid × Follows source mid (behind p before) rest last
+  follows_apart [] rest s last p f = (s, refl, f)
+  follows_apart (item ∷ before) rest s last p (next, reads, more) = let r = follows_apart before rest next last (after p item) more in (r.0, (next, reads, r.1), r.2)
+
   module _ (start : Header → Position) (info : Header → HeadInfo) (frame : List ℕ) (header : Header) (first last : S) (items : List Item)
       (headed : source.reads_head (source.begun frame) ≡ Ok (header, first)) (body : level first ≡ 1) (follows : Follows source first (start header) items last) where
     -- the header and all items are taken, and the frame ends
@@ -98,6 +118,43 @@ module _ {S T : Type 0} (source : Source S) (target : Target T) (level : S → �
         ∙ ap (λ d. whole source typed target (going last (behind p items) (writers target target.begun (marked p items)) d None bytes)) none
         ∙ whole_end source typed target nested.pays at_last refl in
         judge_ok source typed start info target frame header first headed ∙ rw (free, is, ends) refl
+
+    barred_by : (g : Going S Position T) (c : Cause) → g.reader ≡ last → g.cause ≡ Some c → source.reads_end last ≡ Ok (tt, last)
+        → whole source typed target (going first (start header) target.begun 1 (head_cause source typed start info target header first) []) ≡ Ok g
+        → judge source typed start info target frame ≡ judged (Refused (info header) c) []
+    barred_by g c reader cause ends is =
+        let at_last : source.reads_end g.reader ≡ Ok (tt, last) = ap source.reads_end reader ∙ ends in
+        judge_ok source typed start info target frame header first headed ∙ rw (is, at_last, cause) refl
+
+    -- the name is barred
+    pub judged_name : (bar : Bar) → target.name_bar header.name ≡ Some bar → level last ≡ 0 → source.reads_end last ≡ Ok (tt, last)
+        → judge source typed start info target frame ≡ judged (Refused (info header) (Barred (source.place first) bar)) []
+    judged_name bar barred none ends =
+        let c = Barred (source.place first) bar in
+        let g = going first (start header) target.begun 1 (head_cause source typed start info target header first) [] in
+        let is : g.cause ≡ Some c = ap (λ q. first_cause None q (source.place first)) barred in
+        let r = whole_barred items last g c is follows (sym body) none in
+        barred_by r.0 c r.2 r.3 ends r.1
+
+    -- an item is barred, and none before it
+    pub judged_item : (before rest : List Item) (item : Item) (bar : Bar) (mid next : S) → target.name_bar header.name ≡ None → Follows source first (start header) before mid
+        → source.reads mid (hint_of (behind (start header) before)) ≡ Ok (item, next) → Follows source next (after (behind (start header) before) item) rest last
+        → TakesAll target.bar (marked (start header) before) → target.bar item (mark_of (behind (start header) before) item) ≡ Some bar → level last ≡ 0 → source.reads_end last ≡ Ok (tt, last)
+        → judge source typed start info target frame ≡ judged (Refused (info header) (Barred (source.place next) bar)) []
+    judged_item before rest item bar mid next free to_mid reads more taken barred none ends =
+        let p = start header in
+        let c = Barred (source.place next) bar in
+        let w = writers target target.begun (marked p before) in
+        let bytes = spelled target.plain target.after target.begun (marked p before) in
+        let g = going mid (behind p before) w (level mid) None bytes in
+        let here = moved source typed target g (item, next) in
+        let is : here.cause ≡ Some c = ap (λ q. first_cause None (tried false q) (source.place next)) barred in
+        let r = whole_barred rest last here c is more (sym (is_deep mid next (behind p before) item reads)) none in
+        let cause : head_cause source typed start info target header first ≡ None = ap (λ q. first_cause None q (source.place first)) free in
+        barred_by r.0 c r.2 r.3 ends
+        (ap (λ q. whole source typed target (going first p target.begun 1 q [])) cause ∙ ap (λ d. whole source typed target (going first p target.begun d None [])) (sym body)
+        ∙ whole_follows before first mid p target.begun [] to_mid taken
+        ∙ whole_step source typed target nested.pays g item next (is_open mid next (behind p before) item reads) reads ∙ r.1)
 
     -- a fault stands where an item is called for
     pub judged_faulty : (f : Fault) → 0 < level last → source.reads last (hint_of (behind (start header) items)) ≡ Err f

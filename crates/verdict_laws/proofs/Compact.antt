@@ -1,8 +1,9 @@
 -- The verdict on a frame of Compact.
-use Rattle.std.proofs.Common.{◌≡◌, ℕ, pos, Bool, true, false, ◌+◌, ◌<◌, ◌≤◌, List, [], ◌∷◌, ◌++◌, length, None, Ok, Err, refl, ap, sym, subst, arith, ◌⊎◌, inl, inr}
+use Rattle.std.proofs.Common.{◌≡◌, ◌∙◌, drop, length-append, Option, Some, ℕ, pos, Bool, true, false, ◌+◌, ◌<◌, ◌≤◌, List, [], ◌∷◌, ◌++◌, length, None, Ok, Err, refl, ap, sym, subst, arith, ◌⊎◌, inl, inr}
 use Rattle.std.specs.Prelude.{IfOk}
 use Rattle.thrift_value.specs.Items.{Item}
 use Rattle.thrift_value.specs.Trees.{Message, items_of_members, depth_of_members}
+use Rattle.protocol_traits.specs.declared.fault.Bar.{Bar}
 use Rattle.protocol_traits.specs.declared.fault.Fault.{Fault}
 use Rattle.protocol_traits.specs.declared.nest.Slot.{Slot}
 use Rattle.protocol_traits.specs.declared.proto.Proto.{Proto}
@@ -10,16 +11,16 @@ use Rattle.protocol_traits.specs.declared.proto.Proto.TheVariants as protocols
 use Rattle.protocol_traits.specs.Heads.{Header}
 use Rattle.protocol_traits.specs.Stack.{first_of}
 use Rattle.type_tables.specs.Declarations.{Declarations}
-use Rattle.type_walk.specs.Positions.{Position, after}
+use Rattle.type_walk.specs.Positions.{Position, mark_of, after}
 use Rattle.translate_core.specs.declared.route.Route.{Route}
 use Rattle.translate_core.specs.declared.verdict.Verdict.TheVariants.{Passed}
 use Rattle.translate_core.specs.Positions.{typed}
 use Rattle.translate_core.specs.Routes.{start_of, info_of}
 use Rattle.translate_core.specs.Body.{Target}
 use Rattle.translate_core.specs.Judged.{judge, judged}
-use Rattle.translate_core.specs.Answers.{TakesAll, marked, spelled}
+use Rattle.translate_core.specs.Answers.{TakesAll, marked}
 use Rattle.translate_core.proofs.Judging.{judge_err}
-use Rattle.protocol_pairs.specs.Pairs.{compact_source, binary_target, compact_target}
+use Rattle.protocol_pairs.specs.Pairs.{compact_source, json_target, binary_target, compact_target}
 use Rattle.protocol_pairs.specs.Pairs as pairs
 use Rattle.compact_protocol.specs.Grammar.{CompactSpells}
 use Rattle.compact_protocol.specs.Reading.{State, begun, reads, reads_head, reads_end}
@@ -28,13 +29,25 @@ use Rattle.binary_laws.specs.Bytes.{AreBytes}
 use Rattle.compact_laws.specs.Reads.{Reads, IsRead}
 use Rattle.binary_laws.specs.Reads.{header_of_message}
 use Rattle.compact_laws.specs.Refused.{Refuses, IsRefused}
-use Rattle.verdict_laws.specs.Following.{Follows}
+use Rattle.compact_protocol.specs.Scan.{front_at, string_at}
+use Rattle.compact_protocol.specs.Reading.{scan_at, rest}
+use Rattle.binary_laws.proofs.Inverse.{bytes_front}
+use Rattle.compact_laws.proofs.Steps.{same_answer}
+use Rattle.compact_laws.proofs.Heading.{head_again}
+use Rattle.compact_laws.proofs.Headed.{head_read, at_body}
+use Rattle.compact_laws.proofs.Spelled.{body_open, headed_state, head_is}
+use Rattle.compact_laws.proofs.Sound.{Stands, moved_read}
+use Rattle.compact_laws.proofs.Reaching.{read_frame}
+use Rattle.compact_laws.proofs.Leading.{led}
+use Rattle.verdict_laws.specs.Following.{Follows, behind}
 use Rattle.verdict_laws.specs.Spellings.{plain_of}
+use Rattle.verdict_laws.specs.Bars.{the_name, behind_items, name_bar_in, bar_in, OfName, OfItem, CompactPlace}
 use Rattle.verdict_laws.specs.Verdicts.{IsPlain}
+use Rattle.verdict_laws.proofs.Barred.{FirstBarred, AllTaken, StopsAt, first_barred, takes_as}
 use Rattle.verdict_laws.proofs.Readings.{IsReadVerdict}
-use Rattle.verdict_laws.proofs.Readings.IsReadVerdict.{ReadPasses, ReadFaulty, ReadUnread}
-use Rattle.verdict_laws.proofs.Bodies.{IsNested, judged_whole, judged_faulty, judged_trailing}
-use Rattle.verdict_laws.proofs.Firm.{AreFirm, binary_takes_all, compact_takes_all}
+use Rattle.verdict_laws.proofs.Readings.IsReadVerdict.{ReadPasses, ReadBarred, ReadFaulty, ReadUnread}
+use Rattle.verdict_laws.proofs.Bodies.{IsNested, follows_apart, judged_name, judged_item, judged_whole, judged_faulty, judged_trailing}
+use Rattle.verdict_laws.proofs.Firm.{AreFirm}
 use Rattle.verdict_laws.proofs.CompactFirm.{members_firm}
 use Rattle.compact_laws.proofs.Either.{read_or_refused}
 use Rattle.compact_laws.proofs.Sound.{read_spelled}
@@ -50,11 +63,11 @@ use Rattle.std.proofs.lemmas.Bool.Decides.{nat_tests}
 use Rattle.std.specs.Prelude.{◌==◌, if◌then◌else◌, ◌*◌, FitsSigned}
 use Rattle.translate_core.specs.Judged.{Judged}
 
-some_levels : (nest : List Slot) → (nest ≡ [] → ⊥) → 0 < length nest
+pub some_levels : (nest : List Slot) → (nest ≡ [] → ⊥) → 0 < length nest
 some_levels [] some = absurd (some refl)
 some_levels (slot ∷ up) some = omega arith
 
-abbrev levels : State → ℕ
+abbrev pub levels : State → ℕ
 levels s = length s.nest
 
 all_ok : {X : Type 0} {P : Type 0} → (r : Step X Item) → P → IfOk r (λ x. P)
@@ -68,10 +81,10 @@ open_read s = by_nest s.nest refl
     by_nest [] e = subst (λ r. IfOk r (λ x. 0 < length s.nest)) (sym (reads_none s (ap first_of e))) tt
     by_nest (slot ∷ up) e = let some : 0 < length s.nest = subst (λ n. 0 < n) (sym (ap length e)) (omega arith) in all_ok (reads s) some
 
-nested : IsNested compact_source levels
+pub nested : IsNested compact_source levels
 nested = record { pays = (λ s hint. reads_pays s); open_level = (λ s hint. open_read s); nests = (λ s hint. reads_nests s) }
 
-follows : (items : List Item) (s last : State) (p : Position) → Reads s items last → Follows compact_source s p items last
+pub follows : (items : List Item) (s last : State) (p : Position) → Reads s items last → Follows compact_source s p items last
 follows [] s last p e = e
 follows (item ∷ items) s last p (next, e, more) = (next, e, follows items next last (after p item) more)
 
@@ -79,45 +92,18 @@ ended : (b : Bool) (x : Step State (Unit {0})) (f : Fault) (r : Unit {0} × Stat
 ended true x f r e = refl
 ended false x f r e = absurd (cc)
 
-end_closed : (s last : State) → reads_end s ≡ Ok (tt, last) → length s.nest ≡ 0
+pub end_closed : (s last : State) → reads_end s ≡ Ok (tt, last) → length s.nest ≡ 0
 unfolding reads_end
 end_closed s last e = let z = ended (length s.nest == 0) _ _ (tt, last) e in grind (arith, nat_tests)
 
-body_level : (frame : List ℕ) (header : Header) (first : State) → reads_head (begun frame) ≡ Ok (header, first) → length first.nest ≡ 1
+pub body_level : (frame : List ℕ) (header : Header) (first : State) → reads_head (begun frame) ≡ Ok (header, first) → length first.nest ≡ 1
 body_level frame header first e = (subst (λ r. IfOk r (λ x. (head_weight (length x.0.name) + ahead x.1 ≤ ahead (begun frame)) × (length x.1.nest ≡ 1))) e (reads_head_pays (begun frame))).1
 
 module _ (d : Declarations) (route : Route) (to : Proto) (frame : List ℕ) {T : Type 0} (target : Target T)
     (free : (name : List ℕ) → target.name_bar name ≡ None)
-    (takes : (items : List Item) (p : Position) → AreFirm items → TakesAll target.bar (marked p items))
-    (plain : (m : Message) → IsPlain to d route m (plain_of target d route m)) where
+    (takes : (items : List Item) (p : Position) → AreFirm items → TakesAll target.bar (marked p items)) where
   abbrev verdict : Judged
   verdict = judge compact_source typed (start_of d route) (info_of d route) target frame
-
-  read_passes : AreBytes frame → (header : Header) (items : List Item) → IsRead frame header items → IsReadVerdict compact_source CompactSpells IsRefused d route to frame verdict
-  read_passes are header items (first, last, headed, reads, ends) =
-      let m = read_spelled frame header items are (first, last, headed, reads, ends) in
-      let firm = members_firm (pos 0) m.0.body m.4.1 m.4.3 in
-      let level = body_level frame header first headed in
-      let is = judged_whole compact_source target levels nested (start_of d route) (info_of d route) frame header first last items headed level (follows items first last (start_of d route header) reads)
-      (free header.name) (takes items (start_of d route header) (subst AreFirm (sym m.2) firm)) (end_closed last last ends) ends in
-      ReadPasses m.0 (plain_of target d route m.0) m.4 m.3 (plain m.0)
-      (subst (λ h. verdict ≡ judged (Passed (info_of d route h)) (target.plain_head h ++ spelled target.plain target.after target.begun (marked (start_of d route h) (items_of_members m.0.body)))) m.1
-      (subst (λ xs. verdict ≡ judged (Passed (info_of d route header)) (target.plain_head header ++ spelled target.plain target.after target.begun (marked (start_of d route header) xs))) m.2 is))
-
-  refused_is : (f : Fault) → IsRefused frame f → IsReadVerdict compact_source CompactSpells IsRefused d route to frame verdict
-  refused_is f (inl e) = ReadUnread f e (inl e) (judge_err compact_source typed (start_of d route) (info_of d route) target frame f e)
-  refused_is f (inr (header, items, first, last, headed, reads, refuses)) = by_end refuses
-    where
-      whole_refused : IsRefused frame f
-      whole_refused = inr (header, items, first, last, headed, reads, refuses)
-
-      by_end : Refuses last f → IsReadVerdict compact_source CompactSpells IsRefused d route to frame verdict
-      by_end (inl (some, e)) =
-          ReadFaulty header first f headed whole_refused (judged_faulty compact_source target levels nested (start_of d route) (info_of d route) frame header first last items headed (body_level frame header first headed)
-          (follows items first last (start_of d route header) reads) f (some_levels last.nest some) e)
-      by_end (inr (none, e)) =
-          ReadFaulty header first f headed whole_refused (judged_trailing compact_source target levels nested (start_of d route) (info_of d route) frame header first last items headed (body_level frame header first headed)
-          (follows items first last (start_of d route header) reads) f (ap length none) e)
 
   -- a frame that spells a message passes with its plain spelling
   pub compact_passes : (m : Message) → CompactSpells m frame → depth_of_members m.body < 256 → verdict ≡ judged (Passed (info_of d route (header_of_message m))) (plain_of target d route m)
@@ -139,15 +125,121 @@ module _ (d : Declarations) (route : Route) (to : Proto) (frame : List ℕ) {T :
       let begin = begins frame in
       short target light compact_source levels nested (header_of_message m) (items_of_members m.body) r.0 r.1 p (length frame) (follows (items_of_members m.body) r.0 r.1 p r.3) sized (light_head (header_of_message m) is.seq) (omega (arith, head, begin))
 
-  pub compact_verdict : AreBytes frame → IsReadVerdict compact_source CompactSpells IsRefused d route to frame verdict
-  compact_verdict are = by_outcome (read_or_refused frame)
+-- ---- the verdict, whatever is barred
+
+-- how a frame's header and its items are read, and where they stand
+abbrev place_of : State → ℕ
+place_of s = s.value
+
+value_is : (s next : State) (item : Item) → reads s ≡ Ok (item, next) → next.value ≡ s.place
+unfolding reads
+value_is s next item e = let m = moved_read s (scan_at (first_of s.nest) (length s.nest) s.flag (rest s)) item next e in ap (λ (x : State). x.value) m.2
+
+reads_back : (items : List Item) (s last : State) (p : Position) → Follows compact_source s p items last → Reads s items last
+reads_back [] s last p e = e
+reads_back (item ∷ items) s last p (next, e, more) = (next, e, reads_back items next last (after p item) more)
+
+same_head : (frame : List ℕ) (h : Header) (x y : State) → reads_head (begun frame) ≡ Ok (h, x) → reads_head (begun frame) ≡ Ok (h, y) → x ≡ y
+same_head frame h x y e f = (same_answer h h x y (sym e ∙ f)).1
+
+name_place_is : (frame : List ℕ) → AreBytes frame → (m : Message) (first : State) → reads_head (begun frame) ≡ Ok (header_of_message m, first) → CompactPlace m frame the_name first.value
+name_place_is frame are m first e =
+    let x = head_read frame are (header_of_message m) first e in
+    let h = head_again m x.header x.body (x.spells m.body) in
+    let read = head_is frame m.name (m.mtype, m.seq) h.at h.long (ap front_at x.laid ∙ h.front) (ap (λ l. string_at (drop h.at l)) x.laid ∙ h.name) in
+    let value : first.value ≡ 0 + h.at = ap (λ (s : State). s.value) (same_head frame (header_of_message m) first (headed_state frame h.at h.long) e read) in
+    (x.header, x.body, h.number, h.text, x.laid, h.seq, h.named, h.laid, omega (arith, value, h.behind))
+
+item_place_is : (frame : List ℕ) → AreBytes frame → (m : Message) (first mid next : State) (before : List Item) (item : Item) → reads_head (begun frame) ≡ Ok (header_of_message m, first) → Reads first before mid → reads mid ≡ Ok (item, next)
+    → CompactPlace m frame (behind_items before) next.value
+item_place_is frame are m first mid next before item headed body step =
+    let x = head_read frame are (header_of_message m) first headed in
+    let body_are = (bytes_front x.header x.body (subst AreBytes x.laid are)).1 in
+    let st : Stands first body_open false x.body = record { at = at_body frame (header_of_message m) first x; are = body_are; most = omega arith; ids = (omega arith, tt) } in
+    let w = led before first mid body_open false x.body st body in
+    let a = w.stands.at in
+    let whole : mid.frame ≡ frame = read_frame before first mid body ∙ ap (λ (s : State). s.frame) x.start in
+    let size = ap length (sym whole ∙ a.laid) ∙ length-append a.front w.left in
+    let long = ap length (x.laid ∙ ap (λ l. x.header ++ l) w.laid) ∙ (length-append x.header (w.front ++ w.left) ∙ ap (λ n. length x.header + n) (length-append w.front w.left)) in
+    (x.header, w.front, w.left, w.inner, x.laid ∙ ap (λ l. x.header ++ l) w.laid, x.spells m.body, w.leads, omega (arith, value_is mid next item step, a.place, size, long))
+
+module _ (d : Declarations) (route : Route) (to : Proto) (frame : List ℕ) (are : AreBytes frame) {T : Type 0} (target : Target T)
+    (name_is : (name : List ℕ) → target.name_bar name ≡ name_bar_in to name) (bar_is : (item : Item) (mark : Mark) → target.bar item mark ≡ bar_in to item mark)
+    (plain : (m : Message) → IsPlain to d route m (plain_of target d route m)) where
+  abbrev verdict_on : Judged
+  verdict_on = judge compact_source typed (start_of d route) (info_of d route) target frame
+
+  abbrev Is : Type 0
+  Is = IsReadVerdict compact_source CompactSpells IsRefused CompactPlace d route to frame verdict_on
+
+  module _ (m : Message) (spells : CompactSpells m frame) (deep : depth_of_members m.body < 256) (first last : State) (headed : reads_head (begun frame) ≡ Ok (header_of_message m, first))
+      (body : Reads first (items_of_members m.body) last) (ends : reads_end last ≡ Ok (tt, last)) where
+    abbrev p : Position
+    p = start_of d route (header_of_message m)
+
+    all_follow : Follows compact_source first p (items_of_members m.body) last
+    all_follow = follows (items_of_members m.body) first last p body
+
+    passes_whole : name_bar_in to m.name ≡ None → TakesAll (bar_in to) (marked p (items_of_members m.body)) → Is
+    passes_whole free taken =
+        ReadPasses m (plain_of target d route m) spells deep (free, taken) (plain m)
+        (judged_whole compact_source target levels nested (start_of d route) (info_of d route) frame (header_of_message m) first last (items_of_members m.body) headed (body_level frame (header_of_message m) first headed) all_follow
+        (name_is m.name ∙ free) (takes_as (bar_in to) target.bar bar_is (items_of_members m.body) p taken) (end_closed last last ends) ends)
+
+    name_barred : (bar : Bar) → name_bar_in to m.name ≡ Some bar → Is
+    name_barred bar e =
+        ReadBarred m the_name first.value bar spells deep (OfName bar e) (name_place_is frame are m first headed)
+        (judged_name compact_source target levels nested (start_of d route) (info_of d route) frame (header_of_message m) first last (items_of_members m.body) headed (body_level frame (header_of_message m) first headed) all_follow
+        bar (name_is m.name ∙ e) (end_closed last last ends) ends)
+
+    item_barred : (before rest : List Item) (item : Item) (bar : Bar) → name_bar_in to m.name ≡ None → items_of_members m.body ≡ before ++ item ∷ rest → TakesAll (bar_in to) (marked p before)
+        → bar_in to item (mark_of (behind p before) item) ≡ Some bar → Is
+    item_barred before rest item bar free laid taken e =
+        let cut = follows_apart compact_source target levels nested before (item ∷ rest) first last p (subst (λ l. Follows compact_source first p l last) laid all_follow) in
+        let mid = cut.0 in
+        let next = cut.2.0 in
+        ReadBarred m (behind_items before) next.value bar spells deep (OfItem before rest item bar free laid taken e)
+        (item_place_is frame are m first mid next before item headed (reads_back before first mid p cut.1) cut.2.1)
+        (judged_item compact_source target levels nested (start_of d route) (info_of d route) frame (header_of_message m) first last (items_of_members m.body) headed (body_level frame (header_of_message m) first headed) all_follow
+        before rest item bar mid next (name_is m.name ∙ free) cut.1 cut.2.1 cut.2.2 (takes_as (bar_in to) target.bar bar_is before p taken) (bar_is item (mark_of (behind p before) item) ∙ e) (end_closed last last ends) ends)
+
+    by_item : name_bar_in to m.name ≡ None → FirstBarred (bar_in to) p (items_of_members m.body) → Is
+    by_item free (AllTaken taken) = passes_whole free taken
+    by_item free (StopsAt before rest item bar laid taken e) = item_barred before rest item bar free laid taken e
+
+    by_name : (found : Option Bar) → name_bar_in to m.name ≡ found → Is
+    by_name None e = by_item e (first_barred (bar_in to) (items_of_members m.body) p)
+    by_name (Some bar) e = name_barred bar e
+
+  read_is : (header : Header) (items : List Item) → IsRead frame header items → Is
+  read_is header items (first, last, headed, reads, ends) =
+      let m = read_spelled frame header items are (first, last, headed, reads, ends) in
+      by_name m.0 m.4 m.3 first last (subst (λ h. reads_head (begun frame) ≡ Ok (h, first)) m.1 headed) (subst (λ xs. Reads first xs last) m.2 reads) ends (name_bar_in to m.0.name) refl
+
+  refused_is : (f : Fault) → IsRefused frame f → IsReadVerdict compact_source CompactSpells IsRefused CompactPlace d route to frame verdict_on
+  refused_is f (inl e) = ReadUnread f e (inl e) (judge_err compact_source typed (start_of d route) (info_of d route) target frame f e)
+  refused_is f (inr (header, items, first, last, headed, reads, refuses)) = by_end refuses
     where
-      by_outcome : ((header : Header) × (items : List Item) × IsRead frame header items) ⊎ ((f : Fault) × IsRefused frame f) → IsReadVerdict compact_source CompactSpells IsRefused d route to frame verdict
-      by_outcome (inl (header, items, read)) = read_passes are header items read
+      whole_refused : IsRefused frame f
+      whole_refused = inr (header, items, first, last, headed, reads, refuses)
+
+      by_end : Refuses last f → IsReadVerdict compact_source CompactSpells IsRefused CompactPlace d route to frame verdict_on
+      by_end (inl (some, e)) =
+          ReadFaulty header first f headed whole_refused (judged_faulty compact_source target levels nested (start_of d route) (info_of d route) frame header first last items headed (body_level frame header first headed)
+          (follows items first last (start_of d route header) reads) f (some_levels last.nest some) e)
+      by_end (inr (none, e)) =
+          ReadFaulty header first f headed whole_refused (judged_trailing compact_source target levels nested (start_of d route) (info_of d route) frame header first last items headed (body_level frame header first headed)
+          (follows items first last (start_of d route header) reads) f (ap length none) e)
+
+  pub compact_verdict : IsReadVerdict compact_source CompactSpells IsRefused CompactPlace d route to frame verdict_on
+  compact_verdict = by_outcome (read_or_refused frame)
+    where
+      by_outcome : ((header : Header) × (items : List Item) × IsRead frame header items) ⊎ ((f : Fault) × IsRefused frame f) → IsReadVerdict compact_source CompactSpells IsRefused CompactPlace d route to frame verdict_on
+      by_outcome (inl (header, items, read)) = read_is header items read
       by_outcome (inr (f, refused)) = refused_is f refused
 
-pub compact_judged : (d : Declarations) (route : Route) (to : Proto) (frame : List ℕ) → AreBytes frame → (to ≡ protocols.Json → ⊥) → IsReadVerdict compact_source CompactSpells IsRefused d route to frame (pairs.judged d route protocols.Compact to frame)
+pub compact_judged : (d : Declarations) (route : Route) (to : Proto) (frame : List ℕ) → AreBytes frame → IsReadVerdict compact_source CompactSpells IsRefused CompactPlace d route to frame (pairs.judged d route protocols.Compact to frame)
 unfolding pairs.judged
-compact_judged d route protocols.Binary frame are other = compact_verdict d route protocols.Binary frame binary_target (λ name. refl) binary_takes_all (λ m. refl) are
-compact_judged d route protocols.Compact frame are other = compact_verdict d route protocols.Compact frame compact_target (λ name. refl) compact_takes_all (λ m. refl) are
-compact_judged d route protocols.Json frame are other = absurd (other refl)
+compact_judged d route protocols.Binary frame are = compact_verdict d route protocols.Binary frame are binary_target (λ name. refl) (λ item mark. refl) (λ m. refl)
+compact_judged d route protocols.Compact frame are = compact_verdict d route protocols.Compact frame are compact_target (λ name. refl) (λ item mark. refl) (λ m. refl)
+compact_judged d route protocols.Json frame are = compact_verdict d route protocols.Json frame are json_target (λ name. refl) (λ item mark. refl) (λ m. refl)

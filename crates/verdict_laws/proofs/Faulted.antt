@@ -30,34 +30,36 @@ use Rattle.compact_laws.proofs.Faults as compact_proofs
 use Rattle.compact_laws.proofs.Heading as compact_heading
 use Rattle.compact_laws.proofs.Headed as compact_headed
 use Rattle.compact_laws.proofs.Spelled as compact_spelled
+use Rattle.verdict_laws.specs.Bars.{Spot, BinaryPlace, CompactPlace}
 use Rattle.verdict_laws.specs.Verdicts.{BinaryHead, CompactHead, IsVerdict}
-use Rattle.verdict_laws.specs.Verdicts.IsVerdict.{Passes, IsFaulty, IsUnread}
+use Rattle.verdict_laws.specs.Verdicts.IsVerdict.{Passes, IsBarred, IsFaulty, IsUnread}
 use Rattle.verdict_laws.proofs.Readings.{IsReadVerdict}
-use Rattle.verdict_laws.proofs.Readings.IsReadVerdict.{ReadPasses, ReadFaulty, ReadUnread}
+use Rattle.verdict_laws.proofs.Readings.IsReadVerdict.{ReadPasses, ReadBarred, ReadFaulty, ReadUnread}
 use Rattle.verdict_laws.proofs.Binary.{binary_judged}
 use Rattle.verdict_laws.proofs.Compact.{compact_judged}
 
 -- some front of the frame is this header
-abbrev Fronted : (Header → List ℕ → Type 0) → Header → List ℕ → Type 0
+abbrev pub Fronted : (Header → List ℕ → Type 0) → Header → List ℕ → Type 0
 Fronted SpellsHead header frame = (front : List ℕ) × (rest : List ℕ) × (frame ≡ front ++ rest) × SpellsHead header front
 
-told : {S : Type 0} → (source : Source S) (SpellsHead : Header → List ℕ → Type 0) (Spells : Message → List ℕ → Type 0) (P Q : List ℕ → Fault → Type 0) (d : Declarations) (route : Route) (to : Proto) (frame : List ℕ) (j : Judged)
+told : {S : Type 0} → (source : Source S) (SpellsHead : Header → List ℕ → Type 0) (Spells : Message → List ℕ → Type 0) (P Q : List ℕ → Fault → Type 0) (Place : Message → List ℕ → Spot → ℕ → Type 0) (d : Declarations) (route : Route) (to : Proto) (frame : List ℕ) (j : Judged)
     → ((header : Header) (first : S) → source.reads_head (source.begun frame) ≡ Ok (header, first) → Fronted SpellsHead header frame)
     → ((header : Header) (f : Fault) → source.reads_head (source.begun frame) ≡ Err f → Fronted SpellsHead header frame → ⊥)
-    → ((f : Fault) → P frame f → Q frame f) → IsReadVerdict source Spells P d route to frame j → IsVerdict SpellsHead Spells Q d route to frame j
-told {S} source SpellsHead Spells P Q d route to frame j fronted none same (ReadPasses m bytes spells deep plain e) = Passes m bytes spells deep plain e
-told {S} source SpellsHead Spells P Q d route to frame j fronted none same (ReadFaulty header first f read refused e) = let h = fronted header first read in IsFaulty header h.0 h.1 f h.2 h.3 (same f refused) e
-told {S} source SpellsHead Spells P Q d route to frame j fronted none same (ReadUnread f read refused e) = IsUnread f (λ header front rest laid spells. none header f read (front, rest, laid, spells)) (same f refused) e
+    → ((f : Fault) → P frame f → Q frame f) → IsReadVerdict source Spells P Place d route to frame j → IsVerdict SpellsHead Spells Q Place d route to frame j
+told {S} source SpellsHead Spells P Q Place d route to frame j fronted none same (ReadPasses m bytes spells deep holds plain e) = Passes m bytes spells deep holds plain e
+told {S} source SpellsHead Spells P Q Place d route to frame j fronted none same (ReadBarred m spot place bar spells deep first at e) = IsBarred m spot place bar spells deep first at e
+told {S} source SpellsHead Spells P Q Place d route to frame j fronted none same (ReadFaulty header first f read refused e) = let h = fronted header first read in IsFaulty header h.0 h.1 f h.2 h.3 (same f refused) e
+told {S} source SpellsHead Spells P Q Place d route to frame j fronted none same (ReadUnread f read refused e) = IsUnread f (λ header front rest laid spells. none header f read (front, rest, laid, spells)) (same f refused) e
 
 -- ---- Binary
 
-binary_fronted : (frame : List ℕ) → AreBytes frame → (header : Header) (first : binary_reading.State) → binary_reading.reads_head (binary_reading.begun frame) ≡ Ok (header, first) → Fronted BinaryHead header frame
+pub binary_fronted : (frame : List ℕ) → AreBytes frame → (header : Header) (first : binary_reading.State) → binary_reading.reads_head (binary_reading.begun frame) ≡ Ok (header, first) → Fronted BinaryHead header frame
 binary_fronted frame are header first e =
     let r = binary_sound.begun_read frame header first e in
     let x = binary_headed.head_read frame are header r.0 r.1 in
     (x.header, x.body, x.laid, (x.small, x.fits, x.spells no_members))
 
-binary_none : (frame : List ℕ) (header : Header) (f : Fault) → binary_reading.reads_head (binary_reading.begun frame) ≡ Err f → Fronted BinaryHead header frame → ⊥
+pub binary_none : (frame : List ℕ) (header : Header) (f : Fault) → binary_reading.reads_head (binary_reading.begun frame) ≡ Err f → Fronted BinaryHead header frame → ⊥
 binary_none frame header f e (front, rest, laid, (small, fits, spells)) =
     let m = message_of header no_members in
     let read = binary_spelled.head_is frame header (length front) (ap head_at laid ∙ binary_heading.head_again m small fits rest front spells) in
@@ -66,10 +68,10 @@ binary_none frame header f e (front, rest, laid, (small, fits, spells)) =
 
 -- ---- Compact
 
-compact_fronted : (frame : List ℕ) → AreBytes frame → (header : Header) (first : compact_reading.State) → compact_reading.reads_head (compact_reading.begun frame) ≡ Ok (header, first) → Fronted CompactHead header frame
+pub compact_fronted : (frame : List ℕ) → AreBytes frame → (header : Header) (first : compact_reading.State) → compact_reading.reads_head (compact_reading.begun frame) ≡ Ok (header, first) → Fronted CompactHead header frame
 compact_fronted frame are header first e = let x = compact_headed.head_read frame are header first e in (x.header, x.body, x.laid, x.spells no_members)
 
-compact_none : (frame : List ℕ) (header : Header) (f : Fault) → compact_reading.reads_head (compact_reading.begun frame) ≡ Err f → Fronted CompactHead header frame → ⊥
+pub compact_none : (frame : List ℕ) (header : Header) (f : Fault) → compact_reading.reads_head (compact_reading.begun frame) ≡ Err f → Fronted CompactHead header frame → ⊥
 compact_none frame header f e (front, rest, laid, spells) =
     let m = message_of header no_members in
     let h = compact_heading.head_again m front rest spells in
@@ -77,9 +79,9 @@ compact_none frame header f e (front, rest, laid, spells) =
     let wrong = sym read ∙ e in
     absurd (cc)
 
-module _ (d : Declarations) (route : Route) (to : Proto) (frame : List ℕ) (are : AreBytes frame) (other : to ≡ protocols.Json → ⊥) where
-  pub binary_told : IsVerdict BinaryHead BinarySpells binary_faults.FaultAt d route to frame (pairs.judged d route protocols.Binary to frame)
-  binary_told = told binary_source BinaryHead BinarySpells _ binary_faults.FaultAt d route to frame _ (binary_fronted frame are) (binary_none frame) (λ f refused. binary_proofs.stands_there frame f are refused) (binary_judged d route to frame are other)
+module _ (d : Declarations) (route : Route) (to : Proto) (frame : List ℕ) (are : AreBytes frame) where
+  pub binary_told : IsVerdict BinaryHead BinarySpells binary_faults.FaultAt BinaryPlace d route to frame (pairs.judged d route protocols.Binary to frame)
+  binary_told = told binary_source BinaryHead BinarySpells _ binary_faults.FaultAt BinaryPlace d route to frame _ (binary_fronted frame are) (binary_none frame) (λ f refused. binary_proofs.stands_there frame f are refused) (binary_judged d route to frame are)
 
-  pub compact_told : IsVerdict CompactHead CompactSpells compact_faults.FaultAt d route to frame (pairs.judged d route protocols.Compact to frame)
-  compact_told = told compact_source CompactHead CompactSpells _ compact_faults.FaultAt d route to frame _ (compact_fronted frame are) (compact_none frame) (λ f refused. compact_proofs.stands_there frame f are refused) (compact_judged d route to frame are other)
+  pub compact_told : IsVerdict CompactHead CompactSpells compact_faults.FaultAt CompactPlace d route to frame (pairs.judged d route protocols.Compact to frame)
+  compact_told = told compact_source CompactHead CompactSpells _ compact_faults.FaultAt CompactPlace d route to frame _ (compact_fronted frame are) (compact_none frame) (λ f refused. compact_proofs.stands_there frame f are refused) (compact_judged d route to frame are)

@@ -4,6 +4,7 @@ pub mod CompactFirm
 pub mod Ranges
 pub mod Sizes
 pub mod Plain
+pub mod Barred
 pub mod Readings
 pub mod Binary
 pub mod Compact

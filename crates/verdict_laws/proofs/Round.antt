@@ -20,11 +20,11 @@ use Rattle.verdict_laws.proofs.Compact.{compact_passes, compact_short}
 -- what passes from one protocol to another, whichever frame spells it
 passes : (d : Declarations) (route : Route) (from to : Proto) (m : Message) (frame : List ℕ) → SpellsIn from m frame → depth_of_members m.body < 256 → (to ≡ protocols.Json → ⊥) → PassesAs d route from to frame m (plain_in to d route m)
 unfolding pairs.judged
-passes d route protocols.Binary protocols.Binary m frame spells deep other = binary_passes d route protocols.Binary frame binary_target (λ name. refl) binary_takes_all (λ n. refl) m spells deep
-passes d route protocols.Binary protocols.Compact m frame spells deep other = binary_passes d route protocols.Compact frame compact_target (λ name. refl) compact_takes_all (λ n. refl) m spells deep
+passes d route protocols.Binary protocols.Binary m frame spells deep other = binary_passes d route protocols.Binary frame binary_target (λ name. refl) binary_takes_all m spells deep
+passes d route protocols.Binary protocols.Compact m frame spells deep other = binary_passes d route protocols.Compact frame compact_target (λ name. refl) compact_takes_all m spells deep
 passes d route protocols.Binary protocols.Json m frame spells deep other = absurd (other refl)
-passes d route protocols.Compact protocols.Binary m frame spells deep other = compact_passes d route protocols.Binary frame binary_target (λ name. refl) binary_takes_all (λ n. refl) m spells deep
-passes d route protocols.Compact protocols.Compact m frame spells deep other = compact_passes d route protocols.Compact frame compact_target (λ name. refl) compact_takes_all (λ n. refl) m spells deep
+passes d route protocols.Compact protocols.Binary m frame spells deep other = compact_passes d route protocols.Binary frame binary_target (λ name. refl) binary_takes_all m spells deep
+passes d route protocols.Compact protocols.Compact m frame spells deep other = compact_passes d route protocols.Compact frame compact_target (λ name. refl) compact_takes_all m spells deep
 passes d route protocols.Compact protocols.Json m frame spells deep other = absurd (other refl)
 passes d route protocols.Json to m frame spells deep other = absurd spells
 
@@ -39,14 +39,14 @@ plain_spells d route protocols.Json to m frame spells other = absurd spells
 
 plain_short : (d : Declarations) (route : Route) (from to : Proto) (m : Message) (frame : List ℕ) → SpellsIn from m frame → depth_of_members m.body < 256 → (to ≡ protocols.Json → ⊥) → length (plain_in to d route m) ≤ 24 * length frame + 256
 plain_short d route protocols.Binary protocols.Binary m frame spells deep other =
-    binary_short d route protocols.Binary frame binary_target (λ name. refl) binary_takes_all (λ n. refl) (λ w item mark sized. binary.light item mark sized) (λ h fits. binary.light_head h) m spells deep
+    binary_short d route protocols.Binary frame binary_target (λ name. refl) binary_takes_all (λ w item mark sized. binary.light item mark sized) (λ h fits. binary.light_head h) m spells deep
 plain_short d route protocols.Binary protocols.Compact m frame spells deep other =
-    binary_short d route protocols.Compact frame compact_target (λ name. refl) compact_takes_all (λ n. refl) (λ w item mark sized. compact.light w item sized) compact.light_head m spells deep
+    binary_short d route protocols.Compact frame compact_target (λ name. refl) compact_takes_all (λ w item mark sized. compact.light w item sized) compact.light_head m spells deep
 plain_short d route protocols.Binary protocols.Json m frame spells deep other = absurd (other refl)
 plain_short d route protocols.Compact protocols.Binary m frame spells deep other =
-    compact_short d route protocols.Binary frame binary_target (λ name. refl) binary_takes_all (λ n. refl) (λ w item mark sized. binary.light item mark sized) (λ h fits. binary.light_head h) m spells deep
+    compact_short d route protocols.Binary frame binary_target (λ name. refl) binary_takes_all (λ w item mark sized. binary.light item mark sized) (λ h fits. binary.light_head h) m spells deep
 plain_short d route protocols.Compact protocols.Compact m frame spells deep other =
-    compact_short d route protocols.Compact frame compact_target (λ name. refl) compact_takes_all (λ n. refl) (λ w item mark sized. compact.light w item sized) compact.light_head m spells deep
+    compact_short d route protocols.Compact frame compact_target (λ name. refl) compact_takes_all (λ w item mark sized. compact.light w item sized) compact.light_head m spells deep
 plain_short d route protocols.Compact protocols.Json m frame spells deep other = absurd (other refl)
 plain_short d route protocols.Json to m frame spells deep other = absurd spells
 

@@ -2,4 +2,5 @@
 pub mod Following
 pub mod Spellings
 pub mod Rounds
+pub mod Bars
 pub mod Verdicts

@@ -2,27 +2,29 @@
 use Rattle.std.specs.Prelude.{◌≡◌, ◌⊎◌, ℕ, ◌<◌, ◌^◌, List, [], ◌++◌, length, FitsSigned}
 use Rattle.std.specs.Int.{w32}
 use Rattle.thrift_value.specs.Trees.{Message, no_members, depth_of_members}
+use Rattle.protocol_traits.specs.declared.fault.Bar.{Bar}
 use Rattle.protocol_traits.specs.declared.fault.Fault.{Fault}
 use Rattle.protocol_traits.specs.declared.proto.Proto.{Proto}
 use Rattle.protocol_traits.specs.declared.proto.Proto.TheVariants as protocols
 use Rattle.protocol_traits.specs.Heads.{Header}
 use Rattle.type_tables.specs.Declarations.{Declarations}
 use Rattle.translate_core.specs.declared.route.Route.{Route}
-use Rattle.translate_core.specs.declared.verdict.Cause.TheVariants.{Grammar}
+use Rattle.translate_core.specs.declared.verdict.Cause.TheVariants.{Grammar, Barred}
 use Rattle.translate_core.specs.declared.verdict.Verdict.TheVariants.{Passed, Refused, Unread}
 use Rattle.translate_core.specs.Routes.{info_of}
 use Rattle.translate_core.specs.Judged.{Judged, judged}
-use Rattle.protocol_pairs.specs.Pairs.{binary_target, compact_target}
+use Rattle.protocol_pairs.specs.Pairs.{binary_target, compact_target, json_target}
 use Rattle.binary_protocol.specs.Grammar.{SpellsStrictHeader, SpellsOldHeader}
 use Rattle.compact_protocol.specs.Grammar.{SpellsHeader}
 use Rattle.binary_laws.specs.Reads.{header_of_message}
+use Rattle.verdict_laws.specs.Bars.{Spot, HoldsAll, IsFirstBar}
 use Rattle.verdict_laws.specs.Spellings.{plain_of}
 
--- the plain spelling in a protocol that holds every message
+-- the plain spelling in a protocol, of a message that it holds
 abbrev pub IsPlain : Proto → Declarations → Route → Message → List ℕ → Type 0
 IsPlain protocols.Binary d route m bytes = bytes ≡ plain_of binary_target d route m
 IsPlain protocols.Compact d route m bytes = bytes ≡ plain_of compact_target d route m
-IsPlain protocols.Json d route m bytes = ⊥
+IsPlain protocols.Json d route m bytes = bytes ≡ plain_of json_target d route m
 
 -- a message with this header
 abbrev headed : Header → Message
@@ -35,12 +37,15 @@ BinaryHead h bytes = (length h.name < 2 ^ 31) × FitsSigned w32 h.seq × (Spells
 abbrev pub CompactHead : Header → List ℕ → Type 0
 CompactHead h bytes = SpellsHeader (headed h) bytes
 
--- The frame spells a message of depth at most 256, of which its body is one level, and that passes with its plain spelling; or it is
--- refused with the fault that stands in it, and nothing is written; where no front of it is a whole header, it is unread.
-pub data IsVerdict (SpellsHead : Header → List ℕ → Type 0) (Spells : Message → List ℕ → Type 0) (FaultAt : List ℕ → Fault → Type 0) (d : Declarations) (route : Route) (to : Proto) (frame : List ℕ) (j : Judged) : Type 0 where
-  Passes : (m : Message) (bytes : List ℕ) → Spells m frame → depth_of_members m.body < 256 → IsPlain to d route m bytes
-      → j ≡ judged (Passed (info_of d route (header_of_message m))) bytes → IsVerdict SpellsHead Spells FaultAt d route to frame j
+-- The frame spells a message of depth at most 256, of which its body is one level, that the protocol holds, and that passes with its plain
+-- spelling; or one that is refused with the first thing that the protocol can't hold; or it is refused with the fault that stands in it.
+-- Where no front of it is a whole header, it is unread. Nothing is written but where it passes.
+pub data IsVerdict (SpellsHead : Header → List ℕ → Type 0) (Spells : Message → List ℕ → Type 0) (FaultAt : List ℕ → Fault → Type 0) (Place : Message → List ℕ → Spot → ℕ → Type 0) (d : Declarations) (route : Route) (to : Proto) (frame : List ℕ) (j : Judged) : Type 0 where
+  Passes : (m : Message) (bytes : List ℕ) → Spells m frame → depth_of_members m.body < 256 → HoldsAll to d route m → IsPlain to d route m bytes
+      → j ≡ judged (Passed (info_of d route (header_of_message m))) bytes → IsVerdict SpellsHead Spells FaultAt Place d route to frame j
+  IsBarred : (m : Message) (spot : Spot) (place : ℕ) (bar : Bar) → Spells m frame → depth_of_members m.body < 256 → IsFirstBar to d route m spot bar → Place m frame spot place
+      → j ≡ judged (Refused (info_of d route (header_of_message m)) (Barred place bar)) [] → IsVerdict SpellsHead Spells FaultAt Place d route to frame j
   IsFaulty : (header : Header) (front rest : List ℕ) (f : Fault) → frame ≡ front ++ rest → SpellsHead header front → FaultAt frame f
-      → j ≡ judged (Refused (info_of d route header) (Grammar f)) [] → IsVerdict SpellsHead Spells FaultAt d route to frame j
+      → j ≡ judged (Refused (info_of d route header) (Grammar f)) [] → IsVerdict SpellsHead Spells FaultAt Place d route to frame j
   IsUnread : (f : Fault) → ((header : Header) (front rest : List ℕ) → frame ≡ front ++ rest → SpellsHead header front → ⊥) → FaultAt frame f
-      → j ≡ judged (Unread f) [] → IsVerdict SpellsHead Spells FaultAt d route to frame j
+      → j ≡ judged (Unread f) [] → IsVerdict SpellsHead Spells FaultAt Place d route to frame j

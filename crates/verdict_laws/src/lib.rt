@@ -15,20 +15,21 @@ ghost use Rattle.compact_protocol.specs.Grammar.{CompactSpells};
 ghost use Rattle.binary_laws.specs.Bytes.{AreBytes};
 ghost use Rattle.binary_laws.specs.Faults as binary_faults;
 ghost use Rattle.compact_laws.specs.Faults as compact_faults;
+ghost use Rattle.verdict_laws.specs.Bars.{BinaryPlace, CompactPlace};
 ghost use Rattle.verdict_laws.specs.Rounds.{SpellsIn, IsRound};
 ghost use Rattle.verdict_laws.specs.Verdicts.{BinaryHead, CompactHead, IsVerdict};
 
-/// A frame of Binary, for Binary or Compact, passes with the plain spelling of the message that it spells, or is refused with the
-/// one fault that stands in it, unread where no front of it is a whole header.
+/// A frame of Binary, for any protocol, passes with the plain spelling of the message that it spells, or is refused with the first thing in
+/// that message that the protocol can't hold, or with the one fault that stands in the frame, unread where no front of it is a whole header.
 pub fn a_binary_frame_is_judged_by_its_grammar()
-    ensures { (d : Declarations) (route : Route) (to : Proto) (frame : List ℕ) → AreBytes frame → (to ≡ protocols.Json → ⊥)
-        → IsVerdict BinaryHead BinarySpells binary_faults.FaultAt d route to frame (judged d route protocols.Binary to frame) }
+    ensures { (d : Declarations) (route : Route) (to : Proto) (frame : List ℕ) → AreBytes frame
+        → IsVerdict BinaryHead BinarySpells binary_faults.FaultAt BinaryPlace d route to frame (judged d route protocols.Binary to frame) }
 {}
 
 /// The same for a frame of Compact.
 pub fn a_compact_frame_is_judged_by_its_grammar()
-    ensures { (d : Declarations) (route : Route) (to : Proto) (frame : List ℕ) → AreBytes frame → (to ≡ protocols.Json → ⊥)
-        → IsVerdict CompactHead CompactSpells compact_faults.FaultAt d route to frame (judged d route protocols.Compact to frame) }
+    ensures { (d : Declarations) (route : Route) (to : Proto) (frame : List ℕ) → AreBytes frame
+        → IsVerdict CompactHead CompactSpells compact_faults.FaultAt CompactPlace d route to frame (judged d route protocols.Compact to frame) }
 {}
 
 /// A frame of Binary or Compact that spells a message of depth at most 256 passes to Binary or Compact with the message's plain spelling,

@@ -1,5 +1,5 @@
 use Rattle.std.proofs.Common.{◌∙◌, ap, subst, List, ℕ, Some, None, Option}
-use Rattle.idl_parser.specs.Declarations.{definition_trees}
+use Rattle.idl_document.specs.Trees.{definition_trees}
 use Rattle.idl_names.specs.Files.{file_trees}
 use Rattle.idl_consts.specs.Following.{Fault}
 use Rattle.idl_consts.specs.Told.{Told, IsLeast, all_values}

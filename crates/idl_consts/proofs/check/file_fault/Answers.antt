@@ -1,6 +1,6 @@
 use Rattle.std.proofs.Common.{refl, List, None}
-use Rattle.idl_parser.specs.declared.document.Definition.{Definition}
-use Rattle.idl_parser.specs.Declarations.{definition_tree, definition_trees}
+use Rattle.idl_document.specs.declared.document.Definition.{Definition}
+use Rattle.idl_document.specs.Trees.{definition_tree, definition_trees}
 use Rattle.idl_consts.specs.Told.{all_values, definition_values}
 use Rattle.idl_consts.proofs.Judged.{one_judged}
 use Rattle.idl_consts.specs.Views.{files_of}

@@ -1,5 +1,5 @@
 use Rattle.std.proofs.Common.{drop, Option, None}
-use Rattle.idl_parser.specs.Declarations.{definition_trees}
+use Rattle.idl_document.specs.Trees.{definition_trees}
 use Rattle.idl_consts.specs.Following.{Fault}
 use Rattle.idl_consts.specs.Knowing.{IsSound}
 use Rattle.idl_consts.specs.Told.{IsLeast, all_values}

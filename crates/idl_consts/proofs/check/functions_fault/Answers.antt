@@ -1,8 +1,7 @@
 use Rattle.std.proofs.Common.{◌++◌, refl, List, subst}
-use Rattle.idl_parser.specs.declared.document.Function.{Function}
-use Rattle.idl_parser.specs.declared.document.FieldDecl.{FieldDecl}
-use Rattle.idl_parser.specs.Declarations.{function_trees}
-use Rattle.idl_parser.specs.Fields.{field_trees}
+use Rattle.idl_document.specs.declared.document.Function.{Function}
+use Rattle.idl_document.specs.declared.document.FieldDecl.{FieldDecl}
+use Rattle.idl_document.specs.Trees.{function_trees, field_trees}
 use Rattle.idl_consts.specs.Told.{IsLeast, function_values, presets}
 use Rattle.idl_consts.proofs.Judged.{one_judged, least_append}
 use Rattle.idl_consts.specs.Views.{files_of}

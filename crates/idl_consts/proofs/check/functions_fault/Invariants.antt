@@ -1,5 +1,5 @@
 use Rattle.std.proofs.Common.{drop, Option}
-use Rattle.idl_parser.specs.Declarations.{function_trees}
+use Rattle.idl_document.specs.Trees.{function_trees}
 use Rattle.idl_consts.specs.Following.{Fault}
 use Rattle.idl_consts.specs.Knowing.{IsSound}
 use Rattle.idl_consts.specs.Told.{IsLeast, function_values}

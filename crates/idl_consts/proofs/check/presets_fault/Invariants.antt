@@ -1,5 +1,5 @@
 use Rattle.std.proofs.Common.{drop, Option}
-use Rattle.idl_parser.specs.Fields.{field_trees}
+use Rattle.idl_document.specs.Trees.{field_trees}
 use Rattle.idl_consts.specs.Following.{Fault}
 use Rattle.idl_consts.specs.Knowing.{IsSound}
 use Rattle.idl_consts.specs.Told.{IsLeast, presets}

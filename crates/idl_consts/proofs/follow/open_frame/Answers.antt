@@ -9,4 +9,4 @@ pub returns-clause-whole : goal.returns-clause-whole
 returns-clause-whole c =
     let d = files_of c.args.view.now in
     let survey = c.in_ok-survey.survey in
-    opened d (constant_course d c.args.name.constant (meant_at d c.args.name.ty)) survey.stands.items (ending survey.fault) c.in_ok-survey.ensures
+    opened d (constant_course d c.args.name.constant (meant_at d c.args.name.ty)) survey.references.items (ending survey.fault) c.in_ok-survey.ensures

@@ -1,13 +1,13 @@
 use Rattle.std.proofs.Common.{ap, sym, ◌∙◌, List}
 use Rattle.std.specs.Prelude.{slice_get}
-use Rattle.idl_consts.specs.declared.survey.Stand.{Stand}
+use Rattle.idl_consts.specs.declared.survey.ConstRef.{ConstRef}
 use Rattle.idl_consts.proofs.Trailing.{takes_name, takes_last}
 use Rattle.idl_consts.proofs.follow.take_next.Goals as goal
 
 pub returns-in-Some : goal.returns-in-Some
 returns-in-Some c = λ d.
-    takes_name d c.args.frame.now c.in-Some.name (ap (λ (ss : List Stand). slice_get ss c.args.frame.now.next) (sym c.as_slice.ensures.value) ∙ sym c.in-Some.ensures)
+    takes_name d c.args.frame.now c.in-Some.name (ap (λ (ss : List ConstRef). slice_get ss c.args.frame.now.next) (sym c.as_slice.ensures.value) ∙ sym c.in-Some.ensures)
 
 pub returns-in-None : goal.returns-in-None
 returns-in-None c = λ d.
-    rw c.fault_next.ensures (takes_last d c.args.frame.now (ap (λ (ss : List Stand). slice_get ss c.args.frame.now.next) (sym c.as_slice.ensures.value) ∙ sym c.in-None.ensures))
+    rw c.fault_next.ensures (takes_last d c.args.frame.now (ap (λ (ss : List ConstRef). slice_get ss c.args.frame.now.next) (sym c.as_slice.ensures.value) ∙ sym c.in-None.ensures))

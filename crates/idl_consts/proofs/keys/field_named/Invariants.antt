@@ -1,5 +1,5 @@
 use Rattle.std.proofs.Common.{◌≡◌, drop}
-use Rattle.idl_parser.specs.Fields.{field_trees}
+use Rattle.idl_document.specs.Trees.{field_trees}
 use Rattle.idl_consts.specs.Keys.{field_named}
 use Rattle.idl_consts.proofs.keys.field_named.Given as goal
 

@@ -1,5 +1,5 @@
 use Rattle.std.proofs.Common.{◌∷◌, ◌++◌, [], List, ℕ, length, length-append, arith, ap, sym, ◌∙◌, refl, subst}
-use Rattle.idl_parser.specs.Documents.{document_tree}
+use Rattle.idl_document.specs.Trees.{document_tree}
 use Rattle.idl_names.specs.Files.{file_trees}
 use Rattle.idl_files.specs.Answers.{Gives}
 use Rattle.idl_files.specs.Listing.{fresh}
@@ -13,6 +13,7 @@ include_all-loop-mention-preserved g t c =
     record {
       same = c.in-Ok.ensures.same ∙ i.same;
       later = omega (arith, c.in-Ok.ensures.later, i.later);
+      steady = c.in-Ok.ensures.cause ∙ i.steady;
       exact = λ holds e. included_more (loaded holds c.args.levels) c.args.file.now c.args.mentions.now c.loop-mention.mention-index c.mention-item.result (omega arith) c.mention-item.is
           (file_trees c.loop-mention.list) (file_trees c.include.new.list) c.loop-mention.places c.push.new.self c.in-Ok.place _ (c.in-Ok.ensures.exact holds (i.same ∙ e)) c.in_ok-push-in-Ok.ensures.ok (i.exact holds e);
       extends = extends_twice (file_trees c.args.list.now) (file_trees c.loop-mention.list) (file_trees c.include.new.list) i.extends c.in-Ok.ensures.extends;

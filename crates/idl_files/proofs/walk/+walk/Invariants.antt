@@ -20,6 +20,7 @@ abbrev pub invariant-include_all-loop-mention : goal.invariant-include_all-loop-
 invariant-include_all-loop-mention g l = record {
   same : g.F.Files.holds l.files ≡ g.F.Files.holds l.fn.files;
   later : g.F.Files.faults l.fn.files ≤ g.F.Files.faults l.files;
+  steady : g.F.Files.faults l.files ≡ g.F.Files.faults l.fn.files;
   exact : (holds : List ℕ → Option (List ℕ)) → g.F.Files.holds l.fn.files ≡ Some holds →
       included (loaded holds l.levels) l.file (drop l.mention-index l.mentions) (file_trees l.list) l.places ≡ included (loaded holds l.levels) l.file l.mentions (file_trees l.fn.list) [];
   extends : Extends (file_trees l.fn.list) (file_trees l.list);

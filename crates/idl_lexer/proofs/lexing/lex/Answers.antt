@@ -1,4 +1,6 @@
-use Rattle.std.proofs.Common.{sym, arith}
+use Rattle.std.proofs.Common.{sym, arith, subst, Err}
+use Rattle.idl_lexer.specs.declared.token.LexError.{LexError}
+use Rattle.idl_lexer.specs.Tokens.{Gives, tokens_of}
 use Rattle.idl_lexer.proofs.Reading.{goes, stops, ends}
 use Rattle.idl_lexer.proofs.Spanned.{spans_kept, spans_whole}
 use Rattle.idl_lexer.proofs.lexing.lex.Goals as goal
@@ -14,7 +16,9 @@ loop-at-preserved c =
     }
 
 pub returns-in-Err-clause-exact : goal.returns-in-Err-clause-exact
-returns-in-Err-clause-exact c = stops c.args.text.now c.loop-at.tokens.items c.loop-at.at c.in-Err.reason _ c.loop-at-test.true (sym c.in-Err.ensures.value) c.loop-at.invariant.read
+returns-in-Err-clause-exact c =
+    let stopped = stops c.args.text.now c.loop-at.tokens.items c.loop-at.at c.in-Err.reason _ c.loop-at-test.true (sym c.in-Err.ensures.value) c.loop-at.invariant.read in
+    subst (λ (e : LexError). Gives (Err e) (tokens_of c.args.text.now)) (sym c.fault_at.ensures) stopped
 
 pub returns-clause-exact : goal.returns-clause-exact
 returns-clause-exact c = ends c.args.text.now c.loop-at.tokens.items c.loop-at.at _ c.loop-at-test.false c.loop-at.invariant.read

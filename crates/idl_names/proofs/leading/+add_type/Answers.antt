@@ -1,7 +1,7 @@
 use Rattle.std.proofs.Common.{◌≡◌, ◌∙◌, ap, sym, List}
 use Rattle.std.proofs.lemmas.Result.{on_ok_weaker}
-use Rattle.idl_parser.specs.declared.document.TypeExpr.{TypeExpr}
-use Rattle.idl_parser.specs.Trees.{TypeTree, type_tree, form_tree, map_at}
+use Rattle.idl_document.specs.declared.document.TypeExpr.{TypeExpr}
+use Rattle.idl_document.specs.Trees.{TypeTree, type_tree, form_tree, map_at}
 use Rattle.idl_names.specs.declared.documents.Spot.{Spot}
 use Rattle.idl_names.specs.Cycles.{type_spots}
 use Rattle.idl_names.specs.Files.{file_trees}

@@ -1,6 +1,6 @@
 use Rattle.std.proofs.Common.{◌∙◌, ap, Option}
 use Rattle.std.proofs.lemmas.Result.{on_ok_weaker}
-use Rattle.idl_parser.specs.Declarations.{DefinitionTree}
+use Rattle.idl_document.specs.Trees.{DefinitionTree}
 use Rattle.idl_names.specs.Cycles.{next_spots, spots_by}
 use Rattle.idl_names.specs.Files.{file_trees}
 use Rattle.idl_names.specs.Sets.{with_all}

@@ -1,6 +1,6 @@
 use Rattle.std.proofs.Common.{◌≡◌, ◌∙◌, ap, sym}
-use Rattle.idl_parser.specs.declared.document.TypeExpr.{TypeExpr}
-use Rattle.idl_parser.specs.Trees.{type_tree, form_tree, map_at}
+use Rattle.idl_document.specs.declared.document.TypeExpr.{TypeExpr}
+use Rattle.idl_document.specs.Trees.{type_tree, form_tree, map_at}
 use Rattle.idl_rules.specs.Leasts.{none_lesser}
 use Rattle.idl_rules.specs.Order.{lesser, least_of}
 use Rattle.idl_names.specs.Files.{file_trees}

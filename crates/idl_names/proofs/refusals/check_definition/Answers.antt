@@ -1,7 +1,6 @@
 use Rattle.std.proofs.Common.{◌≡◌, ◌∙◌, ◌++◌, ap, sym, List}
-use Rattle.idl_parser.specs.declared.document.Function.{Function}
-use Rattle.idl_parser.specs.Declarations.{definition_tree, function_trees, typedef_of, service_of}
-use Rattle.idl_parser.specs.Trees.{type_tree}
+use Rattle.idl_document.specs.declared.document.Function.{Function}
+use Rattle.idl_document.specs.Trees.{definition_tree, function_trees, typedef_of, service_of, type_tree}
 use Rattle.idl_rules.specs.declared.row.IdlRow.TheVariants as rows
 use Rattle.idl_rules.specs.Leasts.{none_lesser}
 use Rattle.idl_rules.specs.Order.{lesser, least_of}

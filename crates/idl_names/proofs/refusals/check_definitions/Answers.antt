@@ -1,5 +1,5 @@
 use Rattle.std.proofs.Common.{◌≡◌, ◌∙◌, ap, suc, ℕ, ◌+◌, refl, drop, arith, add-one}
-use Rattle.idl_parser.specs.Declarations.{definition_tree, definition_trees}
+use Rattle.idl_document.specs.Trees.{definition_tree, definition_trees}
 use Rattle.idl_rules.specs.Order.{lesser, least_of}
 use Rattle.idl_names.specs.Files.{file_trees}
 use Rattle.idl_names.specs.Meaning.{spot_at}

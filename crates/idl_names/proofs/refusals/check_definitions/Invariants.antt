@@ -1,5 +1,5 @@
 use Rattle.std.proofs.Common.{◌≡◌, drop}
-use Rattle.idl_parser.specs.Declarations.{definition_trees}
+use Rattle.idl_document.specs.Trees.{definition_trees}
 use Rattle.idl_rules.specs.Order.{lesser, least_of}
 use Rattle.idl_names.specs.Files.{file_trees}
 use Rattle.idl_names.specs.Refusals.{definitions_refusals}

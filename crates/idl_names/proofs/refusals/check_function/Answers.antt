@@ -1,7 +1,6 @@
 use Rattle.std.proofs.Common.{◌∙◌, ◌++◌, ap, List}
-use Rattle.idl_parser.specs.declared.document.FieldDecl.{FieldDecl}
-use Rattle.idl_parser.specs.Declarations.{function_tree}
-use Rattle.idl_parser.specs.Fields.{field_trees}
+use Rattle.idl_document.specs.declared.document.FieldDecl.{FieldDecl}
+use Rattle.idl_document.specs.Trees.{function_tree, field_trees}
 use Rattle.idl_rules.specs.Order.{lesser, least_of}
 use Rattle.idl_names.specs.Files.{file_trees}
 use Rattle.idl_names.specs.Refusals.{returned_refusals, fields_refusals, throws_refusals}

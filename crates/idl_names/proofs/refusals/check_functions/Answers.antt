@@ -1,5 +1,5 @@
 use Rattle.std.proofs.Common.{◌+◌, refl, drop, arith}
-use Rattle.idl_parser.specs.Declarations.{function_tree, function_trees}
+use Rattle.idl_document.specs.Trees.{function_tree, function_trees}
 use Rattle.idl_rules.specs.Order.{lesser, least_of}
 use Rattle.idl_names.specs.Files.{file_trees}
 use Rattle.idl_names.specs.Refusals.{function_refusals, functions_refusals}

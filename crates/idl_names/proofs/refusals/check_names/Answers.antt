@@ -1,7 +1,7 @@
 use Rattle.std.proofs.Common.{◌≡◌, ◌∙◌, ap, sym, List, Option, None, option_map, slice_get, Bor}
 use Rattle.std.specs.Option.{option_copied}
-use Rattle.idl_parser.specs.declared.document.Definition.{Definition}
-use Rattle.idl_parser.specs.Declarations.{definition_trees}
+use Rattle.idl_document.specs.declared.document.Definition.{Definition}
+use Rattle.idl_document.specs.Trees.{definition_trees}
 use Rattle.idl_rules.specs.Leasts.{none_lesser}
 use Rattle.idl_rules.specs.Order.{lesser, least_of}
 use Rattle.idl_names.specs.declared.documents.FileDoc.{FileDoc}

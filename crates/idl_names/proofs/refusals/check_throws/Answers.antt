@@ -1,6 +1,5 @@
 use Rattle.std.proofs.Common.{◌+◌, ◌++◌, refl, drop, arith}
-use Rattle.idl_parser.specs.Fields.{field_trees}
-use Rattle.idl_parser.specs.Trees.{type_tree}
+use Rattle.idl_document.specs.Trees.{field_trees, type_tree}
 use Rattle.idl_rules.specs.Order.{lesser, least_of}
 use Rattle.idl_names.specs.Files.{file_trees}
 use Rattle.idl_names.specs.Refusals.{type_refusals, thrown_refusals, throws_refusals}

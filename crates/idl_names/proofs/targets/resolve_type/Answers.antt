@@ -1,5 +1,5 @@
 use Rattle.std.proofs.Common.{◌∙◌, ap, sym, option_map}
-use Rattle.idl_parser.specs.Trees.{type_tree}
+use Rattle.idl_document.specs.Trees.{type_tree}
 use Rattle.idl_names.specs.Files.{file_trees}
 use Rattle.idl_names.specs.Told.{step_tree, target_tree}
 use Rattle.idl_names.proofs.Chasing.{target_is, chased_lost, chased_ends, chased_follows, chased_out}

@@ -1,5 +1,5 @@
 use Rattle.std.proofs.Common.{◌≡◌}
-use Rattle.idl_parser.specs.Trees.{type_tree}
+use Rattle.idl_document.specs.Trees.{type_tree}
 use Rattle.idl_names.specs.Files.{file_trees}
 use Rattle.idl_names.specs.Targets.{chased, target_of}
 use Rattle.idl_names.proofs.targets.resolve_type.Given as goal

@@ -1,6 +1,7 @@
 use Rattle.std.proofs.Common.{◌∙◌, ap, sym, [], ◌∷◌}
-use Rattle.idl_parser.specs.declared.document.Definition.{Definition}
-use Rattle.idl_parser.specs.Declarations.{one_definition, definition_tree, definition_trees}
+use Rattle.idl_document.specs.declared.document.Definition.{Definition}
+use Rattle.idl_parser.specs.Declarations.{one_definition}
+use Rattle.idl_document.specs.Trees.{definition_tree, definition_trees}
 use Rattle.idl_parser.specs.Lexemes.{is_left}
 use Rattle.idl_parser.proofs.Listed.{map_push, stop_listed}
 use Rattle.idl_parser.specs.Run.{listed}

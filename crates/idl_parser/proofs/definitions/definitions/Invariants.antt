@@ -1,6 +1,7 @@
 use Rattle.std.proofs.Common.{◌≡◌, ◌-◌, ◌≤◌, length, drop}
 use Rattle.idl_parser.specs.Run.{run, joined}
-use Rattle.idl_parser.specs.Declarations.{one_definition, definition_trees}
+use Rattle.idl_parser.specs.Declarations.{one_definition}
+use Rattle.idl_document.specs.Trees.{definition_trees}
 use Rattle.idl_parser.specs.Lexemes.{is_left}
 use Rattle.idl_parser.proofs.definitions.definitions.Given as goal
 

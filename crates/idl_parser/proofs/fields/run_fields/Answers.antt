@@ -1,7 +1,8 @@
 use Rattle.std.proofs.Common.{◌∙◌, ap, [], ◌∷◌}
 use Rattle.idl_parser.specs.Notes.{not_closed}
-use Rattle.idl_parser.specs.declared.document.FieldDecl.{FieldDecl}
-use Rattle.idl_parser.specs.Fields.{one_field, field_tree, field_trees}
+use Rattle.idl_document.specs.declared.document.FieldDecl.{FieldDecl}
+use Rattle.idl_parser.specs.Fields.{one_field}
+use Rattle.idl_document.specs.Trees.{field_tree, field_trees}
 use Rattle.idl_parser.proofs.Listed.{map_push, stop_listed, turned, kept}
 use Rattle.idl_parser.specs.Run.{listed}
 use Rattle.idl_parser.proofs.Running.{goes, gives_up, ends, ends_within}

@@ -1,7 +1,8 @@
 use Rattle.std.proofs.Common.{◌≡◌, ◌-◌, ◌≤◌, length, drop}
 use Rattle.idl_parser.specs.Run.{run, joined}
 use Rattle.idl_parser.specs.Notes.{not_closed}
-use Rattle.idl_parser.specs.Fields.{one_field, field_trees}
+use Rattle.idl_parser.specs.Fields.{one_field}
+use Rattle.idl_document.specs.Trees.{field_trees}
 use Rattle.idl_parser.proofs.fields.run_fields.Given as goal
 
 abbrev pub invariant-items : goal.invariant-items

@@ -1,7 +1,8 @@
 use Rattle.std.proofs.Common.{◌∙◌, ap, [], ◌∷◌}
 use Rattle.idl_parser.specs.Notes.{not_closed}
-use Rattle.idl_parser.specs.declared.document.Function.{Function}
-use Rattle.idl_parser.specs.Declarations.{one_function, function_tree, function_trees}
+use Rattle.idl_document.specs.declared.document.Function.{Function}
+use Rattle.idl_parser.specs.Functions.{one_function}
+use Rattle.idl_document.specs.Trees.{function_tree, function_trees}
 use Rattle.idl_parser.proofs.Listed.{map_push, stop_listed, turned, kept}
 use Rattle.idl_parser.specs.Run.{listed}
 use Rattle.idl_parser.proofs.Running.{goes, gives_up, ends, ends_within}

@@ -1,7 +1,8 @@
 use Rattle.std.proofs.Common.{◌≡◌, ◌-◌, ◌≤◌, length, drop}
 use Rattle.idl_parser.specs.Run.{run, joined}
 use Rattle.idl_parser.specs.Notes.{not_closed}
-use Rattle.idl_parser.specs.Declarations.{one_function, function_trees}
+use Rattle.idl_parser.specs.Functions.{one_function}
+use Rattle.idl_document.specs.Trees.{function_trees}
 use Rattle.idl_parser.proofs.functions.run_functions.Given as goal
 
 abbrev pub invariant-items : goal.invariant-items

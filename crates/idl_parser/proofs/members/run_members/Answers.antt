@@ -1,6 +1,6 @@
 use Rattle.std.proofs.Common.{ap, [], ◌∷◌}
 use Rattle.idl_parser.specs.Notes.{not_closed}
-use Rattle.idl_parser.specs.declared.document.Member.{Member}
+use Rattle.idl_document.specs.declared.document.Member.{Member}
 use Rattle.idl_parser.specs.Declarations.{one_member}
 use Rattle.idl_parser.specs.Lexemes.{itself}
 use Rattle.idl_parser.proofs.Listed.{stop_listed, turned, kept}

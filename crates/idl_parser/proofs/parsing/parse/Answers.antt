@@ -1,6 +1,7 @@
 use Rattle.std.proofs.Common.{◌≡◌, List, length, Ok, subst, sym, ap, ◌∙◌}
 use Rattle.idl_lexer.specs.declared.token.Token.{Token}
-use Rattle.idl_parser.specs.Documents.{document_at, document_tree}
+use Rattle.idl_parser.specs.Documents.{document_at}
+use Rattle.idl_document.specs.Trees.{document_tree}
 use Rattle.idl_parser.specs.Seeing.{IsInside, seen_all}
 use Rattle.idl_parser.specs.Seen.{Input}
 use Rattle.idl_parser.proofs.Counting.{definitions_of_text}

@@ -1,6 +1,6 @@
 use Rattle.std.proofs.Common.{subst}
 use Rattle.idl_parser.specs.Lexemes.{Gives, Scan}
-use Rattle.idl_parser.specs.Trees.{TypeTree, type_tree}
+use Rattle.idl_document.specs.Trees.{TypeTree, type_tree}
 use Rattle.idl_parser.proofs.Levels.{step_is}
 use Rattle.idl_parser.proofs.types.+types.Goals as goal
 

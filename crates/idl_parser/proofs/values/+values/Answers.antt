@@ -1,8 +1,8 @@
 use Rattle.std.proofs.Common.{List, ◌-◌}
 use Rattle.idl_parser.specs.Notes.{not_closed}
 use Rattle.std.proofs.Common.{subst}
-use Rattle.idl_parser.specs.Item.{ValueItem}
-use Rattle.idl_parser.specs.Items.{items_of_value, items_of_pair}
+use Rattle.idl_document.specs.Item.{ValueItem}
+use Rattle.idl_document.specs.Items.{items_of_value, items_of_pair}
 use Rattle.idl_parser.specs.Lexemes.{Gives, Scan, itself}
 use Rattle.idl_parser.specs.Values.{value_at, element_of, pair_of}
 use Rattle.idl_parser.proofs.Levels.{value_step_is}

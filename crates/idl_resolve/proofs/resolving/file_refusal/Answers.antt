@@ -1,6 +1,6 @@
 use Rattle.idl_names.specs.Files.{file_trees}
 use Rattle.idl_names.specs.Refusals.{name_refusals}
-use Rattle.idl_parser.specs.Documents.{document_tree}
+use Rattle.idl_document.specs.Trees.{document_tree}
 use Rattle.idl_rules.specs.Rules.{rule_refusals}
 use Rattle.idl_resolve.proofs.Asking.{noted_both}
 use Rattle.idl_resolve.proofs.resolving.file_refusal.Goals as goal

@@ -1,6 +1,6 @@
 use Rattle.std.proofs.Common.{◌≡◌, ◌+◌, ◌∷◌, ◌∙◌, ap, refl, drop, arith, ℕ, ℤ, ◌≤◌, Option, Some, None, subst, rules, w64, SFits}
 use Rattle.std.proofs.lemmas.Int.{to_z-of_z}
-use Rattle.idl_parser.specs.Fields.{field_trees}
+use Rattle.idl_document.specs.Trees.{field_trees}
 use Rattle.idl_rules.specs.declared.ids.FieldId.{FieldId}
 use Rattle.idl_rules.specs.Ids.{refused_ids, ids_from, id_refusals, counted, is_id_among, IsSameIds}
 use Rattle.idl_rules.specs.Order.{lesser, least_of}

@@ -1,5 +1,5 @@
 use Rattle.std.proofs.Common.{◌+◌, ◌++◌, refl, drop, arith}
-use Rattle.idl_parser.specs.Declarations.{definition_tree, definition_trees}
+use Rattle.idl_document.specs.Trees.{definition_tree, definition_trees}
 use Rattle.idl_rules.specs.Order.{lesser, least_of}
 use Rattle.idl_rules.specs.Rules.{all_inner, inner_refusals}
 use Rattle.idl_rules.proofs.Steps.{opened, ends, noted}

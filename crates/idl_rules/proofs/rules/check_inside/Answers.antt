@@ -1,7 +1,7 @@
 use Rattle.std.proofs.Common.{◌≡◌, ◌∙◌, ap, sym, List, map}
 use Rattle.std.proofs.lemmas.Result.{on_ok_weaker}
-use Rattle.idl_parser.specs.declared.document.Name.{Name}
-use Rattle.idl_parser.specs.Declarations.{definition_tree, function_trees, enum_of, service_of}
+use Rattle.idl_document.specs.declared.document.Name.{Name}
+use Rattle.idl_document.specs.Trees.{definition_tree, function_trees, enum_of, service_of}
 use Rattle.idl_rules.specs.declared.row.IdlRow.TheVariants as rows
 use Rattle.idl_rules.specs.Doubles.{double_names}
 use Rattle.idl_rules.specs.Leasts.{none_lesser}

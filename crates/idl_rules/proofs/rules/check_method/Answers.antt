@@ -1,6 +1,6 @@
 use Rattle.std.proofs.Common.{◌≡◌, ◌++◌, rules}
 use Rattle.std.proofs.lemmas.Result.{on_ok_weaker}
-use Rattle.idl_parser.specs.Declarations.{function_tree}
+use Rattle.idl_document.specs.Trees.{function_tree}
 use Rattle.idl_rules.specs.Order.{lesser, least_of}
 use Rattle.idl_rules.specs.Rules.{field_refusals, oneway_refusals}
 use Rattle.idl_rules.proofs.Steps.{joined}

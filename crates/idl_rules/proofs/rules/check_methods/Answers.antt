@@ -1,5 +1,5 @@
 use Rattle.std.proofs.Common.{◌+◌, ◌++◌, refl, drop, arith}
-use Rattle.idl_parser.specs.Declarations.{function_tree, function_trees}
+use Rattle.idl_document.specs.Trees.{function_tree, function_trees}
 use Rattle.idl_rules.specs.Order.{lesser, least_of}
 use Rattle.idl_rules.specs.Rules.{methods_refusals, method_refusals}
 use Rattle.idl_rules.proofs.Steps.{opened, ends, noted}

@@ -1,5 +1,5 @@
 use Rattle.std.proofs.Common.{◌∙◌, ap, sym, Option, ℕ}
-use Rattle.idl_parser.specs.Declarations.{function_tree}
+use Rattle.idl_document.specs.Trees.{function_tree}
 use Rattle.idl_rules.specs.Leasts.{none_lesser}
 use Rattle.idl_rules.specs.Order.{lesser, least_of}
 use Rattle.idl_rules.specs.Rules.{oneway_by, answers}

@@ -1,12 +1,12 @@
 use Rattle.std.proofs.Common.{◌≡◌, ◌≤◌, ◌+◌, [], ◌∷◌, ◌++◌, ◌∙◌, ap, sym, arith, drop, length, List, ℕ, ℤ, Option, Some, None}
-use Rattle.idl_parser.specs.declared.document.FieldDecl.{FieldDecl}
-use Rattle.idl_parser.specs.Fields.{field_tree, field_trees}
+use Rattle.idl_document.specs.declared.document.FieldDecl.{FieldDecl}
+use Rattle.idl_document.specs.Trees.{field_tree, field_trees}
 use Rattle.idl_rules.specs.Ids.{id_of, counted}
 use Rattle.type_tables.specs.declared.declared.FieldInfo.{FieldInfo}
 use Rattle.type_tables.specs.declared.declared.Ty.{Ty}
 use Rattle.idl_schema.specs.Adding.{with_types}
 use Rattle.idl_schema.specs.Fields.{need_of, fields_from, fields_types}
-use Rattle.idl_schema.specs.Sights.{files_of}
+use Rattle.idl_schema.specs.Indexes.{files_of}
 use Rattle.idl_schema.specs.Types.{ty_in}
 use Rattle.idl_schema.proofs.Listing.{next, field_listed, field_typed}
 use Rattle.idl_schema.proofs.fields.add_fields.Goals as goal
@@ -17,7 +17,7 @@ within_counted before i None n h e = omega arith
 
 pub loop-field-preserved : goal.loop-field-preserved
 loop-field-preserved c =
-    let ty = ty_in (files_of c.args.sight.now) c.args.file in
+    let ty = ty_in (files_of c.args.index.now) c.args.file in
     let fs = c.args.fields.now in
     let i = c.loop-field.field-index in
     let f = c.field-item.result in

@@ -1,16 +1,16 @@
 use Rattle.std.proofs.Common.{◌+◌, ◌∙◌, ap, sym, drop, List}
-use Rattle.idl_parser.specs.declared.document.Definition.{Definition}
-use Rattle.idl_parser.specs.Declarations.{definition_tree, definition_trees}
+use Rattle.idl_document.specs.declared.document.Definition.{Definition}
+use Rattle.idl_document.specs.Trees.{definition_tree, definition_trees}
 use Rattle.idl_schema.specs.Adding.{firsts}
 use Rattle.idl_schema.specs.Shares.{shares, with_share}
-use Rattle.idl_schema.specs.Sights.{files_of}
+use Rattle.idl_schema.specs.Indexes.{files_of}
 use Rattle.idl_schema.proofs.Listing.{next}
 use Rattle.idl_schema.proofs.Sharing.{definition_added}
 use Rattle.idl_schema.proofs.making.add_definitions.Goals as goal
 
 pub loop-definition-preserved : goal.loop-definition-preserved
 loop-definition-preserved c =
-    let files = files_of c.args.sight.now in
+    let files = files_of c.args.index.now in
     let ds = c.args.definitions.now in
     let i = c.loop-definition.definition-index in
     let d = c.definition-item.result in

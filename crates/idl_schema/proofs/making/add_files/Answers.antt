@@ -1,17 +1,17 @@
 use Rattle.std.proofs.Common.{◌+◌, ◌∙◌, ap, sym, drop, List, ℕ}
 use Rattle.idl_names.specs.declared.documents.FileDoc.{FileDoc}
 use Rattle.idl_names.specs.Files.{file_tree, file_trees}
-use Rattle.idl_parser.specs.Declarations.{definition_trees}
+use Rattle.idl_document.specs.Trees.{definition_trees}
 use Rattle.idl_schema.specs.Adding.{firsts}
 use Rattle.idl_schema.specs.Shares.{shares, files_shares, with_share}
-use Rattle.idl_schema.specs.Sights.{files_of}
+use Rattle.idl_schema.specs.Indexes.{files_of}
 use Rattle.idl_schema.proofs.Listing.{next}
 use Rattle.idl_schema.proofs.Sharing.{file_added}
 use Rattle.idl_schema.proofs.making.add_files.Goals as goal
 
 pub loop-at-preserved : goal.loop-at-preserved
 loop-at-preserved c =
-    let files = files_of c.args.sight.now in
+    let files = files_of c.args.index.now in
     let fs = c.args.files.now in
     let i = c.loop-at.at in
     let f = c.index-files-at.result in

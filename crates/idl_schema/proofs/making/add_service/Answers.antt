@@ -1,16 +1,16 @@
 use Rattle.std.proofs.Common.{◌∙◌}
 use Rattle.std.proofs.lemmas.Result.{on_ok_weaker}
-use Rattle.idl_parser.specs.Declarations.{function_trees}
+use Rattle.idl_document.specs.Trees.{function_trees}
 use Rattle.idl_schema.specs.Methods.{methods_from, methods_structs, methods_types}
 use Rattle.idl_schema.specs.Shares.{base_of}
-use Rattle.idl_schema.specs.Sights.{files_of}
+use Rattle.idl_schema.specs.Indexes.{files_of}
 use Rattle.idl_schema.specs.Types.{ty_in}
 use Rattle.idl_schema.proofs.Sharing.{service_added}
 use Rattle.idl_schema.proofs.making.add_service.Goals as goal
 
 pub returns : goal.returns
 returns c =
-    let files = files_of c.args.sight.now in
+    let files = files_of c.args.index.now in
     let ty = ty_in files c.args.file in
     let fs = function_trees c.args.functions.now in
     let b = c.args.builder.now in

@@ -1,7 +1,7 @@
 use Rattle.std.proofs.Common.{◌<◌, ◌+◌, ◌∙◌, ap, sym, subst, arith, drop, length, List, ℕ}
 use Rattle.std.proofs.lemmas.List.{drop_all}
-use Rattle.idl_parser.specs.declared.document.Function.{Function}
-use Rattle.idl_parser.specs.Declarations.{function_tree, function_trees}
+use Rattle.idl_document.specs.declared.document.Function.{Function}
+use Rattle.idl_document.specs.Trees.{function_tree, function_trees}
 use Rattle.type_tables.specs.Declarations.{Declarations}
 use Rattle.idl_schema.specs.Adding.{with_methods}
 use Rattle.idl_schema.specs.Methods.{methods_from, method_info}

@@ -1,5 +1,5 @@
 use Rattle.std.proofs.Common.{◌≡◌, ◌<◌, length, drop}
-use Rattle.idl_parser.specs.Declarations.{function_trees}
+use Rattle.idl_document.specs.Trees.{function_trees}
 use Rattle.idl_schema.specs.Adding.{with_methods}
 use Rattle.idl_schema.specs.Methods.{methods_from}
 use Rattle.idl_schema.proofs.methods.add_methods.Given as goal

@@ -1,13 +1,13 @@
 use Rattle.std.proofs.Common.{◌≡◌, ◌+◌, ◌++◌, ◌∙◌, ap, length, ℕ, List, rules}
 use Rattle.std.proofs.lemmas.Result.{on_ok_weaker}
-use Rattle.idl_parser.specs.Declarations.{function_tree}
+use Rattle.idl_document.specs.Trees.{function_tree}
 use Rattle.type_tables.specs.declared.declared.FieldInfo.{FieldInfo}
 use Rattle.type_tables.specs.declared.declared.Form.TheVariants as forms
 use Rattle.idl_schema.specs.Adding.{with_types}
 use Rattle.idl_schema.specs.Fields.{fields_from, fields_types, success, returns_types}
 use Rattle.idl_schema.specs.Methods.{result_types}
 use Rattle.idl_schema.specs.Numbers.{returns_parts}
-use Rattle.idl_schema.specs.Sights.{files_of}
+use Rattle.idl_schema.specs.Indexes.{files_of}
 use Rattle.idl_schema.specs.Types.{ty_in}
 use Rattle.idl_schema.proofs.Counting.{returns_length}
 use Rattle.idl_schema.proofs.Listing.{types_joined, struct_added, longer_by}
@@ -15,7 +15,7 @@ use Rattle.idl_schema.proofs.methods.add_result.Goals as goal
 
 pub returns : goal.returns
 returns c =
-    let ty = ty_in (files_of c.args.sight.now) c.args.file in
+    let ty = ty_in (files_of c.args.index.now) c.args.file in
     let f = function_tree c.args.method.now in
     let b = c.args.builder.now in
     let m = c.add_success.new.builder in

@@ -1,16 +1,16 @@
 use Rattle.std.proofs.Common.{◌+◌, ◌∙◌, ap, sym, drop, length, List}
-use Rattle.idl_parser.specs.declared.document.Function.{Function}
-use Rattle.idl_parser.specs.Declarations.{function_tree, function_trees}
+use Rattle.idl_document.specs.declared.document.Function.{Function}
+use Rattle.idl_document.specs.Trees.{function_tree, function_trees}
 use Rattle.idl_schema.specs.Adding.{with_structs}
 use Rattle.idl_schema.specs.Methods.{methods_structs, methods_types}
-use Rattle.idl_schema.specs.Sights.{files_of}
+use Rattle.idl_schema.specs.Indexes.{files_of}
 use Rattle.idl_schema.specs.Types.{ty_in}
 use Rattle.idl_schema.proofs.Listing.{next, method_added}
 use Rattle.idl_schema.proofs.methods.add_structs.Goals as goal
 
 pub loop-method-preserved : goal.loop-method-preserved
 loop-method-preserved c =
-    let ty = ty_in (files_of c.args.sight.now) c.args.file in
+    let ty = ty_in (files_of c.args.index.now) c.args.file in
     let fs = c.args.methods.now in
     let i = c.loop-method.method-index in
     let f = c.method-item.result in

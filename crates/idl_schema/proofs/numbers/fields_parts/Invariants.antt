@@ -1,5 +1,5 @@
 use Rattle.std.proofs.Common.{◌≡◌, ◌+◌, drop}
-use Rattle.idl_parser.specs.Fields.{field_trees}
+use Rattle.idl_document.specs.Trees.{field_trees}
 use Rattle.idl_schema.specs.Numbers.{fields_parts}
 use Rattle.idl_schema.proofs.numbers.fields_parts.Given as goal
 

@@ -1,5 +1,5 @@
 use Rattle.std.proofs.Common.{◌≡◌, ◌+◌, drop}
-use Rattle.idl_parser.specs.Declarations.{function_trees}
+use Rattle.idl_document.specs.Trees.{function_trees}
 use Rattle.idl_schema.specs.Numbers.{methods_parts}
 use Rattle.idl_schema.proofs.numbers.methods_parts.Given as goal
 

@@ -1,5 +1,5 @@
 use Rattle.std.proofs.Common.{◌≡◌, ◌++◌, drop}
-use Rattle.idl_parser.specs.Declarations.{definition_trees}
+use Rattle.idl_document.specs.Trees.{definition_trees}
 use Rattle.idl_schema.specs.Numbers.{numbers_in, after_all}
 use Rattle.idl_schema.proofs.numbers.numbers_in.Given as goal
 

@@ -1,15 +1,15 @@
 use Rattle.std.proofs.Common.{◌≡◌, length}
 use Rattle.std.proofs.lemmas.Result.{on_ok_weaker}
-use Rattle.idl_parser.specs.Trees.{type_tree}
+use Rattle.idl_document.specs.Trees.{type_tree}
 use Rattle.idl_schema.specs.Adding.{with_types}
-use Rattle.idl_schema.specs.Sights.{files_of}
+use Rattle.idl_schema.specs.Indexes.{files_of}
 use Rattle.idl_schema.specs.Types.{ty_in, part_types}
 use Rattle.idl_schema.proofs.Growing.{map_added}
 use Rattle.idl_schema.proofs.parts.+parts.Goals as goal
 
 pub add_pair-returns : goal.add_pair-returns
 add_pair-returns t c =
-    let ty = ty_in (files_of c.args.sight.now) c.args.file in
+    let ty = ty_in (files_of c.args.index.now) c.args.file in
     let key = type_tree c.args.key.now in
     let value = type_tree c.args.value.now in
     let first : c.add_parts.new.builder ≡ with_types c.add_part-2.new.builder (part_types ty (length c.add_part-2.new.builder.types) key) = c.in_ok-add_parts.ensures in

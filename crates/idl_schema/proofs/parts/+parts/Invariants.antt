@@ -1,5 +1,5 @@
 use Rattle.std.proofs.Common.{◌+◌, ◌*◌}
-use Rattle.idl_parser.specs.Trees.{type_tree}
+use Rattle.idl_document.specs.Trees.{type_tree}
 use Rattle.idl_schema.specs.Numbers.{parts}
 use Rattle.idl_schema.proofs.parts.+parts.Given as goal
 

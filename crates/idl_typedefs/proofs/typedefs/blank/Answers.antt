@@ -1,11 +1,11 @@
 use Rattle.std.proofs.Common.{List, Option, sym, subst}
-use Rattle.idl_typedefs.specs.declared.typedefs.Hop.{Hop}
-use Rattle.idl_typedefs.specs.Hops.{AreHops}
+use Rattle.idl_typedefs.specs.declared.typedefs.AliasLink.{AliasLink}
+use Rattle.idl_typedefs.specs.AliasLinks.{AreAliasLinks}
 use Rattle.idl_typedefs.proofs.Keeping.{none_kept, none_pushed}
 use Rattle.idl_typedefs.proofs.typedefs.blank.Goals as goal
 
-pub hops-init : goal.hops-init
-hops-init c = λ files. subst (λ (hs : List (Option Hop)). AreHops files hs) (sym c.new-hops.ensures.items) (none_kept files)
+pub links-init : goal.links-init
+links-init c = λ files. subst (λ (hs : List (Option AliasLink)). AreAliasLinks files hs) (sym c.new-links.ensures.items) (none_kept files)
 
-pub hops-preserved : goal.hops-preserved
-hops-preserved c = λ files. subst (λ (hs : List (Option Hop)). AreHops files hs) (sym c.in_ok-push.ensures.items) (none_pushed files c.hops.hops.items (c.hops.invariant files))
+pub links-preserved : goal.links-preserved
+links-preserved c = λ files. subst (λ (hs : List (Option AliasLink)). AreAliasLinks files hs) (sym c.in_ok-push.ensures.items) (none_pushed files c.links.links.items (c.links.invariant files))

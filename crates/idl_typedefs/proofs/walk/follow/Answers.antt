@@ -1,12 +1,12 @@
 use Rattle.std.proofs.Common.{sym}
 use Rattle.idl_names.specs.Files.{file_trees}
-use Rattle.idl_typedefs.proofs.Reaching.{joined_hop, reached_one}
+use Rattle.idl_typedefs.proofs.Reaching.{joined_link, reached_one}
 use Rattle.idl_typedefs.proofs.walk.follow.Goals as goal
 
 pub returns-in-Some : goal.returns-in-Some
 returns-in-Some c =
     let files = file_trees c.args.names.now.files.now in
-    joined_hop files c.names.steps c.args.spot c.names.at c.in-Some.hop c.joined.result c.names.invariant (c.in-Some.ensures.hop files c.requires)
+    joined_link files c.names.steps c.args.spot c.names.at c.in-Some.link c.joined.result c.names.invariant (c.in-Some.ensures.link files c.requires)
     c.joined.ensures.first c.joined.ensures.last c.joined.ensures.steps
 
 pub names-preserved : goal.names-preserved

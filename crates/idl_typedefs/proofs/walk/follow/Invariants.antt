@@ -1,6 +1,6 @@
 use Rattle.std.proofs.Common.{◌≡◌, ◌+◌, ◌-◌, Some}
 use Rattle.idl_names.specs.Files.{file_trees}
-use Rattle.idl_typedefs.specs.Hops.{reached}
+use Rattle.idl_typedefs.specs.AliasLinks.{reached}
 use Rattle.idl_typedefs.proofs.walk.follow.Given as goal
 
 abbrev pub invariant-names : goal.invariant-names

@@ -32,7 +32,7 @@ events-preserved g c =
           let told = inv.told first text in
           let before = going c.events.reader told.0 (place told.0 told.1) depth None told.2 in
           let next = moved source typed target before (item, new) in
-          let seen = g.met.R.Blind.blind c.events.reader (typed.hint told.0) hints.Unknown ∙ step in
+          let seen = g.met.R.HintIndependent.alike c.events.reader (typed.hint told.0) hints.Unknown ∙ step in
           (positions.after told.0 item, after told.1 item, next.bytes, rw c.step.ensures.depth (sym (whole_step source typed target g.R.ReadRules.pays before item new (omega arith) seen) ∙ told.3));
       depth_is = c.step.ensures.depth ∙ ap (depth_after item) inv.depth_is ∙ sym nested;
       shallow = rw (c.step.ensures.depth, inv.depth_is) c.in-Ok.ensures.shallow;
@@ -45,7 +45,7 @@ returns-in-Err g c first text =
     let told = c.events.invariant.told first text in
     let before = going c.events.reader told.0 (place told.0 told.1) (length c.events.walk.levels) None told.2 in
     let fault = step_err (g.R.ReadRules.reads c.events.reader hints.Unknown) c.in-Err.fault c.in-Err.ensures.answer in
-    let ended = sym told.3 ∙ whole_fault source typed target g.R.ReadRules.pays before c.in-Err.fault (omega arith) (g.met.R.Blind.blind c.events.reader (typed.hint told.0) hints.Unknown ∙ fault) in
+    let ended = sym told.3 ∙ whole_fault source typed target g.R.ReadRules.pays before c.in-Err.fault (omega arith) (g.met.R.HintIndependent.alike c.events.reader (typed.hint told.0) hints.Unknown ∙ fault) in
     rw ended refl
 
 pub returns-in-Ok-finish : goal.returns-in-Ok-finish

@@ -12,7 +12,7 @@ use Rattle.type_walk.specs.Positions.{declared_in, entered, hint_of}
 use Rattle.translate_core.specs.Body.{source_of}
 use Rattle.message_show.specs.Inside.{at}
 use Rattle.message_show.specs.Pieces.{output}
-use Rattle.message_show.specs.declared.here.Turn.TheVariants as turns
+use Rattle.message_show.specs.declared.open_level.LevelStep.TheVariants as turns
 use Rattle.message_show.specs.Line.{Levels, closing, field_name, field_text, list_text, map_text, mark_before, stop_text, struct_text, value_text}
 use Rattle.message_show.proofs.Items.{value_item}
 use Rattle.message_show.proofs.Told.{tells_then, tells_more, tells_same}

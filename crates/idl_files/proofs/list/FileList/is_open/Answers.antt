@@ -1,5 +1,5 @@
 use Rattle.std.proofs.Common.{◌<◌, List, ℕ, length, nat_lt, sym, ◌∙◌, ap, subst}
-use Rattle.idl_parser.specs.declared.document.Name.{Name}
+use Rattle.idl_document.specs.declared.document.Name.{Name}
 use Rattle.idl_names.specs.Files.{file_trees}
 use Rattle.idl_names.specs.declared.documents.FileDoc.{FileDoc}
 use Rattle.idl_files.specs.Listing.{is_open_at}

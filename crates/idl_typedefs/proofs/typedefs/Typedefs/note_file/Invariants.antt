@@ -1,5 +1,5 @@
 use Rattle.idl_names.specs.Files.{file_trees}
-use Rattle.idl_typedefs.specs.Hops.{Follows}
+use Rattle.idl_typedefs.specs.AliasLinks.{Follows}
 use Rattle.idl_typedefs.proofs.typedefs.Typedefs.note_file.Given as goal
 
 abbrev pub invariant-definitions : goal.invariant-definitions

@@ -1,0 +1,75 @@
+use Rattle.std.proofs.Common.{◌≡◌, inl, inr, refl}
+use Rattle.gate_run.specs.declared.start.NoStart.TheVariants.{OutOfMemory}
+use Rattle.gate_run.proofs.Faults.{checked_faults, stream_faults, server_faults, by_code}
+use Rattle.gate_run.proofs.Starts.{unread}
+use Rattle.gate_run.proofs.commands.run.Goals as goal
+
+pub returns-in-Ok-Some-Check-clause-does : goal.returns-in-Ok-Some-Check-clause-does
+returns-in-Ok-Some-Check-clause-does g c =
+    let made = c.check.ensures.checks (g.I.Source.left c.args.input.now) (g.I.Source.faults c.args.input.now) in
+    let here : c.as_slice.result.now ≡ c.in-Ok-Some-Check.file = c.as_slice.ensures in
+    let done = rw here at made in
+    rw (← c.in-Ok-Some-Check.ensures.value) (c.check.result, c.status.ensures, done)
+
+pub returns-in-Ok-Some-Check-clause-no_file_fault : goal.returns-in-Ok-Some-Check-clause-no_file_fault
+returns-in-Ok-Some-Check-clause-no_file_fault g c =
+    by_code _ c.check.result _ _ c.status.ensures (checked_faults (c.check.ensures.checks (g.I.Source.left c.args.input.now) (g.I.Source.faults c.args.input.now)))
+
+pub returns-in-Ok-Some-Convert-clause-does : goal.returns-in-Ok-Some-Convert-clause-does
+returns-in-Ok-Some-Convert-clause-does g c =
+    rw (← c.in-Ok-Some-Convert.ensures.value) (c.start_stream.result, c.status-in-Ok-Some-Convert.ensures, c.start_stream.ensures.streamed)
+
+pub returns-in-Ok-Some-Convert-clause-no_file_fault : goal.returns-in-Ok-Some-Convert-clause-no_file_fault
+returns-in-Ok-Some-Convert-clause-no_file_fault g c =
+    by_code _ c.start_stream.result _ _ c.status-in-Ok-Some-Convert.ensures (stream_faults c.start_stream.ensures.streamed)
+
+pub returns-in-Ok-Some-Show-clause-does : goal.returns-in-Ok-Some-Show-clause-does
+returns-in-Ok-Some-Show-clause-does g c =
+    rw (← c.in-Ok-Some-Show.ensures.value) (c.start_stream-in-Ok-Some-Show.result, c.status-in-Ok-Some-Show.ensures, c.start_stream-in-Ok-Some-Show.ensures.streamed)
+
+pub returns-in-Ok-Some-Show-clause-no_file_fault : goal.returns-in-Ok-Some-Show-clause-no_file_fault
+returns-in-Ok-Some-Show-clause-no_file_fault g c =
+    by_code _ c.start_stream-in-Ok-Some-Show.result _ _ c.status-in-Ok-Some-Show.ensures (stream_faults c.start_stream-in-Ok-Some-Show.ensures.streamed)
+
+pub returns-in-Ok-Some-Serve-clause-does : goal.returns-in-Ok-Some-Serve-clause-does
+returns-in-Ok-Some-Serve-clause-does g c =
+    rw (← c.in-Ok-Some-Serve.ensures.value) (
+      c.start_server.result,
+      c.status-in-Ok-Some-Serve.ensures,
+      c.start_server.ensures.serves (g.I.Source.left c.args.input.now) (g.I.Source.faults c.args.input.now),
+    )
+
+pub returns-in-Ok-Some-Serve-clause-no_file_fault : goal.returns-in-Ok-Some-Serve-clause-no_file_fault
+returns-in-Ok-Some-Serve-clause-no_file_fault g c =
+    by_code _ c.start_server.result _ _ c.status-in-Ok-Some-Serve.ensures (server_faults (c.start_server.ensures.serves (g.I.Source.left c.args.input.now) (g.I.Source.faults c.args.input.now)))
+
+pub returns-in-Ok-Some-Drill-clause-does : goal.returns-in-Ok-Some-Drill-clause-does
+returns-in-Ok-Some-Drill-clause-does g c =
+    rw (← c.in-Ok-Some-Drill.ensures.value) (
+      c.drill_all.result,
+      c.status-in-Ok-Some-Drill.ensures,
+      c.drill_all.ensures.drills (g.I.Source.left c.args.input.now) (g.I.Source.faults c.args.input.now),
+    )
+
+pub returns-in-Ok-Some-Help-clause-does : goal.returns-in-Ok-Some-Help-clause-does
+returns-in-Ok-Some-Help-clause-does g c =
+    rw (← c.in-Ok-Some-Help.ensures.value) (
+      c.help.result,
+      c.status-in-Ok-Some-Help.ensures,
+      inl (c.help.ensures.helps (g.I.Source.left c.args.input.now) (g.E.Sink.written c.args.report.now) (g.I.Source.faults c.args.input.now) (g.E.Sink.faults c.args.report.now)),
+    )
+
+pub returns-in-Ok-None-clause-does : goal.returns-in-Ok-None-clause-does
+returns-in-Ok-None-clause-does g c =
+    rw (← c.in-Ok-None.ensures.value) (
+      c.usage.result,
+      c.status-in-Ok-None.ensures,
+      inl (record { left = refl; written = refl; front = c.usage.ensures.front; ends = c.usage.ensures.ends }),
+    )
+
+pub returns-in-Err-clause-does : goal.returns-in-Err-clause-does
+returns-in-Err-clause-does g c = (
+  c.halt.result,
+  c.status-in-Err.ensures,
+  unread g.H.Hub.tells g.H.Hub.counts _ _ _ _ _ _ _ (c.halt.ensures.halts (g.I.Source.left c.args.input.now) (g.O.Sink.written c.args.output.now) (g.I.Source.faults c.args.input.now) (g.O.Sink.faults c.args.output.now)),
+)

@@ -1,0 +1,74 @@
+use Rattle.std.proofs.Common.{arith, rules}
+use Rattle.std.specs.Int.{w32}
+use mir.Val.{SFits}
+use Rattle.std.proofs.lemmas.Int.{to_z-of_z}
+use Rattle.gate_run.specs.Working.{moment}
+use Rattle.gate_run.proofs.Progress.{goes_nowhere, goes_on, goes_and_breaks, ends_on}
+use Rattle.gate_run.proofs.stream.Work.process.Goals as goal
+
+pub pieces-init : goal.pieces-init
+pieces-init g c = record { ready = c.requires.ready; flushed = c.requires.flushed; goes = goes_nowhere _ _; waiting = c.requires.waiting; input_later = omega arith; later = omega arith; report_later = omega arith }
+
+pub returns-in-Failed-clause-ended : goal.returns-in-Failed-clause-ended
+returns-in-Failed-clause-ended g c =
+    let took = c.in-Failed.ensures.taken (g.O.Sink.written c.pieces.output) (g.E.Sink.written c.pieces.report) in
+    (goes_on _ _ _ _ c.pieces.invariant.goes took.0, took.1)
+
+pub finish-requires-clause-waiting : goal.finish-requires-clause-waiting
+finish-requires-clause-waiting g c =
+    let took = c.in-End.ensures.taken (g.O.Sink.written c.pieces.output) (g.E.Sink.written c.pieces.report) in took.1
+
+pub returns-in-End-clause-ended : goal.returns-in-End-clause-ended
+returns-in-End-clause-ended g c =
+    let took = c.in-End.ensures.taken (g.O.Sink.written c.pieces.output) (g.E.Sink.written c.pieces.report) in
+    let mid = moment c.take.new.self (g.I.Source.left c.take.new.input) (g.O.Sink.written c.pieces.output) (g.E.Sink.written c.pieces.report) in
+    let last = moment c.finish.new.self (g.I.Source.left c.take.new.input) (g.O.Sink.written c.pieces.output) (g.E.Sink.written c.finish.new.report) in
+    ends_on c.args.task.now _ mid last c.finish.result
+    (goes_on c.args.task.now _ _ _ c.pieces.invariant.goes took.0)
+    (c.finish.ensures.ended (g.I.Source.left c.take.new.input) (g.O.Sink.written c.pieces.output) took.2)
+
+pub pieces-smaller : goal.pieces-smaller
+pieces-smaller g c =
+    let took = c.in-Bytes.ensures.taken (g.O.Sink.written c.pieces.output) (g.E.Sink.written c.pieces.report) in
+    let went = c.in-Ok-None.ensures.drained (g.I.Source.left c.take.new.input) in
+    omega (arith, took.1, went.0.taken, c.pieces.invariant.ready.taken)
+
+pub pieces-preserved : goal.pieces-preserved
+pieces-preserved g c =
+    let i = c.pieces.invariant in
+    let took = c.in-Bytes.ensures.taken (g.O.Sink.written c.pieces.output) (g.E.Sink.written c.pieces.report) in
+    let went = c.in-Ok-None.ensures.drained (g.I.Source.left c.take.new.input) in
+    record {
+      ready = c.drain.ensures.ready;
+      flushed = c.in-Ok-None.ensures.flushed;
+      goes = goes_on c.args.task.now _ _ _ i.goes (goes_on c.args.task.now _ _ _ took.0 went.0);
+      waiting = went.1;
+      input_later = omega (arith, i.input_later, c.take.ensures.later);
+      later = omega (arith, i.later, c.drain.ensures.later);
+      report_later = omega (arith, i.report_later, c.drain.ensures.report_later);
+    }
+
+pub too_large-requires-clause-large : goal.too_large-requires-clause-large
+too_large-requires-clause-large g c =
+    let fits : SFits w32 c.in-Ok-Some.length = search rules in
+    let went = c.in-Ok-Some.ensures.drained (g.I.Source.left c.take.new.input) in
+    rw (to_z-of_z w32 c.in-Ok-Some.length fits) went.1
+
+pub returns-in-Ok-Some-clause-ended : goal.returns-in-Ok-Some-clause-ended
+returns-in-Ok-Some-clause-ended g c =
+    let took = c.in-Bytes.ensures.taken (g.O.Sink.written c.pieces.output) (g.E.Sink.written c.pieces.report) in
+    let went = c.in-Ok-Some.ensures.drained (g.I.Source.left c.take.new.input) in
+    let mid = moment c.drain.new.self (g.I.Source.left c.take.new.input) (g.O.Sink.written c.drain.new.output) (g.E.Sink.written c.drain.new.report) in
+    let last = moment c.too_large.new.self (g.I.Source.left c.take.new.input) (g.O.Sink.written c.drain.new.output) (g.E.Sink.written c.too_large.new.report) in
+    ends_on c.args.task.now _ mid last c.too_large.result
+    (goes_on c.args.task.now _ _ _ c.pieces.invariant.goes (goes_on c.args.task.now _ _ _ took.0 went.0))
+    (c.too_large.ensures.ended (g.I.Source.left c.take.new.input) (g.O.Sink.written c.drain.new.output))
+
+pub returns-in-Err-clause-ended : goal.returns-in-Err-clause-ended
+returns-in-Err-clause-ended g c =
+    let took = c.in-Bytes.ensures.taken (g.O.Sink.written c.pieces.output) (g.E.Sink.written c.pieces.report) in
+    let mid = moment c.take.new.self (g.I.Source.left c.take.new.input) (g.O.Sink.written c.pieces.output) (g.E.Sink.written c.pieces.report) in
+    let last = moment c.drain.new.self (g.I.Source.left c.take.new.input) (g.O.Sink.written c.drain.new.output) (g.E.Sink.written c.drain.new.report) in
+    goes_and_breaks c.in-Err.broken c.args.task.now _ mid last
+    (goes_on c.args.task.now _ _ _ c.pieces.invariant.goes took.0)
+    (c.in-Err.ensures.drained (g.I.Source.left c.take.new.input))

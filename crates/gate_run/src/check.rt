@@ -1,0 +1,57 @@
+//! The check of an IDL.
+ghost use Rattle.std.specs.Prelude.{◌≡◌, ◌≤◌, ◌<◌, ◌^◌, IfOk, ℕ, List, Option, length};
+ghost use Rattle.gate_run.specs.Outcome.{streams};
+ghost use Rattle.gate_run.specs.Checking.{Checks, ok_text};
+
+use crate::lines::push_number;
+use crate::start::{NoStart, halt, read};
+use crate::status::{Ending, say};
+use gate_base::OutOfMemory;
+use gate_io::{Files, Out, Sink};
+use std::alloc::Global;
+use type_tables::Counts;
+
+/// The room of the line that tells how much is declared.
+const OK_ROOM: usize = 160;
+
+/// Reads the IDL of a root file, and writes how much it declares, or reports why it is refused.
+pub fn check<O: Sink, E: Sink, F: Files>(
+    alloc: Global,
+    file: &[u8],
+    files: &mut F,
+    output: &mut O,
+    report: &mut E,
+) -> Ending
+    ensures checks { (left : Option (List ℕ)) (input : ℕ) →
+        let a = streams left (O.written output.old) (E.written report.old) input (O.faults output.old) (E.faults report.old) in
+        let b = streams left (O.written output.new) (E.written report.new) input (O.faults output.new) (E.faults report.new) in
+        Checks (F.holds files.old) file.now (F.faults files.old) (F.faults files.new) a b result }
+    ensures holds { F.holds files.new ≡ F.holds files.old }
+    ensures files_later { F.faults files.old ≤ F.faults files.new }
+    ensures output_later { O.faults output.old ≤ O.faults output.new }
+    ensures report_later { E.faults report.old ≤ E.faults report.new }
+{
+    match read(alloc, files, file) {
+        Ok(schema) => match ok_line(alloc, &schema.counts()) {
+            Ok(line) => say(output, line.bytes(), Ending::Done),
+            Err(OutOfMemory) => halt(alloc, &NoStart::OutOfMemory, report),
+        },
+        Err(stop) => halt(alloc, &stop, report),
+    }
+}
+
+// The line that tells how much is declared.
+#[tactic(auto, unfolding(crate::specs::Checking::ok_text))]
+fn ok_line(alloc: Global, counts: &Counts) -> Result<Out, OutOfMemory>
+    ensures { IfOk result (λ line. line.bytes ≡ ok_text counts.now.files counts.now.structs counts.now.services) }
+{
+    let mut line = Out::open(alloc, OK_ROOM)?;
+    line.push(b"ok files=");
+    push_number(&mut line, counts.files);
+    line.push(b" structs=");
+    push_number(&mut line, counts.structs);
+    line.push(b" services=");
+    push_number(&mut line, counts.services);
+    line.push(b"\n");
+    Ok(line)
+}

@@ -1,0 +1,66 @@
+//! A frame that is converted: its message in the other protocol, in a frame of its own.
+ghost use Rattle.std.specs.Prelude.{◌≡◌, ◌+◌, ◌^◌, ◌<◌, ◌≤◌, ◌++◌, Option, List, ℕ, length};
+ghost use Rattle.gate_run.specs.Handling.{translated, bytes_of};
+ghost use Rattle.gate_run.specs.Rooms.{framed_room};
+ghost use Rattle.gate_run.specs.Terms.{judged_by};
+ghost use Rattle.gate_run.specs.Working.{Treats};
+
+use crate::frame::Treatment;
+use crate::task::Task;
+use framed_transport::{begin, close};
+use gate_io::Out;
+use protocol_traits::Proto;
+use translate_core::{Cause, Verdict};
+
+/// Translates a frame to the end of `out`, or leaves `out` as it was.
+pub fn convert_frame(
+    task: &Task<'_>,
+    from: Proto,
+    to: Proto,
+    frame: &[u8],
+    room: &mut [u8],
+    out: &mut Out,
+) -> Treatment
+    requires room { length frame.now ≤ length room.old }
+    requires size { length frame.now < 2 ^ 31 }
+    requires fits { length out.old.bytes + framed_room (length frame.now) ≤ out.old.room }
+    requires small { out.old.room < 2 ^ 31 }
+    ensures treated { (w : Option (List ℕ)) → Treats result (translated (judged_by task.now from to frame.now)) w out.old.bytes w out.new.bytes }
+    ensures room { out.new.room ≡ out.old.room }
+    ensures written { result ≡ Treatment.WriteFault → ⊥ }
+{
+    match translate_framed(task, from, to, frame, room, out) {
+        Verdict::Passed(_) => Treatment::Passed,
+        Verdict::Refused(_, cause) => Treatment::Refused(cause),
+        Verdict::Unread(fault) => Treatment::Refused(Cause::Grammar(fault)),
+    }
+}
+
+// Appends what is to be sent of a frame, with its length, or nothing where it doesn't pass.
+fn translate_framed(
+    task: &Task<'_>,
+    from: Proto,
+    to: Proto,
+    frame: &[u8],
+    room: &mut [u8],
+    out: &mut Out,
+) -> Verdict
+    requires room { length frame.now ≤ length room.old }
+    requires size { length frame.now < 2 ^ 31 }
+    requires fits { length out.old.bytes + framed_room (length frame.now) ≤ out.old.room }
+    requires small { out.old.room < 2 ^ 31 }
+    ensures verdict { result ≡ (judged_by task.now from to frame.now).verdict }
+    ensures appended { out.new ≡ record out.old { bytes = out.old.bytes ++ bytes_of (translated (judged_by task.now from to frame.now)) } }
+{
+    let at = begin(out);
+    let verdict = task.translate(from, to, frame, room, out);
+    match verdict {
+        Verdict::Passed(_) => {
+            let end = out.bytes().len();
+            prove!(end < 1 << 31);
+            close(out, at);
+        }
+        _ => out.cut(at),
+    }
+    verdict
+}

@@ -1,0 +1,29 @@
+//! The help text.
+ghost use Rattle.std.specs.Prelude.{◌≤◌, ℕ, List, Option};
+ghost use Rattle.gate_run.specs.Lines.{help_text};
+ghost use Rattle.gate_run.specs.Outcome.{streams};
+ghost use Rattle.gate_run.specs.Writing.{Tells};
+
+use crate::status::{Ending, say};
+use gate_io::Sink;
+
+/// Each command with its words and options, a line each, below the line of the usage.
+const HELP: &[u8] = b"usage: thrift_gate check|convert|show|serve|drill|help
+check FILE
+convert FROM TO [--idl FILE] [--service NAME] [--limit F]
+show FROM [--idl FILE] [--service NAME] [--limit F]
+serve CLIENT UPSTREAM LISTEN TARGET [--idl FILE] [--service NAME] [--limit F] [--sessions N] [--accept C] [--events E] [--calls P]
+drill SEED COUNT
+help
+";
+
+/// Writes the help text.
+#[tactic(auto, unfolding(crate::specs::Lines::help_text))]
+pub fn help<O: Sink>(output: &mut O) -> Ending
+    ensures helps { (left reported : Option (List ℕ)) (input report : ℕ) → Tells help_text
+        (streams left (O.written output.old) reported input (O.faults output.old) report)
+        (streams left (O.written output.new) reported input (O.faults output.new) report) result }
+    ensures later { O.faults output.old ≤ O.faults output.new }
+{
+    say(output, HELP, Ending::Done)
+}

@@ -1,0 +1,361 @@
+//! The work on a whole stream, from its first byte to its ending: the bytes that are held, the frames so far, and what
+//! waits to be written.
+//!
+//! What comes of the frames is gathered, and written where no whole frame is held or the room for the next one might not
+//! do: the output first, and then the lines of the report.
+ghost use Rattle.std.specs.Prelude.{◌≡◌, ◌+◌, ◌^◌, ◌<◌, ◌≤◌, [], ℕ, List, Option, None, Some, Ok, length, IfOk, IfErr, OnOk};
+ghost use Rattle.std.specs.Io.KnownBytes.{IsAtEnd};
+ghost use Rattle.gate_base.specs.Causes.{Rose};
+ghost use Rattle.framed_transport.specs.Front.{front, Large};
+ghost use Rattle.gate_run.specs.Outcome.{Streamed, streams};
+ghost use Rattle.gate_run.specs.Progress.{HasRisen};
+ghost use Rattle.gate_run.specs.Rooms.{framed_room};
+ghost use Rattle.gate_run.specs.Working.{IsReady, IsFlushed, IsStart, IsWaiting, moment, Handles, Drains, Takes, Ends, WritesBoth, MakesRoom};
+
+use crate::frame::{WriteFault, handle};
+use crate::lines::{self, LINE_ROOM};
+use crate::page::Page;
+use crate::status::{Ending, end_with};
+use crate::task::Task;
+use framed_transport::{FrameBuf, Next};
+use gate_base::OutOfMemory;
+use gate_io::{Got, Out, Sink, Source, Wrote, flush, write_all};
+use gate_words::GREATEST_LIMIT;
+use std::alloc::Global;
+
+/// At most so many bytes are read.
+pub const MOST_BYTES: u64 = (1 << 63) - 1;
+
+/// The room for lines of the report that wait to be written.
+const LINES_ROOM: usize = 4096;
+
+/// The work on a stream.
+#[derive(Drop)]
+pub struct Work {
+    /// The bytes that were read and not handled.
+    frames: FrameBuf,
+    /// What waits for the output.
+    page: Page,
+    /// The lines that wait for the report.
+    lines: Out,
+    /// How many bytes were read.
+    taken: u64,
+    /// How many frames were handled.
+    number: u64,
+    /// Whether one of them did not pass.
+    refused: bool,
+}
+
+/// The stream on which a write failed.
+#[derive(Clone, Copy)]
+pub enum Broken {
+    Output,
+    Report,
+}
+
+/// Does with the frames of the input what the task says: writes what comes of them to the output, and reports each that
+/// does not pass.
+pub fn stream<I: Source, O: Sink, E: Sink>(
+    alloc: Global,
+    task: &Task<'_>,
+    input: &mut I,
+    output: &mut O,
+    report: &mut E,
+) -> Ending
+    requires { task.now.limit ≤ GREATEST_LIMIT }
+    ensures streamed { let a = streams (I.left input.old) (O.written output.old) (E.written report.old)
+        (I.faults input.old) (O.faults output.old) (E.faults report.old) in
+        let b = streams (I.left input.new) (O.written output.new) (E.written report.new)
+        (I.faults input.new) (O.faults output.new) (E.faults report.new) in
+        Streamed task.now a b result }
+    ensures input_later { I.faults input.old ≤ I.faults input.new }
+    ensures output_later { O.faults output.old ≤ O.faults output.new }
+    ensures report_later { E.faults report.old ≤ E.faults report.new }
+{
+    let Ok(mut room) = vec![in alloc; 0; task.limit()] else {
+        return end_with(report, Ending::OutOfMemory);
+    };
+    let Ok(mut work) = Work::open(alloc, task) else {
+        return end_with(report, Ending::OutOfMemory);
+    };
+    match work.process(task, &mut room, input, output, report) {
+        Ok(Ending::ReadFault) => end_with(report, Ending::ReadFault),
+        Ok(Ending::BudgetSpent) => end_with(report, Ending::BudgetSpent),
+        Ok(ending) => ending,
+        Err(_) => Ending::WriteFault,
+    }
+}
+
+impl Work {
+    /// Takes all the memory of the work but the readers' room, below 25 times the limit and 5,000 bytes.
+    ///
+    /// `OutOfMemory`: it was not found.
+    pub fn open(alloc: Global, task: &Task<'_>) -> Result<Work, OutOfMemory>
+        requires { task.now.limit ≤ GREATEST_LIMIT }
+        ensures ready { IfOk result (λ work. IsReady task.now work) }
+        ensures start { IfOk result (λ work. IsStart work) }
+    {
+        Ok(Work {
+            frames: FrameBuf::open(alloc, task.limit())?,
+            page: Page::open(alloc, framed_room(task.limit()))?,
+            lines: Out::open(alloc, LINES_ROOM)?,
+            taken: 0,
+            number: 0,
+            refused: false,
+        })
+    }
+
+    /// Reads to the end or to a fault, and handles each frame. `room` is the readers'.
+    ///
+    /// An error names the stream on which a write failed.
+    pub fn process<I: Source, O: Sink, E: Sink>(
+        &mut self,
+        task: &Task<'_>,
+        room: &mut [u8],
+        input: &mut I,
+        output: &mut O,
+        report: &mut E,
+    ) -> Result<Ending, Broken>
+        requires limit { task.now.limit ≤ GREATEST_LIMIT }
+        requires room { task.now.limit ≤ length room.old }
+        requires ready { IsReady task.now self.old }
+        requires flushed { IsFlushed self.old }
+        requires waiting { IsWaiting task.now self.old.frames.held }
+        ensures ended { Ends task.now
+            (moment self.old (I.left input.old) (O.written output.old) (E.written report.old))
+            (moment self.new (I.left input.new) (O.written output.new) (E.written report.new)) result }
+        ensures input_later { I.faults input.old ≤ I.faults input.new }
+        ensures later { O.faults output.old ≤ O.faults output.new }
+        ensures report_later { E.faults report.old ≤ E.faults report.new }
+        ensures read_fault { result ≡ Ok Ending.ReadFault → Rose (I.faults input.old) (I.faults input.new) }
+        ensures cause { IfErr result (λ broken. HasRisen broken (O.faults output.old) (O.faults output.new) (E.faults report.old) (E.faults report.new)) }
+    {
+        'pieces: while self.taken < MOST_BYTES {
+            match self.take(task, input) {
+                Got::Failed => return Ok(Ending::ReadFault),
+                Got::End => return self.finish(task, report),
+                Got::Bytes(_) => match self.drain(task, room, output, report) {
+                    Ok(None) => (),
+                    Ok(Some(length)) => return self.too_large(task, length, report),
+                    Err(broken) => return Err(broken),
+                },
+            }
+        }
+        Ok(Ending::BudgetSpent)
+    }
+
+    // Reads once, and holds what came.
+    fn take<I: Source>(&mut self, task: &Task<'_>, input: &mut I) -> Got
+        requires ready { IsReady task.now self.old }
+        requires waiting { IsWaiting task.now self.old.frames.held }
+        requires budget { self.old.taken < MOST_BYTES }
+        ensures ready { IsReady task.now self.new }
+        ensures page { self.new.page ≡ self.old.page }
+        ensures lines { self.new.lines ≡ self.old.lines }
+        ensures taken { (written reported : Option (List ℕ)) → Takes task.now
+            (moment self.old (I.left input.old) written reported)
+            (moment self.new (I.left input.new) written reported) result }
+        ensures later { I.faults input.old ≤ I.faults input.new }
+        ensures cause { result ≡ Got.Failed → Rose (I.faults input.old) (I.faults input.new) }
+    {
+        let most = (MOST_BYTES - self.taken) as usize;
+        match self.frames.read_from(input, most) {
+            Got::Bytes(count) => {
+                self.taken += count as u64;
+                Got::Bytes(count)
+            }
+            Got::End => Got::End,
+            Got::Failed => Got::Failed,
+        }
+    }
+
+    // Handles each whole frame that is held, and writes what was gathered of them. Gives the next length where it is too large.
+    fn drain<O: Sink, E: Sink>(
+        &mut self,
+        task: &Task<'_>,
+        room: &mut [u8],
+        output: &mut O,
+        report: &mut E,
+    ) -> Result<Option<i32>, Broken>
+        requires limit { task.now.limit ≤ GREATEST_LIMIT }
+        requires room { task.now.limit ≤ length room.old }
+        requires ready { IsReady task.now self.old }
+        requires flushed { IsFlushed self.old }
+        ensures ready { IsReady task.now self.new }
+        ensures flushed { OnOk result (IsFlushed self.new) }
+        ensures drained { (left : Option (List ℕ)) → Drains task.now
+            (moment self.old left (O.written output.old) (E.written report.old))
+            (moment self.new left (O.written output.new) (E.written report.new)) result }
+        ensures later { O.faults output.old ≤ O.faults output.new }
+        ensures report_later { E.faults report.old ≤ E.faults report.new }
+        ensures cause { IfErr result (λ broken. HasRisen broken (O.faults output.old) (O.faults output.new) (E.faults report.old) (E.faults report.new)) }
+    {
+        match self.handle_frames(task, room, output, report) {
+            Ok(large) => match flush_both(&mut self.page, &mut self.lines, output, report) {
+                Ok(()) => Ok(large),
+                Err(broken) => Err(broken),
+            },
+            Err(broken) => Err(broken),
+        }
+    }
+
+    // Handles each whole frame that is held. What there is room for is gathered. Gives the next length where it is too large.
+    fn handle_frames<O: Sink, E: Sink>(
+        &mut self,
+        task: &Task<'_>,
+        room: &mut [u8],
+        output: &mut O,
+        report: &mut E,
+    ) -> Result<Option<i32>, Broken>
+        requires limit { task.now.limit ≤ GREATEST_LIMIT }
+        requires room { task.now.limit ≤ length room.old }
+        requires ready { IsReady task.now self.old }
+        requires flushed { IsFlushed self.old }
+        ensures ready { IsReady task.now self.new }
+        ensures handled { (left : Option (List ℕ)) → Handles task.now
+            (moment self.old left (O.written output.old) (E.written report.old))
+            (moment self.new left (O.written output.new) (E.written report.new)) self.new.page.out.bytes self.new.lines.bytes result }
+        ensures later { O.faults output.old ≤ O.faults output.new }
+        ensures report_later { E.faults report.old ≤ E.faults report.new }
+        ensures cause { IfErr result (λ broken. HasRisen broken (O.faults output.old) (O.faults output.new) (E.faults report.old) (E.faults report.new)) }
+    {
+        'frames: loop {
+            let frame = match self.frames.frame() {
+                Next::NeedMore => return Ok(None),
+                Next::TooLarge(length) => return Ok(Some(length)),
+                Next::Frame(frame) => frame,
+            };
+            let wanted = framed_room(frame.len());
+            match make_room(&mut self.page, &mut self.lines, wanted, output, report) {
+                Ok(()) => (),
+                Err(broken) => return Err(broken),
+            }
+            let number = self.number + 1;
+            let passed = match handle(
+                task,
+                frame,
+                number,
+                room,
+                &mut self.page,
+                &mut self.lines,
+                output,
+            ) {
+                Ok(passed) => passed,
+                Err(WriteFault) => return Err(Broken::Output),
+            };
+            self.number = number;
+            self.refused |= !passed;
+            self.frames.drop_frame();
+        }
+    }
+
+    // Ends the work at the end of the input.
+    fn finish<E: Sink>(&mut self, task: &Task<'_>, report: &mut E) -> Result<Ending, Broken>
+        requires ready { IsReady task.now self.old }
+        requires waiting { IsWaiting task.now self.old.frames.held }
+        ensures ended { (left written : Option (List ℕ)) → IsAtEnd left → Ends task.now
+            (moment self.old left written (E.written report.old))
+            (moment self.new left written (E.written report.new)) result }
+        ensures later { E.faults report.old ≤ E.faults report.new }
+        ensures no_read_fault { result ≡ Ok Ending.ReadFault → ⊥ }
+        ensures cause { (before now : ℕ) → IfErr result (λ broken. HasRisen broken before now (E.faults report.old) (E.faults report.new)) }
+    {
+        let count = self.frames.held();
+        if count > 0 {
+            lines::left(&mut self.lines, self.number, count);
+            return match write_all(report, self.lines.bytes()) {
+                Wrote::All => Ok(Ending::StreamFault),
+                Wrote::Failed => Err(Broken::Report),
+            };
+        }
+        if self.refused {
+            Ok(Ending::Refused)
+        } else {
+            Ok(Ending::Done)
+        }
+    }
+
+    // Ends the work at a length that is too large.
+    fn too_large<E: Sink>(
+        &mut self,
+        task: &Task<'_>,
+        length: i32,
+        report: &mut E,
+    ) -> Result<Ending, Broken>
+        requires ready { IsReady task.now self.old }
+        requires large { front task.now.limit self.old.frames.held ≡ Large length }
+        ensures ended { (left written : Option (List ℕ)) → Ends task.now
+            (moment self.old left written (E.written report.old))
+            (moment self.new left written (E.written report.new)) result }
+        ensures later { E.faults report.old ≤ E.faults report.new }
+        ensures no_read_fault { result ≡ Ok Ending.ReadFault → ⊥ }
+        ensures cause { (before now : ℕ) → IfErr result (λ broken. HasRisen broken before now (E.faults report.old) (E.faults report.new)) }
+    {
+        lines::too_large(&mut self.lines, self.number + 1, length);
+        match write_all(report, self.lines.bytes()) {
+            Wrote::All => Ok(Ending::StreamFault),
+            Wrote::Failed => Err(Broken::Report),
+        }
+    }
+}
+
+// The room for what is written of a frame of so many bytes.
+fn framed_room(length: usize) -> usize
+    requires { length ≤ GREATEST_LIMIT }
+    ensures { result ≡ framed_room length }
+{
+    24 * length + 260
+}
+
+// Writes what was gathered, where there isn't so much room for the output or room for a line.
+fn make_room<O: Sink, E: Sink>(
+    page: &mut Page,
+    lines: &mut Out,
+    wanted: usize,
+    output: &mut O,
+    report: &mut E,
+) -> Result<(), Broken>
+    requires lines { LINE_ROOM ≤ lines.old.room }
+    ensures wanted { OnOk result (wanted ≤ page.old.out.room → length page.new.out.bytes + wanted ≤ page.new.out.room) }
+    ensures line { OnOk result (length lines.new.bytes + LINE_ROOM ≤ lines.new.room) }
+    ensures made { MakesRoom result page.old.out.bytes page.new.out.bytes lines.old.bytes lines.new.bytes
+        (O.written output.old) (O.written output.new) (E.written report.old) (E.written report.new) }
+    ensures room { page.new.out.room ≡ page.old.out.room }
+    ensures lines_room { lines.new.room ≡ lines.old.room }
+    ensures later { O.faults output.old ≤ O.faults output.new }
+    ensures report_later { E.faults report.old ≤ E.faults report.new }
+    ensures cause { IfErr result (λ broken. HasRisen broken (O.faults output.old) (O.faults output.new) (E.faults report.old) (E.faults report.new)) }
+{
+    if wanted <= page.spare() && LINE_ROOM <= lines.spare() {
+        return Ok(());
+    }
+    flush_both(page, lines, output, report)
+}
+
+// Writes what was gathered for the output, and then what was gathered for the report: no frame is reported before all that
+// is written of the frames up to it.
+fn flush_both<O: Sink, E: Sink>(
+    page: &mut Page,
+    lines: &mut Out,
+    output: &mut O,
+    report: &mut E,
+) -> Result<(), Broken>
+    ensures both { WritesBoth result page.old.out.bytes lines.old.bytes
+        (O.written output.old) (O.written output.new) (E.written report.old) (E.written report.new) }
+    ensures page { OnOk result (page.new.out.bytes ≡ []) }
+    ensures lines { OnOk result (lines.new.bytes ≡ []) }
+    ensures room { page.new.out.room ≡ page.old.out.room }
+    ensures lines_room { lines.new.room ≡ lines.old.room }
+    ensures later { O.faults output.old ≤ O.faults output.new }
+    ensures report_later { E.faults report.old ≤ E.faults report.new }
+    ensures cause { IfErr result (λ broken. HasRisen broken (O.faults output.old) (O.faults output.new) (E.faults report.old) (E.faults report.new)) }
+{
+    match page.flush(output) {
+        Wrote::All => (),
+        Wrote::Failed => return Err(Broken::Output),
+    }
+    match flush(lines, report) {
+        Wrote::All => Ok(()),
+        Wrote::Failed => Err(Broken::Report),
+    }
+}

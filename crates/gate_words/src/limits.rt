@@ -1,0 +1,34 @@
+//! The bounds of the numbers that words give, and what stands where they give none.
+
+/// The least frame limit, in bytes.
+pub const LEAST_LIMIT: u32 = 1_024;
+
+/// The greatest frame limit, in bytes.
+pub const GREATEST_LIMIT: u32 = 16_384_000;
+
+/// The frame limit where the words give none, in bytes.
+pub const DEFAULT_LIMIT: u32 = 262_144;
+
+/// The most sessions at a time.
+pub const MOST_SESSIONS: u32 = 1_024;
+
+/// The sessions at a time where the words give no number.
+pub const DEFAULT_SESSIONS: u32 = 32;
+
+/// The most calls of a session that are open at a time.
+pub const MOST_CALLS: u32 = 65_536;
+
+/// The calls of a session that may be open at a time where the words give no number.
+pub const DEFAULT_CALLS: u32 = 1_024;
+
+/// The most connections in all.
+pub const MOST_ACCEPTED: u64 = (1 << 63) - 1;
+
+/// The most events, and as many where the words give no number.
+pub const MOST_EVENTS: u64 = (1 << 63) - 1;
+
+/// The most messages of a drill.
+pub const MOST_MESSAGES: u64 = 1_000_000;
+
+/// The most bytes that all sessions together may hold.
+pub const MOST_HELD: u64 = 1 << 32;

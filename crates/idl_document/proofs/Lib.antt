@@ -1,0 +1,2 @@
+-- Values that grow at their end.
+pub mod Pushed

@@ -1,8 +1,0 @@
-use Rattle.std.proofs.Common.{take}
-use Rattle.idl_parser.specs.Declarations.{definition_tree}
-use Rattle.idl_names.specs.Meaning.{name_in}
-use Rattle.idl_names.specs.Places.{TellsFirst}
-use Rattle.idl_names.proofs.names.declared.Given as goal
-
-abbrev pub invariant-loop-place : goal.invariant-loop-place
-invariant-loop-place l = TellsFirst (λ d. name_in l.scope (definition_tree d)) (take l.place l.definitions) l.places

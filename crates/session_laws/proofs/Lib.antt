@@ -1,0 +1,11 @@
+pub mod Answering
+pub mod Fates
+pub mod Replies
+pub mod Listing
+pub mod Placing
+pub mod Existing
+pub mod Carrying
+pub mod Standing
+pub mod Ending
+pub mod Over
+pub mod Serving

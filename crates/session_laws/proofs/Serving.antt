@@ -1,0 +1,98 @@
+-- The course of each session of a server.
+use Rattle.std.proofs.Common.{◌≡◌, ℕ, ◌<◌, ◌^◌, ◌⊎◌, inl, inr, List, [], Option, Some, None, refl, sym, subst}
+use Rattle.gate_hub.specs.Meaning.{Told, Meaning, link_of}
+use Rattle.gate_hub.specs.declared.hub.Side.{Side}
+use Rattle.gate_hub.specs.declared.hub.Side.TheVariants as side
+use Rattle.gate_hub.specs.declared.hub.LinkPut.TheVariants as put
+use Rattle.gate_hub.specs.declared.hub.Served.{Served}
+use Rattle.gate_hub.specs.declared.hub.Served.TheVariants as served
+use Rattle.session_core.specs.Fits.{Fits}
+use Rattle.session_core.specs.Ends.{IsAtRest}
+use Rattle.session_core.specs.Session.{Seen}
+use Rattle.session_core.specs.declared.outcome.Outcome.{Outcome}
+use Rattle.session_core.proofs.Greatest.{StandsAtFront}
+use Rattle.session_judge.specs.Setting.{Setting}
+use Rattle.session_judge.specs.Rules.{rules_of}
+use Rattle.proxy_server.specs.Matching.{history_of}
+use Rattle.proxy_server.specs.Serving.{Entry, Closing, IsHeld, IsOutcome, NotOpened, LinkFailed, OfItself, IsAmong, IsOpenOne, IsEndedOne, Stands, no_more}
+use Rattle.proxy_server.specs.Steps.{Serves, IsLeft}
+use Rattle.proxy_server.specs.Turning.{IsSettled}
+use Rattle.session_laws.specs.Saying.{HasLaws}
+use Rattle.session_laws.specs.Serving.{sessions_of, ReceivesBytes, IsWritable, Course, HasCourse, CarriesAll}
+use Rattle.session_laws.specs.Serving as course
+use Rattle.session_laws.proofs.Existing.{IsSplit}
+use Rattle.session_laws.proofs.Carrying.{Both, both, carried}
+use Rattle.session_laws.proofs.Standing.{completed}
+use Rattle.session_laws.proofs.Over.{ended}
+
+by_either : (due : List ℕ) (t : Told) (x : Side) → IsWritable t → (due ≡ []) ⊎ ((link_of t x).last_write ≡ Some put.NotReady) → due ≡ []
+by_either due t x writable (inl e) = e
+by_either due t x writable (inr e) = absurd (writable x e)
+
+module _ (s : Setting) (limit most sessions events : ℕ) (from : HasLaws s.client) (to : HasLaws s.upstream) (law : StandsAtFront) (split : IsSplit) (small : limit < 2 ^ 31) (some : 0 < most) where
+  all : (m : Meaning) (k : ℕ) → ReceivesBytes m → Both s limit from to law small (history_of (m.session k))
+  all m k bytes = both s limit from to law small split (history_of (m.session k)) (bytes k side.Client) (bytes k side.Upstream)
+
+  -- ---- a session that is open
+
+  session_fits : (session : Seen Setting) (t : Told) → IsHeld Setting rules_of (sessions_of s limit most sessions events) session t → Fits (rules_of s) limit most (history_of t) session.standing
+  session_fits session t is =
+      subst (λ n. Fits (rules_of s) limit n (history_of t) session.standing) is.calls
+      (subst (λ n. Fits (rules_of s) n session.most (history_of t) session.standing) is.limited
+      (subst (λ rules. Fits rules session.limit session.most (history_of t) session.standing) is.judged is.matches.fits))
+
+  session_rests : (session : Seen Setting) (t : Told) → IsHeld Setting rules_of (sessions_of s limit most sessions events) session t → session.outcome ≡ None → IsAtRest (rules_of s) limit most session.standing None
+  session_rests session t is going =
+      subst (λ o. IsAtRest (rules_of s) limit most session.standing o) going
+      (subst (λ n. IsAtRest (rules_of s) limit n session.standing session.outcome) is.calls
+      (subst (λ n. IsAtRest (rules_of s) n session.most session.standing session.outcome) is.limited
+      (subst (λ rules. IsAtRest rules session.limit session.most session.standing session.outcome) is.judged is.matches.rest)))
+
+  left_open : (result : Served) (m : Meaning) (k : ℕ) (session : Seen Setting) → ReceivesBytes m → IsHeld Setting rules_of (sessions_of s limit most sessions events) session (m.session k)
+      → ((result ≡ served.Budget → ⊥) → IsSettled Setting rules_of session (m.session k)) → Course s limit most result (m.session k) None
+  left_open result m k session bytes is settled =
+      let t = m.session k in
+      let fits = session_fits session t is in
+      course.LeftOpen (carried s limit from to law small most (history_of t) session.standing (all m k bytes) fits)
+      (λ whole writable.
+      let rests = settled whole in
+      completed s limit most from to law small (history_of t) (all m k bytes) session.standing some fits (session_rests session t is rests.going)
+      (by_either session.standing.to_client t side.Client writable (rests.writes side.Client)) (by_either session.standing.to_upstream t side.Upstream writable (rests.writes side.Upstream)))
+
+  -- ---- a session that has ended
+
+  by_outcome : (result : Served) (m : Meaning) (k : ℕ) (o : Outcome) → ReceivesBytes m → IsOutcome (sessions_of s limit most sessions events) o (m.session k) → Course s limit most result (m.session k) (Some o)
+  by_outcome result m k o bytes (NotOpened why none unfailed) = course.NotOpened o why none
+  by_outcome result m k o bytes (LinkFailed x st e failed others fits) =
+      subst (λ p. Course s limit most result (m.session k) (Some p)) (sym e)
+      (course.Broken x failed (carried s limit from to law small most (history_of (m.session k)) st (all m k bytes) fits))
+  by_outcome result m k o bytes (OfItself st is unfailed fits) =
+      course.CameToAnEnd o (carried s limit from to law small most (history_of (m.session k)) st (all m k bytes) fits)
+      (ended s limit most from to law small (history_of (m.session k)) (all m k bytes) (bytes k side.Client) (bytes k side.Upstream) st fits o some is)
+
+  -- ---- all of them
+
+  by_place : (result : Served) (held : List (Entry Setting)) (past : List Closing) (busy gone : ℕ) (m : Meaning) (k : ℕ) → ReceivesBytes m
+      → Stands Setting rules_of (sessions_of s limit most sessions events) no_more held past busy gone m → IsLeft Setting rules_of (sessions_of s limit most sessions events) result held m
+      → IsAmong Setting k held past → HasCourse s limit most result held past m k
+  by_place result held past busy gone m k bytes stands left (IsOpenOne i e at is) =
+      (None, (i, e, at, is), subst (λ n. Course s limit most result (m.session n) None) is (left_open result m e.number e.session bytes (stands.each i e at) (λ whole. left.settled whole i e at)))
+  by_place result held past busy gone m k bytes stands left (IsEndedOne i c at is) =
+      (Some c.1, (i, c, at, is, refl), subst (λ n. Course s limit most result (m.session n) (Some c.1)) is (by_outcome result m c.0 c.1 bytes (stands.ended i c at).why))
+
+  is_covered : (result : Served) (held : List (Entry Setting)) (past : List Closing) (busy gone : ℕ) (m : Meaning) (k : ℕ) → ReceivesBytes m
+      → Stands Setting rules_of (sessions_of s limit most sessions events) no_more held past busy gone m → IsLeft Setting rules_of (sessions_of s limit most sessions events) result held m
+      → no_more k ⊎ IsAmong Setting k held past → HasCourse s limit most result held past m k
+  is_covered result held past busy gone m k bytes stands left (inl none) = absurd none
+  is_covered result held past busy gone m k bytes stands left (inr among) = by_place result held past busy gone m k bytes stands left among
+
+  pub carries_all : (told told' : Meaning → Type 0) (written written' : Option (List ℕ)) (faults faults' : ℕ) (result : Served) → ((n : Meaning) → told' n → ReceivesBytes n)
+      → Serves Setting rules_of told told' written written' faults faults' (sessions_of s limit most sessions events) result → CarriesAll s limit most told told' written written' faults faults' result
+  carries_all told told' written written' faults faults' result bytes (held, past, busy, writes, keeps) = (
+    held,
+    past,
+    writes,
+    (λ m is fresh.
+        let n = keeps m is fresh in
+        (n.0, n.1, (λ k announced. is_covered result held past busy _ n.0 k (bytes n.0 n.1) n.2.0 n.2.2 (n.2.0.covers k announced)))),
+  )

@@ -1,0 +1,6 @@
+use Rattle.session_laws.proofs.Serving.{carries_all}
+use Rattle.session_laws.proofs.a_server_carries_messages.Goals as goal
+
+pub returns : goal.returns
+returns g c s limit most sessions events h h' written written' faults faults' result from to small some bytes serves =
+    carries_all s limit most sessions events from to c.frame_stands_at_the_front.ensures c.a_stream_is_split.ensures small some _ _ written written' faults faults' result bytes serves

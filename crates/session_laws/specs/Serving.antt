@@ -1,0 +1,56 @@
+-- What a server has carried over each session that its hub announced.
+use Rattle.std.specs.Prelude.{◌≡◌, ◌⊎◌, ℕ, List, ◌++◌, true, Option, Some, None, slice_get}
+use Rattle.gate_hub.specs.Meaning.{Told, Meaning, link_of}
+use Rattle.gate_hub.specs.declared.hub.Side.{Side}
+use Rattle.gate_hub.specs.declared.hub.LinkPut.TheVariants as put
+use Rattle.gate_hub.specs.declared.hub.Served.{Served}
+use Rattle.gate_hub.specs.declared.hub.Served.TheVariants as served
+use Rattle.session_core.specs.Standing.{nothing}
+use Rattle.session_core.specs.declared.outcome.Outcome.{Outcome}
+use Rattle.session_core.specs.declared.outcome.Outcome.TheVariants as outcome
+use Rattle.session_judge.specs.Setting.{Setting}
+use Rattle.session_judge.specs.Rules.{rules_of}
+use Rattle.proxy_server.specs.Matching.{history_of}
+use Rattle.proxy_server.specs.Serving.{Entry, Closing, KeepsFrom, IsFresh, closing_lines, left_lines}
+use Rattle.proxy_server.specs.Serving.{Setting as Sessions}
+use Rattle.proxy_server.specs.Steps.{ServedWrites}
+use Rattle.proxy_server.specs.Turning.{HasFailed}
+use Rattle.binary_laws.specs.Bytes.{AreBytes}
+use Rattle.session_laws.specs.Carrying.{Carries, IsComplete, IsEnded}
+
+-- the sessions of a server go between these protocols, each with frames of so many bytes and so many open calls at most; so many are
+-- open at a time, and so much may be spent
+abbrev pub sessions_of : Setting → ℕ → ℕ → ℕ → ℕ → Sessions
+sessions_of s limit most sessions events = record { rules = rules_of s; limit = limit; most = most; sessions = sessions; events = events }
+
+-- what was received of each session consists of bytes
+abbrev pub ReceivesBytes : Meaning → Type 0
+ReceivesBytes m = (k : ℕ) (x : Side) → AreBytes (link_of (m.session k) x).received
+
+-- neither side's last write was refused for want of room
+abbrev pub IsWritable : Told → Type 0
+IsWritable t = (x : Side) → (link_of t x).last_write ≡ Some put.NotReady → ⊥
+
+-- What went over a session, by how it ended. It was not opened, and nothing was received or sent; a call on a side failed; it came to its
+-- end, with all sent that was due; or it was left open. Then, unless the budget was spent, all was sent that the calls allow where
+-- both sides can be written to.
+pub data Course (s : Setting) (limit most : ℕ) (result : Served) (t : Told) : Option Outcome → Type 0 where
+  NotOpened : (o : Outcome) → (o ≡ outcome.Full) ⊎ (o ≡ outcome.NoMemory) → history_of t ≡ nothing → Course s limit most result t (Some o)
+  Broken : (x : Side) → HasFailed x t → Carries s limit (history_of t) → Course s limit most result t (Some (outcome.LinkFault x))
+  CameToAnEnd : (o : Outcome) (c : Carries s limit (history_of t)) → IsEnded s limit most (history_of t) c o → Course s limit most result t (Some o)
+  LeftOpen : (c : Carries s limit (history_of t)) → ((result ≡ served.Budget → ⊥) → IsWritable t → IsComplete s most c.asked c.replied (history_of t)) → Course s limit most result t None
+
+-- the session's line says this of its end
+abbrev pub HasLine : ℕ → Option Outcome → List (Entry Setting) → List Closing → Type 0
+HasLine k None held ended = (i : ℕ) × (e : Entry Setting) × (slice_get held i ≡ Some e) × (e.number ≡ k)
+HasLine k (Some o) held ended = (i : ℕ) × (c : Closing) × (slice_get ended i ≡ Some c) × (c.0 ≡ k) × (c.1 ≡ o)
+
+-- the session has a course, and a line that says how it ended
+abbrev pub HasCourse : Setting → ℕ → ℕ → Served → List (Entry Setting) → List Closing → Meaning → ℕ → Type 0
+HasCourse s limit most result held ended m k = (ending : Option Outcome) × HasLine k ending held ended × Course s limit most result (m.session k) ending
+
+-- the lines were written, and each session that was announced has a course that its line tells
+abbrev pub CarriesAll : Setting → ℕ → ℕ → (Meaning → Type 0) → (Meaning → Type 0) → Option (List ℕ) → Option (List ℕ) → ℕ → ℕ → Served → Type 0
+CarriesAll s limit most told told' written written' faults faults' result =
+    (held : List (Entry Setting)) × (ended : List Closing) × ServedWrites result written written' faults faults' (closing_lines ended ++ left_lines held)
+    × KeepsFrom told told' IsFresh (λ m n. (k : ℕ) → (n.session k).announced ≡ true → HasCourse s limit most result held ended n k)

@@ -1,0 +1,119 @@
+-- What is shown of a frame of Binary or Compact.
+use Rattle.std.proofs.Common.{◌≡◌, ℕ, List, ◌++◌, length, Option, ap, subst, ◌⊎◌, inl, inr}
+use Rattle.thrift_value.specs.Items.{Item}
+use Rattle.thrift_value.specs.Trees.{items_of_members}
+use Rattle.type_tables.specs.declared.declared.ServiceId.{ServiceId}
+use Rattle.type_tables.specs.Declarations.{Declarations}
+use Rattle.protocol_traits.specs.declared.fault.Fault.{Fault}
+use Rattle.protocol_traits.specs.Heads.{Header}
+use Rattle.translate_core.specs.declared.route.Route.TheVariants.{ByName}
+use Rattle.translate_core.specs.Answers.{marked, spelled}
+use Rattle.translate_core.specs.Routes.{start_of}
+use Rattle.protocol_pairs.specs.Pairs.{binary_source, compact_source}
+use Rattle.message_show.specs.Line.{begun, head_text, line_end}
+use Rattle.message_show.specs.Shown.{Line, Refused, place, line_target, shown_by}
+use Rattle.binary_protocol.specs.Grammar.{BinarySpells}
+use Rattle.compact_protocol.specs.Grammar.{CompactSpells}
+use Rattle.binary_laws.specs.Bytes.{AreBytes}
+use Rattle.binary_laws.specs.Faults as binary_faults
+use Rattle.binary_laws.specs.Reads.{IsRead}
+use Rattle.binary_laws.specs.Refused.{Refuses, IsRefused}
+use Rattle.binary_laws.proofs.Either.{read_or_refused}
+use Rattle.binary_laws.proofs.Sound.{read_spelled}
+use Rattle.binary_laws.proofs.Faults.{stands_there}
+use Rattle.compact_laws.specs.Faults as compact_faults
+use Rattle.compact_laws.specs.Reads as compact_reads
+use Rattle.compact_laws.specs.Refused as compact_refused
+use Rattle.compact_laws.proofs.Either as compact_either
+use Rattle.compact_laws.proofs.Sound as compact_sound
+use Rattle.compact_laws.proofs.Faults as compact_stands
+use Rattle.verdict_laws.specs.Verdicts.{BinaryHead, CompactHead}
+use Rattle.verdict_laws.proofs.Binary as binary
+use Rattle.verdict_laws.proofs.Compact as compact
+use Rattle.verdict_laws.proofs.Faulted.{binary_fronted, binary_none, compact_fronted, compact_none}
+use Rattle.show_laws.specs.Showings.{body_start, IsShowing, ShowsMessage, TellsFault, TellsNoHeader}
+use Rattle.show_laws.proofs.Bodies.{shown_unread, shown_whole, shown_faulty, shown_trailing}
+
+-- the line of what was read
+abbrev line_of : Declarations → Option ServiceId → Header → List Item → List ℕ
+line_of d service h items =
+    let p = body_start d service h in
+    (head_text h ++ spelled (line_target (place p begun)).plain (line_target (place p begun)).after (place p begun) (marked p items)) ++ line_end
+
+-- ---- Binary
+
+module _ (d : Declarations) (service : Option ServiceId) (frame : List ℕ) (are : AreBytes frame) where
+  abbrev binary_is : Type 0
+  binary_is = IsShowing BinaryHead BinarySpells binary_faults.FaultAt d service frame (shown_by binary_source (start_of d (ByName service)) frame)
+
+  binary_whole : (header : Header) (items : List Item) → IsRead frame header items → binary_is
+  binary_whole header items (first, last, headed, reads, ends) =
+      let m = read_spelled frame header items are (first, last, headed, reads, ends) in
+      let is = shown_whole binary_source binary.levels binary.nested (start_of d (ByName service)) frame header first last items headed (binary.body_level frame header first headed)
+      (binary.follows items first last (start_of d (ByName service) header) reads) (binary.end_closed last last ends) ends in
+      ShowsMessage m.0 m.4 m.3
+      (subst (λ h. shown_by binary_source (start_of d (ByName service)) frame ≡ Line (line_of d service h (items_of_members m.0.body))) m.1
+      (subst (λ xs. shown_by binary_source (start_of d (ByName service)) frame ≡ Line (line_of d service header xs)) m.2 is))
+
+  binary_fault : (f : Fault) → IsRefused frame f → binary_is
+  binary_fault f (inl e) = TellsNoHeader f (λ header front rest laid spells. binary_none frame header f e (front, rest, laid, spells)) (stands_there frame f are (inl e)) (shown_unread binary_source binary.levels binary.nested (start_of d (ByName service)) frame f e)
+  binary_fault f (inr (header, items, first, last, headed, reads, refuses)) = by_end refuses
+    where
+      told : shown_by binary_source (start_of d (ByName service)) frame ≡ Refused f → binary_is
+      told e =
+          let x = binary_fronted frame are header first headed in
+          TellsFault header x.0 x.1 f x.2 x.3 (stands_there frame f are (inr (header, items, first, last, headed, reads, refuses))) e
+
+      by_end : Refuses last f → binary_is
+      by_end (inl (some, e)) =
+          told (shown_faulty binary_source binary.levels binary.nested (start_of d (ByName service)) frame header first last items headed (binary.body_level frame header first headed)
+          (binary.follows items first last (start_of d (ByName service) header) reads) f (binary.some_levels last.nest some) e)
+      by_end (inr (none, e)) =
+          told (shown_trailing binary_source binary.levels binary.nested (start_of d (ByName service)) frame header first last items headed (binary.body_level frame header first headed)
+          (binary.follows items first last (start_of d (ByName service) header) reads) f (ap length none) e)
+
+  pub binary_shown : binary_is
+  binary_shown = by_outcome (read_or_refused frame)
+    where
+      by_outcome : ((header : Header) × (items : List Item) × IsRead frame header items) ⊎ ((f : Fault) × IsRefused frame f) → binary_is
+      by_outcome (inl (header, items, read)) = binary_whole header items read
+      by_outcome (inr (f, refused)) = binary_fault f refused
+
+-- ---- Compact
+
+module _ (d : Declarations) (service : Option ServiceId) (frame : List ℕ) (are : AreBytes frame) where
+  abbrev compact_is : Type 0
+  compact_is = IsShowing CompactHead CompactSpells compact_faults.FaultAt d service frame (shown_by compact_source (start_of d (ByName service)) frame)
+
+  compact_whole : (header : Header) (items : List Item) → compact_reads.IsRead frame header items → compact_is
+  compact_whole header items (first, last, headed, reads, ends) =
+      let m = compact_sound.read_spelled frame header items are (first, last, headed, reads, ends) in
+      let is = shown_whole compact_source compact.levels compact.nested (start_of d (ByName service)) frame header first last items headed (compact.body_level frame header first headed)
+      (compact.follows items first last (start_of d (ByName service) header) reads) (compact.end_closed last last ends) ends in
+      ShowsMessage m.0 m.4 m.3
+      (subst (λ h. shown_by compact_source (start_of d (ByName service)) frame ≡ Line (line_of d service h (items_of_members m.0.body))) m.1
+      (subst (λ xs. shown_by compact_source (start_of d (ByName service)) frame ≡ Line (line_of d service header xs)) m.2 is))
+
+  compact_fault : (f : Fault) → compact_refused.IsRefused frame f → compact_is
+  compact_fault f (inl e) = TellsNoHeader f (λ header front rest laid spells. compact_none frame header f e (front, rest, laid, spells)) (compact_stands.stands_there frame f are (inl e)) (shown_unread compact_source compact.levels compact.nested (start_of d (ByName service)) frame f e)
+  compact_fault f (inr (header, items, first, last, headed, reads, refuses)) = by_end refuses
+    where
+      told : shown_by compact_source (start_of d (ByName service)) frame ≡ Refused f → compact_is
+      told e =
+          let x = compact_fronted frame are header first headed in
+          TellsFault header x.0 x.1 f x.2 x.3 (compact_stands.stands_there frame f are (inr (header, items, first, last, headed, reads, refuses))) e
+
+      by_end : compact_refused.Refuses last f → compact_is
+      by_end (inl (some, e)) =
+          told (shown_faulty compact_source compact.levels compact.nested (start_of d (ByName service)) frame header first last items headed (compact.body_level frame header first headed)
+          (compact.follows items first last (start_of d (ByName service) header) reads) f (compact.some_levels last.nest some) e)
+      by_end (inr (none, e)) =
+          told (shown_trailing compact_source compact.levels compact.nested (start_of d (ByName service)) frame header first last items headed (compact.body_level frame header first headed)
+          (compact.follows items first last (start_of d (ByName service) header) reads) f (ap length none) e)
+
+  pub compact_shown : compact_is
+  compact_shown = by_outcome (compact_either.read_or_refused frame)
+    where
+      by_outcome : ((header : Header) × (items : List Item) × compact_reads.IsRead frame header items) ⊎ ((f : Fault) × compact_refused.IsRefused frame f) → compact_is
+      by_outcome (inl (header, items, read)) = compact_whole header items read
+      by_outcome (inr (f, refused)) = compact_fault f refused

@@ -1,0 +1,2 @@
+-- What is shown of a frame in the words of the grammars.
+pub mod Showings

@@ -1,0 +1,114 @@
+-- What a stream gives, from its clause.
+use Rattle.std.proofs.Common.{◌≡◌, ℕ, ◌+◌, Bool, true, false, ◌⊎◌, inl, inr, List, [], ◌∷◌, ◌++◌, Option, refl, ap, ◌∙◌, sym, subst}
+use Rattle.std.proofs.lemmas.List.{append-nil}
+use Rattle.std.specs.Prelude.{not, ◌||◌}
+use Rattle.std.specs.List.{flat_map}
+use Rattle.std.specs.Io.KnownBytes.{Consumes}
+use Rattle.type_tables.specs.declared.declared.ServiceId.{ServiceId}
+use Rattle.type_tables.specs.Declarations.{Declarations}
+use Rattle.protocol_traits.specs.declared.proto.Proto.{Proto}
+use Rattle.translate_core.specs.declared.route.Route.TheVariants.{ByName}
+use Rattle.translate_core.specs.declared.verdict.Cause.TheVariants.{Grammar}
+use Rattle.protocol_pairs.specs.Pairs.{answered}
+use Rattle.framed_transport.specs.Frames.{framed}
+use Rattle.message_show.specs.Shown.{Showing, shown}
+use Rattle.binary_laws.specs.Bytes.{AreBytes}
+use Rattle.binary_laws.proofs.Inverse.{bytes_front}
+use Rattle.verdict_laws.specs.Rounds.{SpellsIn}
+use Rattle.session_laws.specs.Saying.{HasLaws, FaultBy, SpellsHead}
+use Rattle.session_laws.proofs.Fates.{IsSaidBy, ByMessage, ByCause, ByFault, said_by}
+use Rattle.session_laws.proofs.Existing.{frame_bytes}
+use Rattle.show_laws.specs.Showings.{IsShowing, ShowsMessage, TellsFault, TellsNoHeader}
+use Rattle.gate_run.specs.declared.doing.Doing.TheVariants.{Convert, Show}
+use Rattle.gate_run.specs.Handling.{Treated, Passes, Fails, translated, as_line, treated, treated_by, is_passed, bytes_of, line_for, output_of, line_of, lines, any_refused}
+use Rattle.gate_run.specs.Outcome.{Streams, Covers, Streamed}
+use Rattle.gate_run.specs.Terms.{Terms, judged_by, shown_by}
+use Rattle.stream_laws.specs.Streams.{AreFrames}
+use Rattle.stream_laws.specs.Covering.{passage_of, IsConverted, IsWritten, IsReported, IsListed, HasLine, HasFault, GiveInOrder, CoversBy, GivesByCode}
+
+-- what is written and reported of one frame by the program
+abbrev Holds : (ℕ → List ℕ → List ℕ → List ℕ → Type 0) → ℕ → List ℕ → Treated → Type 0
+Holds Each number frame t = Each number frame (bytes_of t) (line_for number t)
+
+-- ---- one frame that is converted
+
+module _ (k : Terms) (from to : Proto) (doing : k.doing ≡ Convert from to) (source : HasLaws from) (target : HasLaws to) (number : ℕ) (frame : List ℕ) (are : AreBytes frame) where
+  by_said : IsSaidBy (passage_of k from to) (answered from from frame) frame (judged_by k from to frame) → Holds (IsConverted (passage_of k from to)) number frame (translated (judged_by k from to frame))
+  by_said (ByMessage m out says e) = subst (λ j. Holds (IsConverted (passage_of k from to)) number frame (translated j)) (sym e) (IsWritten m out says.0 says.1 says.2 says.3 refl refl)
+  by_said (ByCause h cause says e) = subst (λ j. Holds (IsConverted (passage_of k from to)) number frame (translated j)) (sym e) (IsReported cause says.1 refl refl)
+  by_said (ByFault f says e) = subst (λ j. Holds (IsConverted (passage_of k from to)) number frame (translated j)) (sym e) (IsReported (Grammar f) says.1 refl refl)
+
+  pub converted : Holds (IsConverted (passage_of k from to)) number frame (treated k frame)
+  converted = subst (λ d. Holds (IsConverted (passage_of k from to)) number frame (treated_by k d frame)) (sym doing) (by_said (said_by (passage_of k from to) frame are source target source))
+
+-- ---- one frame that is shown
+
+-- the law of what is shown
+abbrev pub IsShowLaw : Type 0
+IsShowLaw = (d : Declarations) (service : Option ServiceId) (protocol : Proto) (frame : List ℕ) → AreBytes frame → HasLaws protocol
+    → IsShowing (SpellsHead protocol) (SpellsIn protocol) (λ l f. FaultBy (record { declarations = d; route = ByName service; from = protocol; to = protocol; teller = protocol }) protocol l f) d service frame (shown d service protocol frame)
+
+module _ (law : IsShowLaw) (k : Terms) (from : Proto) (doing : k.doing ≡ Show from) (source : HasLaws from) (number : ℕ) (frame : List ℕ) (are : AreBytes frame) where
+  by_showing : (s : Showing) → IsShowing (SpellsHead from) (SpellsIn from) (λ l f. FaultBy (passage_of k from from) from l f) k.declarations k.service frame s → Holds (IsListed k (passage_of k from from)) number frame (as_line s)
+  by_showing s (ShowsMessage m spells deep e) = subst (λ x. Holds (IsListed k (passage_of k from from)) number frame (as_line x)) (sym e) (HasLine m spells deep refl refl)
+  by_showing s (TellsFault header front rest f laid head stands e) = subst (λ x. Holds (IsListed k (passage_of k from from)) number frame (as_line x)) (sym e) (HasFault f stands refl refl)
+  by_showing s (TellsNoHeader f none stands e) = subst (λ x. Holds (IsListed k (passage_of k from from)) number frame (as_line x)) (sym e) (HasFault f stands refl refl)
+
+  pub listed : Holds (IsListed k (passage_of k from from)) number frame (treated k frame)
+  listed = subst (λ d. Holds (IsListed k (passage_of k from from)) number frame (treated_by k d frame)) (sym doing) (by_showing (shown_by k from frame) (law k.declarations k.service from frame are source))
+
+-- ---- all frames of a stream
+
+no_line : (number : ℕ) (t : Treated) → is_passed t ≡ true → line_for number t ≡ []
+no_line number (Passes bytes) e = refl
+no_line number (Fails cause) e = absurd (cc)
+
+both_false : (a b : Bool) → (not a || b) ≡ false → (a ≡ true) × (b ≡ false)
+both_false true b e = (refl, e)
+both_false false b e = absurd (cc)
+
+nothing_reported : (k : Terms) (before : ℕ) (frames : List (List ℕ)) → any_refused k frames ≡ false → lines k before frames ≡ []
+nothing_reported k before [] none = refl
+nothing_reported k before (frame ∷ frames) none =
+    let parts = both_false (is_passed (treated k frame)) (any_refused k frames) none in
+    ap (λ l. l ++ lines k (before + 1) frames) (no_line (before + 1) (treated k frame) parts.0) ∙ nothing_reported k (before + 1) frames parts.1
+
+module _ (k : Terms) (Each : ℕ → List ℕ → List ℕ → List ℕ → Type 0) (each : (number : ℕ) (frame : List ℕ) → AreBytes frame → Holds Each number frame (treated k frame)) where
+  all_give : (before : ℕ) (frames : List (List ℕ)) → AreFrames frames → GiveInOrder Each before frames (flat_map (output_of k) frames) (lines k before frames)
+  all_give before [] are = (refl, refl)
+  all_give before (frame ∷ frames) are =
+      (output_of k frame, flat_map (output_of k) frames, line_of k (before + 1) frame, lines k (before + 1) frames, each (before + 1) frame are.0, all_give (before + 1) frames are.1, refl, refl)
+
+  frames_are : (frames : List (List ℕ)) (rest : List ℕ) → AreBytes (flat_map framed frames ++ rest) → AreFrames frames
+  frames_are [] rest are = tt
+  frames_are (x ∷ frames) rest are =
+      let parts = bytes_front (flat_map framed (x ∷ frames)) rest are in
+      let one = frame_bytes x (flat_map framed frames) parts.0 in
+      (one.0, frames_are frames [] (subst AreBytes (sym (append-nil (flat_map framed frames))) one.1))
+
+  abbrev covers : (a b : Streams) (read : List ℕ) (frames : List (List ℕ)) (rest line : List ℕ) → AreBytes read → Covers k a b read frames rest line → CoversBy Each k.limit a b read frames rest line
+  covers a b read frames rest line are c = record {
+    consumed = c.consumed;
+    splits = c.splits;
+    out = flat_map (output_of k) frames;
+    told = lines k 0 frames;
+    give = all_give 0 frames (frames_are frames rest (subst AreBytes c.splits.whole are));
+    written = c.written;
+    reported = c.reported;
+  }
+
+  -- what is read of the input consists of bytes
+  module _ (a b : Streams) (code : ℕ) (bytes : (read : List ℕ) → Consumes a.left b.left read → AreBytes read) (s : Streamed k a b code) where
+    pub by_code : GivesByCode Each k.limit a b code
+    by_code = record {
+      done = λ e.
+          let x = s.done e in
+          (x.0, x.1, covers a b x.0 x.1 [] [] (bytes x.0 x.2.consumed) x.2, nothing_reported k 0 x.1 x.3, x.4);
+      refused = λ e. let x = s.refused e in (x.0, x.1, covers a b x.0 x.1 [] [] (bytes x.0 x.2.consumed) x.2, x.4);
+      stream_fault = λ e. let x = s.stream_fault e in (x.0, x.1, x.2, x.3, covers a b x.0 x.1 x.2 x.3 (bytes x.0 x.4.consumed) x.4, x.5, x.6);
+      stopped = stops;
+    }
+      where
+        stops : (code ≡ 4) ⊎ (code ≡ 8) → (read : List ℕ) × (frames : List (List ℕ)) × (rest : List ℕ) × (line : List ℕ) × CoversBy Each k.limit a b read frames rest line
+        stops (inl e) = let x = (s.read_fault e).1 in (x.0, x.1, x.2, x.3, covers a b x.0 x.1 x.2 x.3 (bytes x.0 x.4.consumed) x.4)
+        stops (inr e) = let x = s.budget e in (x.0, x.1, x.2, x.3, covers a b x.0 x.1 x.2 x.3 (bytes x.0 x.4.consumed) x.4)

@@ -1,0 +1,14 @@
+use Rattle.std.proofs.Common.{refl}
+use Rattle.protocol_traits.specs.declared.proto.Proto.TheVariants as protocols
+use Rattle.stream_laws.specs.Covering.{passage_of, IsListed}
+use Rattle.stream_laws.proofs.Covering.{IsShowLaw, listed, by_code}
+use Rattle.stream_laws.proofs.a_stream_is_shown_by_its_grammar.Goals as goal
+
+pub returns : goal.returns
+returns c k from a b code doing source bytes streamed =
+    by_code k (IsListed k (passage_of k from from)) (λ number frame are. listed law k from doing source number frame are) a b code bytes streamed
+  where
+    law : IsShowLaw
+    law d service protocols.Binary frame are laws = c.a_frame_is_shown_by_its_grammar.ensures.binary d service frame are
+    law d service protocols.Compact frame are laws = c.a_frame_is_shown_by_its_grammar.ensures.compact d service frame are
+    law d service protocols.Json frame are laws = absurd (laws refl)

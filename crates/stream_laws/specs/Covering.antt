@@ -1,0 +1,57 @@
+-- What a stream that is converted or shown gives in the words of the grammars: what is written of each frame, and what is reported.
+use Rattle.std.specs.Prelude.{◌≡◌, ◌⊎◌, ℕ, ◌+◌, List, [], ◌∷◌, ◌++◌, length}
+use Rattle.std.specs.Io.KnownBytes.{Appends, Consumes, IsAtEnd}
+use Rattle.thrift_value.specs.Trees.{Message}
+use Rattle.protocol_traits.specs.declared.fault.Fault.{Fault}
+use Rattle.protocol_traits.specs.declared.proto.Proto.{Proto}
+use Rattle.translate_core.specs.declared.route.Route.TheVariants.{ByName}
+use Rattle.translate_core.specs.declared.verdict.Cause.{Cause}
+use Rattle.translate_core.specs.Texts.{cause_text, place_of, reason_text}
+use Rattle.framed_transport.specs.Frames.{framed, Splits}
+use Rattle.session_laws.specs.Saying.{Passage, Spells, SpellsPlainly, IsShallow, StandsIn, FaultIn}
+use Rattle.verdict_laws.specs.Bars.{HoldsAll}
+use Rattle.show_laws.specs.Showings.{message_line}
+use Rattle.gate_run.specs.Lines.{refusal_text}
+use Rattle.gate_run.specs.Outcome.{Streams, IsTooLargeOrAtEnd}
+use Rattle.gate_run.specs.Progress.{IsStreamLine}
+use Rattle.gate_run.specs.Terms.{Terms}
+
+-- a frame goes from one protocol to the other by the method that its message's name means
+abbrev pub passage_of : Terms → Proto → Proto → Passage
+passage_of k from to = record { declarations = k.declarations; route = ByName k.service; from = from; to = to; teller = from }
+
+-- Of the frame of this number its message is written in a frame, in its plain spelling; or the cause for which it can't go on is reported.
+pub data IsConverted (p : Passage) (number : ℕ) (frame out line : List ℕ) : Type 0 where
+  IsWritten : (m : Message) (bytes : List ℕ) → Spells p p.from m frame → IsShallow m → HoldsAll p.to p.declarations p.route m → SpellsPlainly p p.to m bytes → out ≡ framed bytes → line ≡ [] → IsConverted p number frame out line
+  IsReported : (cause : Cause) → StandsIn p frame cause → out ≡ [] → line ≡ refusal_text number (place_of cause) (cause_text cause) → IsConverted p number frame out line
+
+-- The line of its message is written, or its fault is reported.
+pub data IsListed (k : Terms) (p : Passage) (number : ℕ) (frame out line : List ℕ) : Type 0 where
+  HasLine : (m : Message) → Spells p p.from m frame → IsShallow m → out ≡ message_line k.declarations k.service m → line ≡ [] → IsListed k p number frame out line
+  HasFault : (f : Fault) → FaultIn p frame f → out ≡ [] → line ≡ refusal_text number f.place (reason_text f.reason) → IsListed k p number frame out line
+
+-- these are written and reported of the frames, one after another, behind so many
+abbrev pub GiveInOrder : (ℕ → List ℕ → List ℕ → List ℕ → Type 0) → ℕ → List (List ℕ) → List ℕ → List ℕ → Type 0
+GiveInOrder Each before [] out told = (out ≡ []) × (told ≡ [])
+GiveInOrder Each before (frame ∷ frames) out told =
+    (first : List ℕ) × (rest : List ℕ) × (line : List ℕ) × (more : List ℕ) × Each (before + 1) frame first line × GiveInOrder Each (before + 1) frames rest more
+    × (out ≡ first ++ rest) × (told ≡ line ++ more)
+
+-- these bytes were read, they are these frames and a rest, and what is written and reported of them was, with this line at the end
+pub record CoversBy (Each : ℕ → List ℕ → List ℕ → List ℕ → Type 0) (limit : ℕ) (a b : Streams) (read : List ℕ) (frames : List (List ℕ)) (rest line : List ℕ) : Type 0 where
+  pub consumed : Consumes a.left b.left read
+  pub splits : Splits limit read frames rest
+  pub out : List ℕ
+  pub told : List ℕ
+  pub give : GiveInOrder Each 0 frames out told
+  pub written : Appends a.written b.written out
+  pub reported : Appends a.reported b.reported (told ++ line)
+
+-- By the code: the input was read to its end and is whole frames, and at 0 nothing was reported; it ended within a frame, or the next length
+-- is too large; reading failed or the budget was spent behind some whole frames.
+pub record GivesByCode (Each : ℕ → List ℕ → List ℕ → List ℕ → Type 0) (limit : ℕ) (a b : Streams) (code : ℕ) : Type 0 where
+  pub done : code ≡ 0 → (read : List ℕ) × (frames : List (List ℕ)) × (c : CoversBy Each limit a b read frames [] []) × (c.told ≡ []) × IsAtEnd b.left
+  pub refused : code ≡ 1 → (read : List ℕ) × (frames : List (List ℕ)) × CoversBy Each limit a b read frames [] [] × IsAtEnd b.left
+  pub stream_fault : code ≡ 3 → (read : List ℕ) × (frames : List (List ℕ)) × (rest : List ℕ) × (line : List ℕ) × CoversBy Each limit a b read frames rest line
+      × IsStreamLine limit (length frames) rest line × IsTooLargeOrAtEnd limit rest b.left
+  pub stopped : (code ≡ 4) ⊎ (code ≡ 8) → (read : List ℕ) × (frames : List (List ℕ)) × (rest : List ℕ) × (line : List ℕ) × CoversBy Each limit a b read frames rest line

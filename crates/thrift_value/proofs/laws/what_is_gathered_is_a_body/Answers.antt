@@ -1,5 +1,0 @@
-use Rattle.thrift_value.proofs.Kept.{gathered-is-body}
-use Rattle.thrift_value.proofs.laws.what_is_gathered_is_a_body.Goals as goal
-
-pub returns : goal.returns
-returns c = gathered-is-body

@@ -1,5 +1,0 @@
-use Rattle.thrift_value.proofs.Accepted.{refused-begins-none}
-use Rattle.thrift_value.proofs.laws.what_is_refused_begins_no_body.Goals as goal
-
-pub returns : goal.returns
-returns c = refused-begins-none
