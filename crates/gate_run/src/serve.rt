@@ -70,8 +70,7 @@ fn serve_started<O: Sink, H: Hub>(
     requires service { IfSome start.now.service (λ x. x.0 < length start.now.schema.services) }
     ensures serves { let set = settings serving.now start.now.schema start.now.service in
         let moment = outside H.tells H.counts O.written O.faults in
-        Serves Setting rules_of (settings serving.now start.now.schema start.now.service)
-        (moment hub.old output.old) (moment hub.new output.new) result }
+        Serves Setting rules_of set (moment hub.old output.old) (moment hub.new output.new) result }
     ensures output_later { O.faults output.old ≤ O.faults output.new }
     ensures later { Later (H.counts hub.old) (H.counts hub.new) }
     ensures hub_fault { result ≡ Served.HubFault → Rose (H.counts hub.old).faults (H.counts hub.new).faults }
