@@ -1,7 +1,7 @@
 //! Making the messages and writing them.
 ghost use Rattle.std.specs.Prelude.{◌≡◌, ◌≤◌, ◌+◌, [], length, IfSome};
 ghost use Rattle.std.specs.Io.KnownBytes.{Appends};
-ghost use Rattle.gate_io.specs.Causes.{Rose};
+ghost use Rattle.gate_base.specs.Causes.{Rose};
 ghost use Rattle.drill_messages.specs.Messages.{messages};
 ghost use Rattle.drill_messages.specs.Outcome.{stream_of, totals_of};
 ghost use Rattle.gate_io.specs.Fronts.{AppendsFront, Flushed};
@@ -12,7 +12,8 @@ use crate::Totals;
 use crate::draws::Draws;
 use crate::rooms::{Rooms, added, make_one, open};
 use crate::sizes::{FRAME_ROOM, MOST_MESSAGES, STREAM_ROOM};
-use gate_io::{Out, OutOfMemory, Sink, Wrote, flush};
+use gate_base::OutOfMemory;
+use gate_io::{Out, Sink, Wrote, flush};
 use std::alloc::Global;
 
 /// What came of making messages.

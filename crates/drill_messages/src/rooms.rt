@@ -17,7 +17,8 @@ use crate::sizes::{FRAME_ROOM, MESSAGE_ROOM, MOST_ITEMS, MOST_MESSAGES, STREAM_R
 use binary_protocol::BinaryWrite;
 use compact_protocol::CompactWrite;
 use framed_transport::{begin, close};
-use gate_io::{Out, OutOfMemory};
+use gate_base::OutOfMemory;
+use gate_io::Out;
 use json_protocol::JsonWrite;
 use protocol_traits::WireWrite;
 use std::alloc::Global;

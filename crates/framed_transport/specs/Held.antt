@@ -1,8 +1,8 @@
 -- A frame buffer as its callers see it.
 use Rattle.std.specs.Prelude.{◌≡◌, ℕ, ◌<◌, ◌≤◌, List, ◌++◌, length, Option}
 use Rattle.std.specs.Io.KnownBytes.{Keeps, Consumes, IsAtEnd}
-use Rattle.gate_io.specs.declared.outside.Got.{Got}
-use Rattle.gate_io.specs.declared.outside.Got.TheVariants.{Bytes, End, Failed}
+use Rattle.gate_io.specs.declared.byte_streams.Got.{Got}
+use Rattle.gate_io.specs.declared.byte_streams.Got.TheVariants.{Bytes, End, Failed}
 
 -- the bytes that came and are not taken, and the greatest length of a frame
 pub record Held : Type 0 where

@@ -1,12 +1,13 @@
 //! What has come of a stream and is not taken yet.
 ghost use Rattle.std.specs.Prelude.{◌≡◌, ◌+◌, ◌-◌, ◌^◌, ◌<◌, ◌≤◌, [], ◌++◌, ℕ, List, length, take, min, IfOk};
-ghost use Rattle.gate_io.specs.Causes.{Rose};
+ghost use Rattle.gate_base.specs.Causes.{Rose};
 ghost use Rattle.framed_transport.specs.Frames.{IsCut};
 ghost use Rattle.framed_transport.specs.Front.{front, behind, Part, Whole};
 ghost use Rattle.framed_transport.specs.Next.{Tells};
 ghost use Rattle.framed_transport.specs.Held.{Receives};
 
-use gate_io::{Got, Out, OutOfMemory, Source};
+use gate_base::OutOfMemory;
+use gate_io::{Got, Out, Source};
 use std::alloc::Global;
 use std::marker::Model;
 

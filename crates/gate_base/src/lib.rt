@@ -1,4 +1,5 @@
-//! What every crate of the gateway names: the want of memory, and texts that contracts see as lists.
+//! What every crate of the gateway names: the want of memory, texts that contracts see as lists, and
+//! when a fault may be answered.
 #![tactic(auto)]
 
 mod memory;

@@ -1,6 +1,6 @@
 -- What an IDL declares, by what the files hold.
 use Rattle.std.specs.Prelude.{◌≡◌, ℕ, List, Option, Some, None, Result, Ok, Err, ⊤}
-use Rattle.gate_io.specs.Causes.{Rose}
+use Rattle.gate_base.specs.Causes.{Rose}
 use Rattle.idl_names.specs.Files.{FileTree}
 use Rattle.idl_rules.specs.declared.row.IdlFault.{IdlFault}
 use Rattle.idl_files.specs.declared.fault.LoadError.{LoadError}

@@ -2,7 +2,8 @@
 ghost use Rattle.std.specs.Prelude.{◌≡◌, ◌≤◌, IfOk, length};
 ghost use Rattle.gate_idl.specs.Refusals.{refusal_text, row_text};
 
-use gate_io::{Out, OutOfMemory, Text};
+use gate_base::{OutOfMemory, Text};
+use gate_io::Out;
 use idl_consts::ConstRow;
 use idl_rules::IdlRow;
 use itoa::Buffer;

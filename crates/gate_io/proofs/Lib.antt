@@ -1,8 +1,4 @@
 -- Lemmas.
-pub mod Events
-pub mod Links
-pub mod Moved
-pub mod Named
-pub mod Sessions
 pub mod Streams
+pub mod Tails
 pub mod Windows

@@ -1,9 +1,10 @@
 -- A window into cells, after a write behind it or within it.
-use Rattle.std.proofs.Common.{◌≡◌, ℕ, ◌+◌, ◌-◌, ◌≤◌, ◌<◌, List, [], ◌∷◌, ◌++◌, length, take, drop, slice_set, arith, refl, sym, ◌∙◌, ap, length-append}
-use Rattle.std.proofs.lemmas.List.{drop-drop, length-take-le, length-drop, drop-take, drop-append-le, take-take, take_more_set, append_assoc}
+use Rattle.std.proofs.Common.{◌≡◌, ℕ, zero, suc, ◌+◌, ◌-◌, ◌≤◌, ◌<◌, List, [], ◌∷◌, ◌++◌, length, take, drop, slice_set, arith, refl, sym, ◌∙◌, ap, length-append}
+use Rattle.std.proofs.lemmas.List.{drop-drop, length-take-le, length-drop, drop-take, drop-append-le, take-append-le, take-take, take_more_set, append_assoc}
 use Rattle.std.proofs.Math.Seq.{take-append-add}
 use Rattle.std.proofs.lemmas.Slice.{take-put_mid, take-put_mid_below}
 use borrow.Rule.Slice.PartMut.{put_mid}
+use Rattle.gate_io.specs.Tails.{written_over}
 
 -- bytes that were written behind a window belong to the longer one
 pub pushed : (cells piece : List ℕ) (start len k n : ℕ) → start + len ≤ length cells → n ≡ len + length piece → take n (drop start (put_mid (start + len) k cells piece)) ≡ take len (drop start cells) ++ piece
@@ -70,3 +71,33 @@ pushed_first cells piece start len k n within some =
     ∙ (ap (take (len + n)) (pushed cells piece start len k (len + length piece) within refl)
     ∙ (ap (λ m. take (m + n) (take len (drop start cells) ++ piece)) (sym window)
     ∙ take-append-add (take len (drop start cells)) piece n))
+
+-- what a write leaves of some cells counts only up to the cut
+refilled : (w cells : List ℕ) (n : ℕ) → take n (w ++ drop (length w) cells) ≡ take n (w ++ drop (length w) (take n cells))
+refilled [] cells n = sym (take-take n n cells (omega arith))
+refilled (x ∷ w) cells zero = refl
+refilled (x ∷ w) [] (suc n) = refl
+refilled (x ∷ w) (y ∷ cells) (suc n) = ap (λ xs. x ∷ xs) (refilled w cells n)
+
+-- cells behind a window were lent, and belong to the longer one
+pub lent : (cells w tail rest held : List ℕ) (many start len count : ℕ) → many ≡ length cells → start + len + count ≤ length cells → tail ≡ take count (drop (start + len) cells) → take len (drop start cells) ≡ held →
+    take (len + count) (drop start (take many ((take (start + len) cells ++ (w ++ drop (length w) (drop (start + len) cells))) ++ rest))) ≡ held ++ written_over tail w
+lent cells w tail rest held many start len count size within is was =
+    let behind = drop (start + len) cells in
+    let over = w ++ drop (length w) behind in
+    let front : length (take (start + len) cells) ≡ start + len = length-take-le (start + len) cells (omega (arith, within)) in
+    let whole = take (start + len) cells ++ over in
+    let long : length cells ≤ length whole = omega (arith, within, front, length-append (take (start + len) cells) over, length-append w (drop (length w) behind), length-drop (length w) behind, length-drop (start + len) cells) in
+    let many_of : length tail ≡ count = ap length is ∙ length-take-le count behind (omega (arith, within, length-drop (start + len) cells)) in
+    let end : start + (len + count) ≡ length (take (start + len) cells) + count = omega (arith, front) in
+    ap (λ n. take (len + count) (drop start (take n (whole ++ rest)))) size
+    ∙ ap (λ xs. take (len + count) (drop start xs)) (take-append-le (length cells) whole rest long)
+    ∙ sym (drop-take start (len + count) (take (length cells) whole))
+    ∙ ap (drop start) (take-take (start + (len + count)) (length cells) whole (omega (arith, within)))
+    ∙ ap (λ n. drop start (take n whole)) end
+    ∙ ap (drop start) (take-append-add (take (start + len) cells) over count)
+    ∙ drop-append-le start (take (start + len) cells) (take count over) (omega (arith, front))
+    ∙ ap (λ xs. xs ++ take count over) (drop-take start len cells ∙ was)
+    ∙ ap (λ xs. held ++ xs) (refilled w behind count)
+    ∙ ap (λ xs. held ++ take count (w ++ drop (length w) xs)) (sym is)
+    ∙ ap (λ n. held ++ take n (w ++ drop (length w) tail)) (sym many_of)

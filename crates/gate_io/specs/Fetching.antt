@@ -14,9 +14,12 @@ abbrev pub Fetches : Option (List ℕ → Option (List ℕ)) → List ℕ → Fe
 Fetches None name answer = ⊤
 Fetches (Some files) name answer = FetchesOf files name answer
 
--- a file has at most 2^24 bytes
+-- the most bytes that a file may have
+abbrev pub longest_file : ℕ
+longest_file = 16777216
+
 abbrev pub IsShort : Fetched → Type 0
-IsShort (fetched.Found text) = length text ≤ 16777216
+IsShort (fetched.Found text) = length text ≤ longest_file
 IsShort fetched.Absent = ⊤
 IsShort fetched.Failed = ⊤
 IsShort fetched.OutOfMemory = ⊤

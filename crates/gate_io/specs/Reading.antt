@@ -2,8 +2,8 @@
 use Rattle.std.specs.Prelude.{◌≡◌, ℕ, ◌+◌, ◌<◌, ◌≤◌, List, ◌++◌, length, take, drop, Option}
 use Rattle.std.specs.Io.KnownBytes.{Keeps, Consumes, IsAtEnd}
 use Rattle.gate_io.specs.Buffer.{Buffer}
-use Rattle.gate_io.specs.declared.outside.Got.{Got}
-use Rattle.gate_io.specs.declared.outside.Got.TheVariants.{Bytes, End, Failed}
+use Rattle.gate_io.specs.declared.byte_streams.Got.{Got}
+use Rattle.gate_io.specs.declared.byte_streams.Got.TheVariants.{Bytes, End, Failed}
 
 -- of the slice that was read into
 abbrev pub Reads : Option (List ℕ) → Option (List ℕ) → List ℕ → Got → Type 0

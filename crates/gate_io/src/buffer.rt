@@ -1,33 +1,47 @@
 //! A byte buffer whose room is taken once: a window that moves along its cells.
 ghost use Rattle.std.specs.Prelude.{◌≡◌, ◌+◌, ◌-◌, ◌≤◌, ◌<◌, [], ◌∷◌, ◌++◌, length, take, drop, IfOk, Option, List, ℕ};
+ghost use Rattle.std.specs.Borrow.{sem};
+ghost use Rattle.std.specs.Vec.{vec_capacity};
+ghost use Rattle.gate_base.specs.Causes.{Rose};
 ghost use Rattle.gate_io.specs.Buffer.{Buffer};
-ghost use Rattle.gate_io.specs.Causes.{Rose};
 ghost use Rattle.gate_io.specs.Reading.{Fills, FillsCells};
+ghost use Rattle.gate_io.specs.Tails.{LendsTail};
 
-use crate::{Got, OutOfMemory, Source};
+use crate::{Got, Source};
+use gate_base::OutOfMemory;
 use std::alloc::Global;
 use std::marker::Model;
 
-/// Bytes that are appended behind and let go in front. Only `open` takes memory.
+/// So many cells are made at the least where some are.
+const LEAST_CELLS: usize = 1024;
+
+/// So many bytes are asked of a source at the least, where the room has that many.
+const LEAST_READ: usize = 65_536;
+
+/// Bytes that are appended behind and let go in front. Only `open` and `open_whole` take memory.
 ///
 /// The bytes are a window into the cells. Letting bytes go moves its start; they are moved to the
-/// first cell only where no room is left behind them.
+/// first cell only where no room is left behind them, or where they are fewer than the cells that
+/// were let go. The cells are made as they are used, so a buffer costs nothing but what went
+/// through it: its memory is taken at once and not touched.
 #[derive(Drop)]
 pub struct Out {
     cells: Vec<u8>,
+    room: usize,
     start: usize,
     len: usize,
 }
 
 impl Model for Out {
     ghost use Rattle.std.specs.Prelude.{◌+◌, ◌≤◌, length, take, drop};
+    ghost use Rattle.std.specs.Vec.{vec_capacity};
     ghost use Rattle.gate_io.specs.Buffer.{Buffer};
 
     ghost Value = { Buffer };
 
-    ghost view = { λ o. record { bytes = take o.len (drop o.start o.cells.items); room = length o.cells.items } };
+    ghost view = { λ o. record { bytes = take o.len (drop o.start o.cells.items); room = o.room } };
 
-    ghost invariant = { λ o. o.start + o.len ≤ length o.cells.items };
+    ghost invariant = { λ o. (o.start + o.len ≤ length o.cells.items) × (length o.cells.items ≤ o.room) × (o.room ≤ vec_capacity o.cells) };
 }
 
 impl Out {
@@ -38,7 +52,24 @@ impl Out {
         ensures { IfOk result (λ out. out ≡ record { bytes = []; room = room }) }
     {
         Ok(Out {
-            cells: vec![in alloc; 0; room]?,
+            cells: Vec::with_capacity(alloc, room)?,
+            room,
+            start: 0,
+            len: 0,
+        })
+    }
+
+    /// The same with all cells made, for one who wants each read to be offered the whole room.
+    ///
+    /// `OutOfMemory`: the room was not found.
+    pub fn open_whole(alloc: Global, room: usize) -> Result<Out, OutOfMemory>
+        ensures { IfOk result (λ out. out ≡ record { bytes = []; room = room }) }
+    {
+        let mut cells = Vec::with_capacity(alloc, room)?;
+        cells.resize(room, 0)?;
+        Ok(Out {
+            cells,
+            room,
             start: 0,
             len: 0,
         })
@@ -59,7 +90,7 @@ impl Out {
         ensures spare { result ≡ self.now.room - length self.now.bytes }
         ensures within { length self.now.bytes ≤ self.now.room }
     {
-        self.cells.len() - self.len
+        self.room - self.len
     }
 
     /// Appends bytes, for which there must be room.
@@ -68,7 +99,8 @@ impl Out {
         requires { length self.old.bytes + length from.now ≤ self.old.room }
         ensures { self.new ≡ record self.old { bytes = self.old.bytes ++ from.now } }
     {
-        self.start = append(&mut self.cells, self.start, self.len, from);
+        self.start = make_cells(&mut self.cells, self.room, self.start, self.len, from.len());
+        append(&mut self.cells, self.start, self.len, from);
         self.len += from.len();
     }
 
@@ -78,7 +110,8 @@ impl Out {
         requires { length self.old.bytes < self.old.room }
         ensures { self.new ≡ record self.old { bytes = self.old.bytes ++ byte ∷ [] } }
     {
-        self.start = append_byte(&mut self.cells, self.start, self.len, byte);
+        self.start = make_cells(&mut self.cells, self.room, self.start, self.len, 1);
+        append_byte(&mut self.cells, self.start, self.len, byte);
         self.len += 1;
     }
 
@@ -89,6 +122,21 @@ impl Out {
         ensures { self.new ≡ record self.old { bytes = self.old.bytes ++ from.entry } }
     {
         self.push(&from);
+    }
+
+    /// Appends so many bytes, for which there must be room, and lends them to be written.
+    ///
+    /// What they hold before that is not told. `cut` lets those go that are not used.
+    #[inline]
+    pub fn tail(&mut self, count: usize) -> &mut [u8]
+        requires { length self.old.bytes + count ≤ self.old.room }
+        ensures* writes_back { sem 𝓛 (LendsTail self.entry result) }
+        ensures size { length result.now ≡ count }
+    {
+        self.start = make_cells(&mut self.cells, self.room, self.start, self.len, count);
+        let end = self.start + self.len;
+        self.len += count;
+        self.cells.slice_mut(end..end + count)
     }
 
     /// Replaces the four bytes from this place on, which must be there.
@@ -142,9 +190,8 @@ impl Out {
         ensures later { I.faults input.old ≤ I.faults input.new }
         ensures cause { result ≡ Got.Failed → Rose (I.faults input.old) (I.faults input.new) }
     {
-        let spare = self.cells.len() - self.len;
-        let wanted = spare - spare / 2;
-        self.start = make_tail(&mut self.cells, self.start, self.len, wanted);
+        let wanted = wanted(self.room - self.len, self.len);
+        self.start = make_cells(&mut self.cells, self.room, self.start, self.len, wanted);
         let got = read_behind(&mut self.cells, self.start, self.len, input, most);
         if let Got::Bytes(count) = got {
             self.len += count;
@@ -153,31 +200,23 @@ impl Out {
     }
 }
 
-// Appends bytes to the window, and gives its start.
+// Writes bytes behind the window.
 #[inline(always)]
-fn append(cells: &mut [u8], start: usize, len: usize, from: &[u8]) -> usize
-    requires window { start + len ≤ length cells.old }
-    requires room { len + length from.now ≤ length cells.old }
-    ensures within { result + len + length from.now ≤ length cells.new }
-    ensures appended { take (len + length from.now) (drop result cells.new) ≡ take len (drop start cells.old) ++ from.now }
+fn append(cells: &mut [u8], start: usize, len: usize, from: &[u8])
+    requires tail { start + len + length from.now ≤ length cells.old }
+    ensures appended { take (len + length from.now) (drop start cells.new) ≡ take len (drop start cells.old) ++ from.now }
 {
-    let start = make_tail(cells, start, len, from.len());
     let end = start + len;
     cells[end..end + from.len()].copy_from_slice(from);
-    start
 }
 
-// Appends a byte to the window, and gives its start.
+// Writes a byte behind the window.
 #[inline(always)]
-fn append_byte(cells: &mut [u8], start: usize, len: usize, byte: u8) -> usize
-    requires window { start + len ≤ length cells.old }
-    requires room { len < length cells.old }
-    ensures within { result + len + 1 ≤ length cells.new }
-    ensures appended { take (len + 1) (drop result cells.new) ≡ take len (drop start cells.old) ++ byte ∷ [] }
+fn append_byte(cells: &mut [u8], start: usize, len: usize, byte: u8)
+    requires tail { start + len < length cells.old }
+    ensures appended { take (len + 1) (drop start cells.new) ≡ take len (drop start cells.old) ++ byte ∷ [] }
 {
-    let start = make_tail(cells, start, len, 1);
     cells[start + len] = byte;
-    start
 }
 
 // Writes four bytes within the window.
@@ -211,25 +250,71 @@ fn read_behind<I: Source>(
     input.read(&mut cells[end..end + count])
 }
 
-// The start of the window once so many cells stand free behind it: it is moved to the first cell
-// where they don't.
+// How many cells a read is offered at the least: half of the room that is left, but no more than
+// are held, or a piece of a fixed size.
+#[inline]
+fn wanted(spare: usize, held: usize) -> usize
+    requires { 0 < spare }
+    ensures some { 0 < result }
+    ensures within { result ≤ spare }
+{
+    (spare - spare / 2).min(held.max(LEAST_READ))
+}
+
+// Makes so many cells behind the window, and gives its start: it may be moved to the first cell.
 #[inline(always)]
-fn make_tail(cells: &mut [u8], start: usize, len: usize, count: usize) -> usize
-    requires window { start + len ≤ length cells.old }
-    requires room { len + count ≤ length cells.old }
-    ensures tail { result + len + count ≤ length cells.new }
-    ensures kept { take len (drop result cells.new) ≡ take len (drop start cells.old) }
+fn make_cells(cells: &mut Vec<u8>, room: usize, start: usize, len: usize, count: usize) -> usize
+    requires window { start + len ≤ length cells.old.items }
+    requires room { len + count ≤ room }
+    requires within { (length cells.old.items ≤ room) × (room ≤ vec_capacity cells.old) }
+    ensures tail { result + len + count ≤ length cells.new.items }
+    ensures kept { take len (drop result cells.new.items) ≡ take len (drop start cells.old.items) }
+    ensures within { (length cells.new.items ≤ room) × (room ≤ vec_capacity cells.new) }
 {
     if count <= cells.len() - len - start {
         return start;
     }
+    make_more(cells, room, start, len, count)
+}
+
+// The same where there are too few. The window is moved where that costs less than the bytes that
+// were let go since it was moved last, or where no room is left behind it.
+#[cold]
+#[inline(never)]
+fn make_more(cells: &mut Vec<u8>, room: usize, start: usize, len: usize, count: usize) -> usize
+    requires window { start + len ≤ length cells.old.items }
+    requires room { len + count ≤ room }
+    requires within { (length cells.old.items ≤ room) × (room ≤ vec_capacity cells.old) }
+    ensures tail { result + len + count ≤ length cells.new.items }
+    ensures kept { take len (drop result cells.new.items) ≡ take len (drop start cells.old.items) }
+    ensures within { (length cells.new.items ≤ room) × (room ≤ vec_capacity cells.new) }
+{
+    if start < len && count <= room - len - start {
+        make(cells, room, start + len + count);
+        return start;
+    }
     move_to_front(cells, start, len);
+    make(cells, room, len + count);
     0
 }
 
+// Makes the first cells, so many at the least, and twice as many as there are where the room allows.
+fn make(cells: &mut Vec<u8>, room: usize, count: usize)
+    requires count { count ≤ room }
+    requires within { (length cells.old.items ≤ room) × (room ≤ vec_capacity cells.old) }
+    ensures many { count ≤ length cells.new.items }
+    ensures kept { take (length cells.old.items) cells.new.items ≡ cells.old.items }
+    ensures longer { length cells.old.items ≤ length cells.new.items }
+    ensures within { (length cells.new.items ≤ room) × (room ≤ vec_capacity cells.new) }
+{
+    let more = cells.len().saturating_mul(2).max(LEAST_CELLS);
+    let len = more.max(count).min(room);
+    let Ok(()) = cells.resize(len, 0) else {
+        unreachable!()
+    };
+}
+
 // Moves the window to the first cell.
-#[cold]
-#[inline(never)]
 fn move_to_front(cells: &mut [u8], start: usize, len: usize)
     requires { start + len ≤ length cells.old }
     ensures { take len cells.new ≡ take len (drop start cells.old) }

@@ -2,7 +2,8 @@
 ghost use Rattle.std.specs.Prelude.{◌≡◌, ◌<◌, ◌≤◌, None, OnOk, length};
 ghost use Rattle.gate_io.specs.Fetching.{IsShort};
 
-use crate::{Fetched, Files, Got, Source, StdSource, Text};
+use crate::{Fetched, Files, Got, Source, StdSource};
+use gate_base::Text;
 use std::alloc::{AllocError, Global};
 use std::fs::{self, File, OpenFile};
 use std::io::{ErrorKind, Read};

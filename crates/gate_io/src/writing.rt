@@ -1,11 +1,11 @@
 //! Writing all of some bytes, and what was gathered.
 ghost use Rattle.std.specs.Prelude.{◌≡◌, ◌≤◌, []};
 ghost use Rattle.std.specs.Io.KnownBytes.{Appends};
-ghost use Rattle.gate_io.specs.Causes.{Rose};
+ghost use Rattle.gate_base.specs.Causes.{Rose};
 ghost use Rattle.gate_io.specs.Fronts.{AppendsFront};
 
 use crate::buffer::Out;
-use crate::outside::{Put, Sink};
+use crate::byte_streams::{Put, Sink};
 
 /// What came of writing.
 #[derive(Clone, Copy)]

@@ -3,7 +3,7 @@ use Rattle.std.proofs.Common.{◌≡◌, ℕ, ◌^◌, ◌<◌, ◌⊎◌, inl, 
 use Rattle.std.specs.List.{flat_map}
 use Rattle.std.specs.Io.KnownBytes.{Consumes, IsAtEnd}
 use Rattle.std.proofs.lemmas.List.{append-nil}
-use Rattle.gate_io.specs.Causes.{Rose}
+use Rattle.gate_base.specs.Causes.{Rose}
 use Rattle.framed_transport.specs.Frames.{framed, Splits}
 use Rattle.framed_transport.specs.Front.{front, is_whole, Part, Large}
 use Rattle.framed_transport.proofs.Cutting.{large_stays}

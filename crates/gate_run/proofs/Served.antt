@@ -1,12 +1,12 @@
 -- A server whose hub has stopped.
 use Rattle.std.proofs.Common.{◌≡◌, ℕ, ◌≤◌, ◌⊎◌, inl, inr, List, length, true, Some, Option, refl, sym, subst}
 use Rattle.std.specs.Prelude.{slice_get}
-use Rattle.gate_io.specs.Causes.{Rose}
-use Rattle.gate_io.specs.Meaning.{Meaning}
-use Rattle.gate_io.specs.Hubs.{Counts, NotStarted, StartLeads}
-use Rattle.gate_io.specs.declared.hub.Began.TheVariants as began
-use Rattle.gate_io.specs.declared.hub.Served.{Served}
-use Rattle.gate_io.specs.declared.hub.Served.TheVariants as served
+use Rattle.gate_base.specs.Causes.{Rose}
+use Rattle.gate_hub.specs.Meaning.{Meaning}
+use Rattle.gate_hub.specs.Hubs.{Counts, NotStarted, StartLeads}
+use Rattle.gate_hub.specs.declared.hub.Began.TheVariants as began
+use Rattle.gate_hub.specs.declared.hub.Served.{Served}
+use Rattle.gate_hub.specs.declared.hub.Served.TheVariants as served
 use Rattle.type_tables.specs.declared.declared.ServiceId.{ServiceId}
 use Rattle.type_tables.specs.Declarations.{Declarations}
 use Rattle.session_core.specs.Session.{Seen}

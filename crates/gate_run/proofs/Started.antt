@@ -1,6 +1,6 @@
 -- A command starts where its IDL is good and knows its service.
 use Rattle.std.proofs.Common.{◌≡◌, ℕ, ◌⊎◌, inl, inr, List, Option, None, Some, Ok, Err, refl, sym, ◌∙◌, ap, subst}
-use Rattle.gate_io.specs.Causes.{Rose}
+use Rattle.gate_base.specs.Causes.{Rose}
 use Rattle.type_tables.specs.declared.declared.ServiceId.{ServiceId}
 use Rattle.type_tables.specs.Declarations.{Declarations}
 use Rattle.gate_words.specs.declared.options.Declared.{Declared}

@@ -1,7 +1,7 @@
 -- Why a command doesn't start.
 use Rattle.std.proofs.Common.{◌≡◌, ℕ, List, Option, None, Some, Err, inr, refl}
-use Rattle.gate_io.specs.Hubs.{Counts}
-use Rattle.gate_io.specs.Meaning.{Meaning}
+use Rattle.gate_hub.specs.Hubs.{Counts}
+use Rattle.gate_hub.specs.Meaning.{Meaning}
 use Rattle.gate_words.specs.declared.command.Command.{Command}
 use Rattle.gate_words.specs.declared.command.Command.TheVariants as commands
 use Rattle.gate_words.specs.declared.options.Declared.{Declared}

@@ -1,7 +1,7 @@
 -- What the making of messages writes and reports.
 use Rattle.std.specs.Prelude.{◌≡◌, ℕ, List, ◌++◌, codes, decimal}
 use Rattle.std.specs.Io.KnownBytes.{Appends}
-use Rattle.gate_io.specs.Causes.{Rose}
+use Rattle.gate_base.specs.Causes.{Rose}
 use Rattle.drill_messages.specs.Messages.{messages}
 use Rattle.drill_messages.specs.Outcome.{stream_of, totals_of}
 use Rattle.drill_messages.specs.declared.totals.Totals.{Totals}

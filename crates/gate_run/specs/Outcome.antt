@@ -2,7 +2,7 @@
 use Rattle.std.specs.Prelude.{◌≡◌, ℕ, ◌≤◌, ◌⊎◌, ℤ, List, [], ◌++◌, length, take, Bool, true, false, Option, ⊤}
 use Rattle.std.specs.List.{flat_map}
 use Rattle.std.specs.Io.KnownBytes.{Appends, Consumes, IsAtEnd}
-use Rattle.gate_io.specs.Causes.{Rose}
+use Rattle.gate_base.specs.Causes.{Rose}
 use Rattle.framed_transport.specs.Frames.{Splits}
 use Rattle.framed_transport.specs.Front.{front, Large}
 use Rattle.gate_run.specs.Handling.{output_of, lines, any_refused}

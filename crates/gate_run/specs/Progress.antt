@@ -2,7 +2,7 @@
 use Rattle.std.specs.Prelude.{◌≡◌, ℕ, ◌+◌, ◌≤◌, ◌⊎◌, ℤ, List, [], ◌++◌, length, take, Bool, ◌||◌, Option}
 use Rattle.std.specs.List.{flat_map, All}
 use Rattle.std.specs.Io.KnownBytes.{Appends, Consumes}
-use Rattle.gate_io.specs.Causes.{Rose}
+use Rattle.gate_base.specs.Causes.{Rose}
 use Rattle.framed_transport.specs.Frames.{framed}
 use Rattle.framed_transport.specs.Front.{front, Part, Large}
 use Rattle.gate_io.specs.Fronts.{AppendsFront}

@@ -1,7 +1,7 @@
 -- What the one call does, by the words of its command.
 use Rattle.std.specs.Prelude.{◌≡◌, ◌⊎◌, ℕ, List, Option, Some, None}
-use Rattle.gate_io.specs.Hubs.{Counts}
-use Rattle.gate_io.specs.Meaning.{Meaning}
+use Rattle.gate_hub.specs.Hubs.{Counts}
+use Rattle.gate_hub.specs.Meaning.{Meaning}
 use Rattle.gate_words.specs.declared.command.Command.{Command}
 use Rattle.gate_words.specs.declared.command.Command.TheVariants as commands
 use Rattle.gate_words.specs.declared.options.Declared.{Declared}

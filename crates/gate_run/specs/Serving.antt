@@ -1,13 +1,13 @@
 -- What a server does, from its start to its last line.
 use Rattle.std.specs.Prelude.{◌≡◌, ◌⊎◌, ℕ, List, true, false, Option, Some}
 use Rattle.std.specs.Io.KnownBytes.{Appends}
-use Rattle.gate_io.specs.Causes.{Rose}
-use Rattle.gate_io.specs.Meaning.{Meaning, Started}
-use Rattle.gate_io.specs.Hubs.{Counts, Later, Leads, NotStarted, StartLeads}
-use Rattle.gate_io.specs.declared.hub.Began.TheVariants as began
-use Rattle.gate_io.specs.declared.hub.HubNext.TheVariants as event
-use Rattle.gate_io.specs.declared.hub.Served.{Served}
-use Rattle.gate_io.specs.declared.hub.Served.TheVariants as served
+use Rattle.gate_base.specs.Causes.{Rose}
+use Rattle.gate_hub.specs.Meaning.{Meaning, Started}
+use Rattle.gate_hub.specs.Hubs.{Counts, Later, Leads, NotStarted, StartLeads}
+use Rattle.gate_hub.specs.declared.hub.Began.TheVariants as began
+use Rattle.gate_hub.specs.declared.hub.HubNext.TheVariants as event
+use Rattle.gate_hub.specs.declared.hub.Served.{Served}
+use Rattle.gate_hub.specs.declared.hub.Served.TheVariants as served
 use Rattle.type_tables.specs.declared.declared.ServiceId.{ServiceId}
 use Rattle.type_tables.specs.Declarations.{Declarations}
 use Rattle.session_judge.specs.Setting.{Setting}

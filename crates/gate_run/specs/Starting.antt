@@ -1,7 +1,7 @@
 -- What a command starts from, and how it ends where it doesn't start.
 use Rattle.std.specs.Prelude.{◌≡◌, ◌⊎◌, ℕ, List, Option, Some, None, Result, Ok, Err, ⊤}
 use Rattle.std.specs.Io.KnownBytes.{Appends}
-use Rattle.gate_io.specs.Causes.{Rose}
+use Rattle.gate_base.specs.Causes.{Rose}
 use Rattle.type_tables.specs.declared.declared.ServiceId.{ServiceId}
 use Rattle.type_tables.specs.Declarations.{Declarations}
 use Rattle.type_tables.specs.Known.{built_in}

@@ -2,7 +2,7 @@
 use Rattle.std.specs.Prelude.{◌≡◌, ℕ, ◌+◌, ◌^◌, ◌<◌, ◌≤◌, ◌⊎◌, ℤ, List, [], ◌++◌, length, true, false, Option, Some, None, Result, Ok, Err, ⊤}
 use Rattle.std.specs.List.{flat_map}
 use Rattle.std.specs.Io.KnownBytes.{Appends, IsAtEnd, append_known}
-use Rattle.gate_io.specs.Causes.{Rose}
+use Rattle.gate_base.specs.Causes.{Rose}
 use Rattle.framed_transport.specs.Front.{front, Part, Large}
 use Rattle.gate_run.specs.Progress.{Moment, Goes, Breaks, IsStreamLine}
 use Rattle.gate_io.specs.Buffer.{Buffer}
@@ -15,8 +15,8 @@ use Rattle.gate_run.specs.declared.task.Doing.{Doing}
 use Rattle.gate_run.specs.declared.task.Doing.TheVariants.{Convert, Show}
 use Rattle.gate_run.specs.declared.frame.Treatment.{Treatment}
 use Rattle.gate_run.specs.declared.frame.Treatment.TheVariants as treatment
-use Rattle.gate_io.specs.declared.outside.Got.{Got}
-use Rattle.gate_io.specs.declared.outside.Got.TheVariants as got
+use Rattle.gate_io.specs.declared.byte_streams.Got.{Got}
+use Rattle.gate_io.specs.declared.byte_streams.Got.TheVariants as got
 use Rattle.gate_run.specs.declared.status.Ending.{Ending}
 use Rattle.gate_run.specs.declared.status.Ending.TheVariants as endings
 use Rattle.gate_run.specs.declared.stream.Broken.{Broken}

@@ -6,7 +6,8 @@ ghost use Rattle.gate_run.specs.Checking.{Checks, ok_text};
 use crate::lines::push_number;
 use crate::start::{NoStart, halt, read};
 use crate::status::{Ending, say};
-use gate_io::{Files, Out, OutOfMemory, Sink};
+use gate_base::OutOfMemory;
+use gate_io::{Files, Out, Sink};
 use std::alloc::Global;
 use type_tables::Counts;
 

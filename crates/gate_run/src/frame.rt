@@ -1,6 +1,6 @@
 //! One frame of a stream: what is written or reported of it.
 ghost use Rattle.std.specs.Prelude.{◌≡◌, ◌+◌, ◌^◌, ◌<◌, ◌≤◌, ◌++◌, ℕ, IfOk, IfErr, length};
-ghost use Rattle.gate_io.specs.Causes.{Rose};
+ghost use Rattle.gate_base.specs.Causes.{Rose};
 ghost use Rattle.gate_io.specs.Fronts.{AppendsFront, Flushed};
 ghost use Rattle.gate_run.specs.Handling.{treated, passes, output_of, line_of};
 ghost use Rattle.gate_run.specs.Working.{Treats, IsRoomy, HasRoom};

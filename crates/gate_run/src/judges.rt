@@ -2,7 +2,7 @@
 ghost use Rattle.std.specs.Prelude.{◌≡◌, ◌<◌, ◌^◌, IfSome, length};
 ghost use Rattle.session_judge.specs.Setups.{setting_of};
 
-use gate_io::OutOfMemory;
+use gate_base::OutOfMemory;
 use proxy_server::Judges;
 use session_judge::{PairJudge, Setup};
 use std::alloc::Global;

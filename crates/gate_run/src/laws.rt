@@ -1,8 +1,8 @@
 //! Laws of what a command does. Each is the contract of a function that does nothing.
 ghost use Rattle.std.specs.Prelude.{◌≡◌, ◌<◌, ◌^◌, ◌⊎◌, ℕ, List, [], true, false, Option, Some, Ok, length};
-ghost use Rattle.gate_io.specs.Causes.{Rose};
-ghost use Rattle.gate_io.specs.Hubs.{NotStarted};
-ghost use Rattle.gate_io.specs.Meaning.{Meaning};
+ghost use Rattle.gate_base.specs.Causes.{Rose};
+ghost use Rattle.gate_hub.specs.Hubs.{NotStarted};
+ghost use Rattle.gate_hub.specs.Meaning.{Meaning};
 ghost use Rattle.gate_words.specs.declared.command.Drilling.{Drilling};
 ghost use Rattle.gate_words.specs.declared.options.Declared.{Declared};
 ghost use Rattle.gate_words.specs.declared.serving.Serving.{Serving};
@@ -28,7 +28,7 @@ ghost use Rattle.gate_run.specs.Terms.{Terms, terms};
 ghost use Rattle.gate_run.specs.Writing.{Tells};
 
 use gate_idl::files_give_one_answer;
-use gate_io::Hub;
+use gate_hub::Hub;
 
 /// A stream is converted or shown to its end where it is fewer than 2^63 - 1 bytes of whole frames that all pass, no
 /// stream failed and there was memory.

@@ -1,10 +1,11 @@
 //! Bytes that wait for the output.
 ghost use Rattle.std.specs.Prelude.{◌≡◌, ◌+◌, ◌≤◌, [], IfOk, length, take};
 ghost use Rattle.std.specs.Io.KnownBytes.{Appends};
-ghost use Rattle.gate_io.specs.Causes.{Rose};
+ghost use Rattle.gate_base.specs.Causes.{Rose};
 ghost use Rattle.gate_io.specs.Fronts.{AppendsFront};
 
-use gate_io::{Out, OutOfMemory, Put, Sink, Wrote, flush};
+use gate_base::OutOfMemory;
+use gate_io::{Out, Put, Sink, Wrote, flush};
 use std::alloc::Global;
 
 /// Bytes that are gathered for the output. As a sink it fails where they don't fit.

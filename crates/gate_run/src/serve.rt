@@ -1,7 +1,7 @@
 //! The server, from its start to its status.
 ghost use Rattle.std.specs.Prelude.{◌≡◌, ◌≤◌, ◌<◌, ℕ, List, Option, IfSome, length};
-ghost use Rattle.gate_io.specs.Causes.{Rose};
-ghost use Rattle.gate_io.specs.Hubs.{Later};
+ghost use Rattle.gate_base.specs.Causes.{Rose};
+ghost use Rattle.gate_hub.specs.Hubs.{Later};
 ghost use Rattle.gate_run.specs.Outcome.{streams};
 ghost use Rattle.session_judge.specs.Setting.{Setting};
 ghost use Rattle.session_judge.specs.Rules.{rules_of};
@@ -11,7 +11,8 @@ ghost use Rattle.gate_run.specs.Serving.{ServesAll, EndsBy, settings};
 use crate::judges::PairJudges;
 use crate::start::Start;
 use crate::status::{Ending, end_with};
-use gate_io::{Began, Hub, Served, Sink};
+use gate_hub::{Began, Hub, Served};
+use gate_io::Sink;
 use gate_words::{GREATEST_LIMIT, MOST_CALLS, Serving};
 use proxy_server::{Limits, serve};
 use session_judge::Setup;

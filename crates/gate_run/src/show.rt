@@ -1,6 +1,6 @@
 //! A frame that is shown: the line of its message.
 ghost use Rattle.std.specs.Prelude.{◌≡◌, ◌^◌, ◌<◌, ◌≤◌, length};
-ghost use Rattle.gate_io.specs.Causes.{Rose};
+ghost use Rattle.gate_base.specs.Causes.{Rose};
 ghost use Rattle.message_show.specs.Shown.{HasLine};
 ghost use Rattle.gate_run.specs.Handling.{as_line};
 ghost use Rattle.gate_run.specs.Terms.{shown_by};

@@ -6,7 +6,8 @@ ghost use Rattle.gate_run.specs.Starting.{HasCause, Halts, IsRead, IsBuiltIn, Is
 
 use crate::status::{Ending, end_with, say, usage};
 use gate_idl::{Refusal, Stop, open};
-use gate_io::{Files, OutOfMemory, Sink, Text};
+use gate_base::{OutOfMemory, Text};
+use gate_io::{Files, Sink};
 use gate_words::Declared;
 use std::alloc::Global;
 use type_tables::{Schema, SchemaBuilder, ServiceId};

@@ -1,7 +1,7 @@
 //! How a command ends: its exit code, and the last line of its report.
 ghost use Rattle.std.specs.Prelude.{◌≡◌, ◌⊎◌, ◌≤◌};
 ghost use Rattle.std.specs.Io.KnownBytes.{Appends};
-ghost use Rattle.gate_io.specs.Causes.{Rose};
+ghost use Rattle.gate_base.specs.Causes.{Rose};
 ghost use Rattle.gate_io.specs.Fronts.{AppendsFront};
 ghost use Rattle.gate_run.specs.Endings.{code_of, last_line};
 ghost use Rattle.gate_run.specs.Lines.{usage_text};

@@ -5,7 +5,7 @@
 //! do: the output first, and then the lines of the report.
 ghost use Rattle.std.specs.Prelude.{◌≡◌, ◌+◌, ◌^◌, ◌<◌, ◌≤◌, [], ℕ, List, Option, None, Some, length, IfOk, IfErr, OnOk};
 ghost use Rattle.std.specs.Io.KnownBytes.{IsAtEnd};
-ghost use Rattle.gate_io.specs.Causes.{Rose};
+ghost use Rattle.gate_base.specs.Causes.{Rose};
 ghost use Rattle.framed_transport.specs.Front.{front, Large};
 ghost use Rattle.gate_run.specs.Outcome.{Streamed, streams};
 ghost use Rattle.gate_run.specs.Progress.{HasRisen};
@@ -18,7 +18,8 @@ use crate::page::Page;
 use crate::status::{Ending, end_with};
 use crate::task::Task;
 use framed_transport::{FrameBuf, Next};
-use gate_io::{Got, Out, OutOfMemory, Sink, Source, Wrote, flush, write_all};
+use gate_base::OutOfMemory;
+use gate_io::{Got, Out, Sink, Source, Wrote, flush, write_all};
 use gate_words::GREATEST_LIMIT;
 use std::alloc::Global;
 

@@ -1,6 +1,6 @@
 //! What is done with the frames of a stream, and by which declarations.
 ghost use Rattle.std.specs.Prelude.{◌≡◌, ◌+◌, ◌*◌, ◌^◌, ◌<◌, ◌≤◌, IfSome, length};
-ghost use Rattle.gate_io.specs.Causes.{Rose};
+ghost use Rattle.gate_base.specs.Causes.{Rose};
 ghost use Rattle.translate_core.specs.Judged.{IsJudged};
 ghost use Rattle.message_show.specs.Shown.{IsShown};
 ghost use Rattle.gate_run.specs.Rooms.{translated_room};

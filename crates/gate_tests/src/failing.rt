@@ -1,6 +1,7 @@
 //! Commands over an outside one of whose calls fails: each call in turn, up to the last that the command makes.
 use crate::outside::{Outside, READ, Ran, WRITTEN, only, run_line, with_input};
-use gate_io::{MemFiles, OutOfMemory};
+use gate_base::OutOfMemory;
+use gate_memory::MemFiles;
 use std::alloc::Global;
 use std::test::*;
 

@@ -2,7 +2,8 @@
 use crate::outside::Ran;
 use crate::script::{Act, play};
 use crate::serving::{ANSWERS, CALLS, COMPACT_TO_JSON, PASSED, REPLIES};
-use gate_io::{OutOfMemory, Side};
+use gate_base::OutOfMemory;
+use gate_hub::Side;
 use std::alloc::Global;
 use std::test::*;
 

@@ -1,7 +1,8 @@
 //! The command `serve` over real sockets, in one process with its client and its upstream.
 use crate::outside::words_of;
 use crate::serving::{ANSWERS, CALLS, REPLIES};
-use gate_io::{Fails, MemFiles, MemSink, MemSource, OutOfMemory};
+use gate_base::OutOfMemory;
+use gate_memory::{Fails, MemFiles, MemSink, MemSource};
 use gate_run::run;
 use mio_edge::MioHub;
 use std::alloc::Global;

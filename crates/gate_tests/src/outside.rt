@@ -1,5 +1,6 @@
 //! A command over an outside in memory, and what it left behind.
-use gate_io::{Fails, HubSteps, MemFiles, MemHub, MemSink, MemSource, OutOfMemory, Word};
+use gate_base::{OutOfMemory, Word};
+use gate_memory::{Fails, HubSteps, MemFiles, MemHub, MemSink, MemSource};
 use gate_run::run;
 use std::alloc::Global;
 

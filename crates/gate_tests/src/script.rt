@@ -2,7 +2,9 @@
 ghost use Rattle.std.specs.Prelude.{◌<◌};
 
 use crate::outside::{Ran, run_line, with_input};
-use gate_io::{HubStep, HubSteps, MemHub, OutOfMemory, Side, Text};
+use gate_base::{OutOfMemory, Text};
+use gate_hub::Side;
+use gate_memory::{HubStep, HubSteps, MemHub};
 use std::alloc::Global;
 
 /// Something that happens at the session.

@@ -3,7 +3,9 @@ ghost use Rattle.std.specs.Prelude.{◌<◌};
 
 use crate::outside::{Ran, run_line, with_input};
 use crate::script::{Act, play};
-use gate_io::{HubStep, HubSteps, MemHub, OutOfMemory, Side};
+use gate_base::OutOfMemory;
+use gate_hub::Side;
+use gate_memory::{HubStep, HubSteps, MemHub};
 use std::alloc::Global;
 use std::test::*;
 

@@ -2,7 +2,7 @@
 ghost use Rattle.std.specs.Prelude.{◌≤◌, length};
 
 use crate::outside::{Outside, Ran, run_line, with_input};
-use gate_io::OutOfMemory;
+use gate_base::OutOfMemory;
 use std::alloc::Global;
 use std::test::*;
 use thrift_value::{Event, GatherFault, Kind, events_of, gather};

@@ -8,7 +8,7 @@ use crate::limits::{DEFAULT_LIMIT, MOST_MESSAGES};
 use crate::numeral::{number, number_within};
 use crate::options::{Declared, Options, read_options};
 use crate::serving::{Serving, serve};
-use gate_io::{OutOfMemory, Text, Word};
+use gate_base::{OutOfMemory, Text, Word};
 use protocol_traits::Proto;
 use std::alloc::Global;
 

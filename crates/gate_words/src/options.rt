@@ -6,7 +6,7 @@ use crate::limits::{
     GREATEST_LIMIT, LEAST_LIMIT, MOST_ACCEPTED, MOST_CALLS, MOST_EVENTS, MOST_SESSIONS,
 };
 use crate::numeral::number_within;
-use gate_io::{OutOfMemory, Text, Word};
+use gate_base::{OutOfMemory, Text, Word};
 use std::alloc::Global;
 
 /// What a command says of declarations: the file of an IDL, and the service whose methods are meant where a name has no prefix.

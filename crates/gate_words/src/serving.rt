@@ -8,7 +8,7 @@ use crate::address::is_address;
 use crate::command::{Command, proto};
 use crate::limits::{DEFAULT_CALLS, DEFAULT_LIMIT, DEFAULT_SESSIONS, MOST_EVENTS, MOST_HELD};
 use crate::options::{Declared, Options, read_options};
-use gate_io::{OutOfMemory, Text, Word};
+use gate_base::{OutOfMemory, Text, Word};
 use protocol_traits::Proto;
 use std::alloc::Global;
 

@@ -6,7 +6,7 @@ use Rattle.std.proofs.lemmas.Option.{slice_get_within, get_or_from_slice_get, sl
 use Rattle.idl_names.specs.declared.documents.Spot.{Spot}
 use Rattle.idl_names.specs.Files.{FileTree}
 use Rattle.idl_consts.specs.declared.row.ConstRow.{ConstRow}
-use Rattle.gate_io.specs.declared.outside.OutOfMemory.{OutOfMemory}
+use Rattle.gate_base.specs.declared.memory.OutOfMemory.{OutOfMemory}
 use Rattle.idl_consts.specs.declared.follow.Frame.{Frame}
 use Rattle.idl_consts.specs.declared.follow.Trail.{Trail}
 use Rattle.idl_consts.specs.declared.follow.Upcoming.TheVariants as upcoming

@@ -19,7 +19,7 @@ use crate::row::{ConstError, ConstFault, ConstRow};
 use crate::survey::{Stand, survey_value};
 use crate::types::TypeRef;
 use crate::view::View;
-use gate_io::{OutOfMemory, Text};
+use gate_base::{OutOfMemory, Text};
 use idl_names::{Documents, FileDoc, Names};
 use idl_parser::{Definition, FieldDecl, Function, TypeExpr, ValueExpr};
 use std::alloc::Global;

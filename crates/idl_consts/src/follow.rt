@@ -17,7 +17,7 @@ use crate::same::same_ref;
 use crate::survey::{Stand, Survey, survey_value};
 use crate::types::{TypeRef, definition};
 use crate::view::View;
-use gate_io::OutOfMemory;
+use gate_base::OutOfMemory;
 use idl_names::Spot;
 use idl_parser::Definition;
 use std::alloc::Global;

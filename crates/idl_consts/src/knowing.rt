@@ -11,7 +11,7 @@ use crate::row::ConstRow;
 use crate::same::{is_spot, same_meaning};
 use crate::types::{TypeRef, definition};
 use crate::view::View;
-use gate_io::OutOfMemory;
+use gate_base::OutOfMemory;
 use idl_names::{FileDoc, Spot};
 use idl_parser::Definition;
 use std::alloc::Global;

@@ -4,7 +4,7 @@ ghost use Rattle.idl_parser.specs.Items.{items_of_value, items_of_values, items_
 ghost use Rattle.idl_consts.specs.declared.pieces.Piece.{Piece};
 ghost use Rattle.idl_consts.specs.Pieces.{item_of};
 
-use gate_io::OutOfMemory;
+use gate_base::OutOfMemory;
 use idl_parser::{Pair, ValueExpr, ValueForm};
 
 /// One piece of a value with the offset of its first byte. The pieces of a list are those of its values, the pieces of a

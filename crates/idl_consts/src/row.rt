@@ -2,7 +2,7 @@
 ghost use Rattle.std.specs.Prelude.{◌≡◌};
 ghost use Rattle.idl_consts.specs.Rows.{rank_of, row_text};
 
-use gate_io::{OutOfMemory, Text};
+use gate_base::{OutOfMemory, Text};
 use std::fmt;
 use std::fmt::{Debug, Formatter, Write};
 use thiserror::Error;

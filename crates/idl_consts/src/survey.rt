@@ -13,7 +13,7 @@ use crate::pieces::{Piece, append_pieces};
 use crate::row::ConstRow;
 use crate::types::{Shape, TypeRef, resolve};
 use crate::view::View;
-use gate_io::OutOfMemory;
+use gate_base::OutOfMemory;
 use idl_names::Spot;
 use idl_parser::ValueExpr;
 use std::alloc::Global;

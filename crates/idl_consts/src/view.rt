@@ -3,7 +3,7 @@ ghost use Rattle.std.specs.Prelude.{◌≡◌, IfOk};
 ghost use Rattle.idl_names.specs.Files.{file_trees};
 ghost use Rattle.idl_typedefs.specs.Hops.{Follows, Follows-prop};
 
-use gate_io::OutOfMemory;
+use gate_base::OutOfMemory;
 use idl_names::Names;
 use idl_typedefs::Typedefs;
 use std::alloc::Global;

@@ -12,7 +12,7 @@ use Rattle.idl_rules.specs.declared.row.IdlRow.TheVariants as rows
 use Rattle.idl_files.specs.declared.fault.LoadError.{LoadError}
 use Rattle.idl_files.specs.declared.fault.LoadError.TheVariants as errors
 use Rattle.idl_files.specs.declared.mentions.Mention.{Mention}
-use Rattle.gate_io.specs.Causes.{Rose}
+use Rattle.gate_base.specs.Causes.{Rose}
 use Rattle.idl_files.specs.Answers.{Gives, Refuses, HasCause, IsNoFileFault, AllBelow, AllWhole, Extends}
 use Rattle.idl_files.specs.Listing.{fresh, with_includes}
 use Rattle.idl_files.specs.Walk.{Load, Included, Walked, included, mentioned, mention_of, go_on, refusal, is_full, loaded, load_by, open_by, document_of}

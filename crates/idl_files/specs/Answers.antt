@@ -1,6 +1,6 @@
 -- What a call answers, and what is true of the files that it read.
 use Rattle.std.specs.Prelude.{◌≡◌, ◌<◌, ℕ, List, [], ◌∷◌, ◌++◌, ◌^◌, length, Result, Ok, Err, ⊤}
-use Rattle.gate_io.specs.Causes.{Rose}
+use Rattle.gate_base.specs.Causes.{Rose}
 use Rattle.idl_names.specs.Files.{FileTree}
 use Rattle.idl_rules.specs.declared.row.IdlFault.{IdlFault}
 use Rattle.idl_files.specs.declared.fault.LoadError.{LoadError}

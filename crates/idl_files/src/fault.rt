@@ -2,7 +2,7 @@
 ghost use Rattle.idl_files.specs.Answers.{Refuses};
 ghost use Rattle.idl_files.specs.Walk.{refusal};
 
-use gate_io::{OutOfMemory, Text};
+use gate_base::{OutOfMemory, Text};
 use idl_rules::{IdlFault, IdlRow};
 use std::alloc::{AllocError, AllocFailed, Global};
 use std::fmt;

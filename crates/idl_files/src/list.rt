@@ -4,7 +4,7 @@ ghost use Rattle.idl_parser.specs.Documents.{document_tree};
 ghost use Rattle.idl_names.specs.Files.{file_trees};
 ghost use Rattle.idl_files.specs.Listing.{place_of, is_open_at, fresh, with_includes};
 
-use gate_io::{OutOfMemory, Text};
+use gate_base::{OutOfMemory, Text};
 use idl_names::{Documents, FileDoc};
 use idl_parser::{Document, Seq};
 use indexmap::IndexSet;

@@ -3,7 +3,7 @@ ghost use Rattle.std.specs.Prelude.{◌≡◌, map, IfOk};
 ghost use Rattle.idl_files.specs.Walk.{mention_of};
 
 use crate::names::included_name;
-use gate_io::{OutOfMemory, Text};
+use gate_base::{OutOfMemory, Text};
 use idl_parser::Name;
 use std::alloc::Global;
 

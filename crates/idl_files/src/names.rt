@@ -3,7 +3,7 @@ ghost use Rattle.std.specs.Prelude.{◌≡◌, IfOk};
 ghost use Rattle.idl_files.specs.Names.{base, included_name, is_absolute, settled};
 
 use crate::segments::Segments;
-use gate_io::{OutOfMemory, Text};
+use gate_base::{OutOfMemory, Text};
 use std::alloc::Global;
 
 /// The name of the file that this path means in an include of this file.

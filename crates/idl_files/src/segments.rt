@@ -3,7 +3,7 @@ ghost use Rattle.std.specs.Prelude.{◌≡◌, ◌≤◌, ◌&&◌, ◌==◌, []
 ghost use Rattle.std.specs.List.{fold};
 ghost use Rattle.idl_files.specs.Names.{ended_from, last_from, is_here, is_up, is_plain, ends_plain, kept_with, spelled};
 
-use gate_io::{OutOfMemory, Text};
+use gate_base::{OutOfMemory, Text};
 use std::alloc::Global;
 use std::marker::Model;
 

@@ -10,7 +10,8 @@ ghost use Rattle.idl_files.specs.Walk.{document_by, document_of, included, is_fu
 use crate::fault::{LoadError, refused};
 use crate::list::{FileList, MOST_FILES};
 use crate::mentions::{Mention, mentions};
-use gate_io::{Fetched, Files, Text};
+use gate_base::Text;
+use gate_io::{Fetched, Files};
 use idl_names::Documents;
 use idl_parser::{Document, ParseError, Seq, parse};
 use idl_rules::IdlRow;

@@ -10,7 +10,7 @@ use crate::marking::marked;
 use crate::marks::Marks;
 use crate::names::Names;
 use crate::spot_set::SpotSet;
-use gate_io::OutOfMemory;
+use gate_base::OutOfMemory;
 use std::alloc::Global;
 use std::marker::Model;
 

@@ -1,5 +1,5 @@
 //! The files of an IDL, and what is looked up in them.
-use gate_io::Text;
+use gate_base::Text;
 use idl_parser::{Document, Seq};
 
 /// One file: its name, what its text declares, and for each of its includes the place of that file among all files.

@@ -12,7 +12,7 @@ use crate::marks::Marks;
 use crate::names::Names;
 use crate::spot_set::SpotSet;
 use crate::targets::definition_at;
-use gate_io::OutOfMemory;
+use gate_base::OutOfMemory;
 use idl_parser::{Definition, Name, TypeExpr, TypeForm};
 use idl_rules::Scope;
 use std::alloc::Global;

@@ -15,7 +15,7 @@ use crate::marks::Marks;
 use crate::names::Names;
 use crate::sources::{Sources, order};
 use crate::spot_set::SpotSet;
-use gate_io::OutOfMemory;
+use gate_base::OutOfMemory;
 use std::alloc::Global;
 
 /// Marks the definitions of all files.

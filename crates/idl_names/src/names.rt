@@ -12,7 +12,7 @@ use crate::documents::{Documents, FileDoc, Spot};
 use crate::meaning::{file_at, name_in};
 use crate::paths::{base_name, last_place};
 use crate::places::Places;
-use gate_io::OutOfMemory;
+use gate_base::OutOfMemory;
 use idl_parser::{Definition, Name};
 use idl_rules::Scope;
 use std::alloc::Global;

@@ -2,7 +2,7 @@
 ghost use Rattle.std.specs.Prelude.{◌≡◌, ◌++◌, ◌∷◌, [], Some, None, OnOk, option_copied};
 ghost use Rattle.idl_names.specs.Places.{noted, place_of};
 
-use gate_io::OutOfMemory;
+use gate_base::OutOfMemory;
 use indexmap::IndexMap;
 use std::alloc::Global;
 use std::marker::Model;

@@ -4,7 +4,7 @@ use crate::documents::Spot;
 use crate::leading::add_next;
 use crate::names::Names;
 use crate::spot_set::SpotSet;
-use gate_io::OutOfMemory;
+use gate_base::OutOfMemory;
 use std::alloc::Global;
 
 /// For each definition those that lead to it at once.

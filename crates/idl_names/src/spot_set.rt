@@ -3,7 +3,7 @@ ghost use Rattle.std.specs.Prelude.{◌≡◌, ◌<◌, ◌^◌, [], OnOk, IfSom
 ghost use Rattle.idl_names.specs.Sets.{is_among, with_all, with_spot};
 
 use crate::documents::Spot;
-use gate_io::OutOfMemory;
+use gate_base::OutOfMemory;
 use indexmap::IndexSet;
 use std::alloc::Global;
 use std::marker::Model;

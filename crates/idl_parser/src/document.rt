@@ -1,7 +1,7 @@
 //! The document of an IDL text: its declarations in order, with the offset of each name, type, id and value.
 use crate::seq::Seq;
 use crate::value::ValueExpr;
-use gate_io::Text;
+use gate_base::Text;
 
 /// A name, or the path of an include, at the offset of its first byte.
 #[derive(Drop)]

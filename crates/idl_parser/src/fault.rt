@@ -1,5 +1,5 @@
 //! Why a text is no document.
-use gate_io::OutOfMemory;
+use gate_base::OutOfMemory;
 use idl_lexer::{LexError, LexFault};
 use std::alloc::{AllocError, AllocFailed};
 

@@ -11,7 +11,7 @@ use crate::seq::Seq;
 use crate::skipped::{id_at, literal_at, notes_at};
 use crate::tokens::{Lexeme, Tokens};
 use crate::words::Keyword;
-use gate_io::Text;
+use gate_base::Text;
 use std::alloc::Global;
 
 /// The paths of the includes, as long as headers stand.

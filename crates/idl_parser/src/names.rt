@@ -8,7 +8,7 @@ use crate::fault::{Fault, Stop};
 use crate::marks::sep_len;
 use crate::skipped::notes_at;
 use crate::tokens::{Lexeme, Tokens};
-use gate_io::Text;
+use gate_base::Text;
 use std::alloc::Global;
 
 fn has_dot(word: &[u8]) -> bool

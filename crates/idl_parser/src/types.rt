@@ -10,7 +10,7 @@ use crate::marks::mark_at;
 use crate::skipped::{cpp_at, notes_at};
 use crate::tokens::{Lexeme, Tokens};
 use crate::words::Keyword;
-use gate_io::Text;
+use gate_base::Text;
 use std::alloc::Global;
 
 /// A type at the front of the tokens, with so many levels left below it.

@@ -2,7 +2,7 @@
 ghost use Rattle.std.specs.Prelude.{◌≡◌, ◌++◌, [], OnOk, OnErr};
 ghost use Rattle.idl_parser.specs.Items.{items_of_value, items_of_values, items_of_pair, items_of_pairs};
 
-use gate_io::{OutOfMemory, Text};
+use gate_base::{OutOfMemory, Text};
 use std::alloc::Global;
 use std::marker::Model;
 

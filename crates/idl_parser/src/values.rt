@@ -10,7 +10,7 @@ use crate::fault::{Fault, Stop};
 use crate::marks::{mark_at, sep_len};
 use crate::tokens::{Lexeme, Tokens};
 use crate::value::{Pair, PairList, ValueExpr, ValueForm, ValueList};
-use gate_io::Text;
+use gate_base::Text;
 use std::alloc::Global;
 
 /// A value at the front of the tokens, with so many levels left below it.

@@ -6,7 +6,7 @@ ghost use Rattle.idl_rules.specs.Order.{least_of};
 ghost use Rattle.idl_resolve.specs.Loads.{Resolves};
 ghost use Rattle.idl_resolve.specs.Refused.{file_refusals, first_refusal};
 
-use gate_io::{OutOfMemory, Text};
+use gate_base::{OutOfMemory, Text};
 use idl_files::LoadError;
 use idl_names::{Cycles, Documents, FileDoc, Names, check_names};
 use idl_rules::{IdlFault, IdlRow, Least, check_rules};

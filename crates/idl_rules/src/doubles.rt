@@ -6,7 +6,7 @@ ghost use Rattle.idl_rules.specs.Order.{lesser, least_of};
 use crate::least::Least;
 use crate::row::IdlRow;
 use crate::seen::NameSet;
-use gate_io::OutOfMemory;
+use gate_base::OutOfMemory;
 use idl_parser::{FieldDecl, Function, Member, Name};
 use std::alloc::Global;
 

@@ -2,7 +2,7 @@
 ghost use Rattle.std.specs.Prelude.{◌≡◌};
 ghost use Rattle.idl_rules.specs.Rows.{rank_of, row_text};
 
-use gate_io::Text;
+use gate_base::Text;
 
 /// Why an IDL file is refused. At one offset the row that stands first here is told.
 #[derive(Clone, Copy, Debug, PartialEq, Eq)]

@@ -12,7 +12,7 @@ use crate::least::Least;
 use crate::row::IdlRow;
 use crate::scopes::{Scope, check_scope};
 use crate::values::check_values;
-use gate_io::OutOfMemory;
+use gate_base::OutOfMemory;
 use idl_parser::{Definition, Document, FieldDecl, Function};
 use std::alloc::Global;
 

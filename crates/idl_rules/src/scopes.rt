@@ -7,7 +7,7 @@ ghost use Rattle.idl_rules.specs.Rules.{name_in, listed_name, scope_refusals};
 use crate::least::Least;
 use crate::row::IdlRow;
 use crate::seen::NameSet;
-use gate_io::OutOfMemory;
+use gate_base::OutOfMemory;
 use idl_parser::{Definition, Name};
 use std::alloc::Global;
 

@@ -3,7 +3,7 @@ ghost use Rattle.std.specs.Prelude.{◌≡◌, ◌∷◌, [], IfOk, OnOk};
 ghost use Rattle.idl_rules.specs.Doubles.{is_among, IsSame};
 ghost use Rattle.idl_rules.specs.Ids.{is_id_among, IsSameIds};
 
-use gate_io::OutOfMemory;
+use gate_base::OutOfMemory;
 use indexmap::IndexSet;
 use std::alloc::Global;
 use std::marker::Model;

@@ -11,7 +11,7 @@ ghost use Rattle.idl_schema.specs.Types.{ty_in};
 
 use crate::parts::{add_parts, next_part};
 use crate::sight::Sight;
-use gate_io::{OutOfMemory, Text};
+use gate_base::{OutOfMemory, Text};
 use idl_parser::{Asked, FieldDecl, TypeExpr};
 use idl_rules::{count_on, field_id};
 use std::alloc::Global;

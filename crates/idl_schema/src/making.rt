@@ -16,7 +16,7 @@ use crate::methods::{add_methods, add_struct, add_structs};
 use crate::numbers::small;
 use crate::parts::add_parts;
 use crate::sight::Sight;
-use gate_io::{OutOfMemory, Text};
+use gate_base::{OutOfMemory, Text};
 use idl_names::{Documents, FileDoc, Names};
 use idl_parser::{Definition, Function, Kin, Member, Name};
 use idl_rules::{member_value, number_after};

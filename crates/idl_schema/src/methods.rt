@@ -11,7 +11,7 @@ ghost use Rattle.idl_schema.specs.Types.{ty_in};
 use crate::fields::{add_fields, add_success};
 use crate::numbers::sum;
 use crate::sight::Sight;
-use gate_io::{OutOfMemory, Text};
+use gate_base::{OutOfMemory, Text};
 use idl_parser::Function;
 use std::alloc::Global;
 use type_tables::{FieldList, Form, MethodInfo, SchemaBuilder, ServiceId, StructId};

@@ -6,7 +6,7 @@ ghost use Rattle.idl_parser.specs.Trees.{type_tree};
 ghost use Rattle.idl_names.specs.Files.{file_trees};
 ghost use Rattle.idl_schema.specs.Numbers.{parts, fields_parts, returns_parts, method_parts, methods_parts, after, after_all, numbers_in, numbers_of, start, option_tree};
 
-use gate_io::OutOfMemory;
+use gate_base::OutOfMemory;
 use idl_names::FileDoc;
 use idl_parser::{Definition, FieldDecl, Function, Seq, TypeExpr, TypeForm};
 use std::alloc::Global;

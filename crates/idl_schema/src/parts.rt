@@ -8,7 +8,7 @@ ghost use Rattle.idl_schema.specs.Types.{part_types, pair_types, element_types, 
 
 use crate::numbers::{parts, small, sum};
 use crate::sight::Sight;
-use gate_io::OutOfMemory;
+use gate_base::OutOfMemory;
 use idl_parser::{TypeExpr, TypeForm};
 use type_tables::{SchemaBuilder, Ty};
 

@@ -10,7 +10,7 @@ ghost use Rattle.idl_schema.specs.Types.{base_ty, plain_ty, target_of, target, t
 
 use crate::numbers::{First, numbers_of, sum};
 use crate::types::{Ahead, Expression, Meant};
-use gate_io::{OutOfMemory, Text};
+use gate_base::{OutOfMemory, Text};
 use idl_names::{Names, Scope, Spot, base_name, definition_at};
 use idl_parser::{BaseWord, Definition, Name, Seq, TypeExpr, TypeForm};
 use idl_typedefs::{Landing, Typedefs};

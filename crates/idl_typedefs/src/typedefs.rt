@@ -4,7 +4,7 @@ ghost use Rattle.idl_names.specs.Files.{FileTree, file_trees};
 ghost use Rattle.idl_typedefs.specs.Hops.{AreHops, Follows, IsHop, LandsAt, reached};
 
 use crate::walk::{follow, next};
-use gate_io::OutOfMemory;
+use gate_base::OutOfMemory;
 use idl_names::{FileDoc, Names, Spot};
 use std::alloc::Global;
 

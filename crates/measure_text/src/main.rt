@@ -14,7 +14,8 @@ ghost use Rattle.json_text.specs.Scan.{Reads};
 ghost use Rattle.measure_text.specs.Words.{work_named};
 ghost use Rattle.measure_text.specs.Measured.{next_byte, letters, spelling, scan_of, is_read, is_blob, is_right};
 
-use gate_io::{Out, OutOfMemory};
+use gate_base::OutOfMemory;
+use gate_io::Out;
 use json_text::{Scan, read_blob, read_text, write_blob, write_text};
 use std::alloc::Global;
 use std::env;

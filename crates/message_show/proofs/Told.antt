@@ -2,7 +2,7 @@
 use Rattle.std.proofs.Common.{◌≡◌, ℕ, ◌≤◌, List, [], ◌++◌, take, drop, Bool, true, false, arith, refl, sym, ◌∙◌, ap, subst, append_assoc}
 use Rattle.std.proofs.lemmas.List.{append-nil, take-append-drop}
 use Rattle.std.specs.Io.KnownBytes.{Appends}
-use Rattle.gate_io.specs.Causes.{Rose}
+use Rattle.gate_base.specs.Causes.{Rose}
 use Rattle.gate_io.specs.Fronts.{AppendsFront}
 use Rattle.message_show.specs.Pieces.{Waiting, Output, Told, Tells}
 use Rattle.gate_io.proofs.Streams.{appends_on, appends_none}

@@ -1,7 +1,7 @@
 -- A text that is written in pieces, of which the last wait in a buffer.
 use Rattle.std.specs.Prelude.{◌≡◌, ℕ, ◌≤◌, List, ◌++◌, Bool, true, false, Option}
 use Rattle.std.specs.Io.KnownBytes.{Appends}
-use Rattle.gate_io.specs.Causes.{Rose}
+use Rattle.gate_base.specs.Causes.{Rose}
 
 -- the bytes that wait, and whether a write has failed
 pub record Waiting : Type 0 where

@@ -24,7 +24,7 @@ use Rattle.message_show.specs.declared.showing.Shown.TheVariants as shown_as
 use Rattle.message_show.specs.declared.checking.Checked.{Checked}
 use Rattle.message_show.specs.declared.checking.Checked.TheVariants as checked
 use Rattle.message_show.specs.Line.{Levels, begun, after, item_text, head_text, line_end}
-use Rattle.gate_io.specs.Causes.{Rose}
+use Rattle.gate_base.specs.Causes.{Rose}
 use Rattle.gate_io.specs.Fronts.{AppendsFront}
 use Rattle.message_show.specs.Pieces.{Output}
 

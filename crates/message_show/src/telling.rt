@@ -1,6 +1,6 @@
 //! A pass through a frame: its line, or the fault that stands in it.
 ghost use Rattle.std.specs.Prelude.{◌≡◌, ◌≤◌, ◌<◌, ◌^◌, ◌+◌, ◌++◌, ◌∷◌, [], ℕ, suc, pos, true, false, List, IfSome, Some, IfOk, Ok, length};
-ghost use Rattle.gate_io.specs.Causes.{Rose};
+ghost use Rattle.gate_base.specs.Causes.{Rose};
 ghost use Rattle.protocol_traits.specs.declared.nest.Slot.TheVariants.{Fields};
 ghost use Rattle.protocol_traits.specs.Heads.{header_of};
 ghost use Rattle.type_tables.specs.Declarations.{Declarations};

@@ -1,8 +1,8 @@
 -- The counts of the hub over sockets: those of a side are of all sessions together.
 use Rattle.std.specs.Prelude.{ℕ}
-use Rattle.gate_io.specs.Hubs.{Counts}
-use Rattle.gate_io.specs.declared.hub.Side.{Side}
-use Rattle.gate_io.specs.declared.hub.Side.TheVariants as side
+use Rattle.gate_hub.specs.Hubs.{Counts}
+use Rattle.gate_hub.specs.declared.hub.Side.{Side}
+use Rattle.gate_hub.specs.declared.hub.Side.TheVariants as side
 use Rattle.mio_edge.specs.declared.hub.SideCounts.{SideCounts}
 
 abbrev pub side_counts : SideCounts → SideCounts → Side → SideCounts

@@ -1,10 +1,10 @@
 -- What moves between a stream, the buffers of its port and a caller.
 use Rattle.std.specs.Prelude.{◌≡◌, ℕ, ◌<◌, ◌≤◌, List, ◌++◌, length, take, drop}
 use Rattle.gate_io.specs.Buffer.{Buffer}
-use Rattle.gate_io.specs.declared.hub.LinkGot.{LinkGot}
-use Rattle.gate_io.specs.declared.hub.LinkGot.TheVariants as got
-use Rattle.gate_io.specs.declared.hub.LinkPut.{LinkPut}
-use Rattle.gate_io.specs.declared.hub.LinkPut.TheVariants as put
+use Rattle.gate_hub.specs.declared.hub.LinkGot.{LinkGot}
+use Rattle.gate_hub.specs.declared.hub.LinkGot.TheVariants as got
+use Rattle.gate_hub.specs.declared.hub.LinkPut.{LinkPut}
+use Rattle.gate_hub.specs.declared.hub.LinkPut.TheVariants as put
 use Rattle.mio_edge.specs.declared.stream.Moved.{Moved}
 use Rattle.mio_edge.specs.declared.stream.Moved.TheVariants as moved
 

@@ -1,7 +1,7 @@
 -- The numbers of the sessions.
 use Rattle.std.specs.Prelude.{◌≡◌, ℕ, ◌<◌, ◌+◌, Option, None, Some}
-use Rattle.gate_io.specs.declared.hub.HubNext.{HubNext}
-use Rattle.gate_io.specs.declared.hub.HubNext.TheVariants as event
+use Rattle.gate_hub.specs.declared.hub.HubNext.{HubNext}
+use Rattle.gate_hub.specs.declared.hub.HubNext.TheVariants as event
 
 -- sessions are numbered from 0 in the order in which they are opened; `a` and `b` are how many were before and after; one that is ready was opened
 abbrev pub Numbers : HubNext → ℕ → ℕ → Type 0

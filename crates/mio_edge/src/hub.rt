@@ -1,15 +1,16 @@
 //! The hub of sessions with one upstream. It tells no content, and counts what failed and what
 //! wasn't ready.
 ghost use Rattle.std.specs.Prelude.{◌≡◌, ◌<◌, ◌-◌, ◌^◌, ◌≤◌};
-ghost use Rattle.gate_io.specs.Causes.{Rose};
-ghost use Rattle.gate_io.specs.Hubs.{HasStarted, Later, Leads, NextLeads, NotStarted, StartLeads};
-ghost use Rattle.gate_io.specs.declared.hub.Began.TheVariants as began;
-ghost use Rattle.gate_io.specs.declared.hub.HubNext.TheVariants as event;
+ghost use Rattle.gate_base.specs.Causes.{Rose};
+ghost use Rattle.gate_hub.specs.Hubs.{HasStarted, Later, Leads, NextLeads, NotStarted, StartLeads};
+ghost use Rattle.gate_hub.specs.declared.hub.Began.TheVariants as began;
+ghost use Rattle.gate_hub.specs.declared.hub.HubNext.TheVariants as event;
 ghost use Rattle.mio_edge.specs.Counting.{counts_of, side_counts};
 ghost use Rattle.mio_edge.specs.Numbers.{Numbers};
 
 use crate::Sockets;
-use gate_io::{Began, Hub, HubNext, LinkGot, LinkPut, Side, Text};
+use gate_base::Text;
+use gate_hub::{Began, Hub, HubNext, LinkGot, LinkPut, Side};
 use std::alloc::Global;
 use std::net::Net;
 
@@ -132,6 +133,8 @@ impl<N: Net> Hub for MioHub<'_, N> {
     fn close(&mut self, k: u64) {
         self.sockets.close(k);
     }
+
+    ghost bytes = { λ hub m told. absurd told };
 }
 
 // The port of a side.

@@ -35,13 +35,13 @@ pub(crate) enum OpenError {
     Failed,
 }
 
-impl From<gate_io::OutOfMemory> for OpenError {
+impl From<gate_base::OutOfMemory> for OpenError {
     ghost use Rattle.std.specs.Prelude.{◌≡◌};
     ghost use Rattle.mio_edge.specs.declared.listening.OpenError.TheVariants.{OutOfMemory};
 
     ghost from_gives = { λ _ e. e ≡ OutOfMemory };
 
-    fn from(_: gate_io::OutOfMemory) -> Self {
+    fn from(_: gate_base::OutOfMemory) -> Self {
         OpenError::OutOfMemory
     }
 }

@@ -1,10 +1,12 @@
 //! One connection of a session: its stream, what is known of its readiness, and its two buffers.
 ghost use Rattle.std.specs.Prelude.{◌≡◌, ◌<◌, ◌≤◌, ◌++◌, length, take};
-ghost use Rattle.gate_io.specs.Hubs.{GotWithin, TookWithin};
+ghost use Rattle.gate_hub.specs.Hubs.{GotWithin, TookWithin};
 ghost use Rattle.mio_edge.specs.Moving.{CameIn, HandsOut, TakesIn, Sends};
 
 use crate::stream::{Moved, receive_from, send_to};
-use gate_io::{LinkGot, LinkPut, Out, OutOfMemory};
+use gate_base::OutOfMemory;
+use gate_hub::{LinkGot, LinkPut};
+use gate_io::Out;
 use mio::event::Event;
 use mio::net::TcpStream;
 use std::alloc::Global;
@@ -53,12 +55,15 @@ pub(crate) struct Port {
 
 impl Port {
     /// A port without a connection. It takes the memory of both buffers, each of so many bytes.
+    ///
+    /// A read is offered all room for what comes in, since one that leaves room has found the last of
+    /// what came.
     pub(crate) fn open(alloc: Global, room: usize) -> Result<Port, OutOfMemory> {
         Ok(Port {
             stream: None,
             receiving: Receiving::Idle,
             sending: Sending::Blocked,
-            incoming: Out::open(alloc, room)?,
+            incoming: Out::open_whole(alloc, room)?,
             outgoing: Out::open(alloc, room)?,
         })
     }

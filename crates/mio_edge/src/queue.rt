@@ -1,5 +1,5 @@
 //! A queue of places whose room is taken once.
-use gate_io::OutOfMemory;
+use gate_base::OutOfMemory;
 use std::alloc::Global;
 use std::collections::VecDeque;
 

@@ -1,9 +1,9 @@
 //! A session: its ports, and how much it may still move before the others have their turn.
 ghost use Rattle.std.specs.Prelude.{◌<◌, length};
-ghost use Rattle.gate_io.specs.Hubs.{GotWithin, TookWithin};
+ghost use Rattle.gate_hub.specs.Hubs.{GotWithin, TookWithin};
 
 use crate::port::{Port, Rest};
-use gate_io::{LinkGot, LinkPut};
+use gate_hub::{LinkGot, LinkPut};
 
 /// The ports of one accepted connection.
 #[derive(Drop)]

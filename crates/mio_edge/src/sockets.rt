@@ -1,14 +1,15 @@
 //! The sockets of a server: sessions of one client and some upstreams.
 ghost use Rattle.std.specs.Prelude.{◌≡◌, ◌≢◌, ◌<◌, ◌≤◌, ◌-◌, ◌^◌, ◌+◌, length, Some};
-ghost use Rattle.gate_io.specs.Causes.{Rose};
-ghost use Rattle.gate_io.specs.Hubs.{GotWithin, TookWithin};
-ghost use Rattle.gate_io.specs.declared.hub.Began.TheVariants as began;
-ghost use Rattle.gate_io.specs.declared.hub.HubNext.TheVariants as event;
+ghost use Rattle.gate_base.specs.Causes.{Rose};
+ghost use Rattle.gate_hub.specs.Hubs.{GotWithin, TookWithin};
+ghost use Rattle.gate_hub.specs.declared.hub.Began.TheVariants as began;
+ghost use Rattle.gate_hub.specs.declared.hub.HubNext.TheVariants as event;
 ghost use Rattle.mio_edge.specs.Numbers.{Numbers, NumbersIfAny};
 
 use crate::listening::{Listening, OpenError};
 use crate::table::Table;
-use gate_io::{Began, HubNext, LinkGot, LinkPut, Text};
+use gate_base::Text;
+use gate_hub::{Began, HubNext, LinkGot, LinkPut};
 use std::alloc::Global;
 use std::net::{Net, SocketAddr};
 

@@ -1,11 +1,12 @@
 //! The sessions of a server by their places, and the queues of those that are to have a turn.
 ghost use Rattle.std.specs.Prelude.{◌<◌, length};
-ghost use Rattle.gate_io.specs.Hubs.{GotWithin, TookWithin};
+ghost use Rattle.gate_hub.specs.Hubs.{GotWithin, TookWithin};
 
 use crate::port::{Port, Rest, Sending};
 use crate::queue::Queue;
 use crate::session::Session;
-use gate_io::{LinkGot, LinkPut, OutOfMemory};
+use gate_base::OutOfMemory;
+use gate_hub::{LinkGot, LinkPut};
 use mio::event::Event;
 use mio::net::TcpStream;
 use mio::{Interest, Registry, Token};

@@ -6,16 +6,16 @@ use Rattle.std.proofs.lemmas.Grind.{flat_map-append}
 use Rattle.std.specs.Io.KnownBytes.{Appends}
 use Rattle.std.specs.List.{slice_get, remove}
 use Rattle.std.proofs.Math.ListN.{set as put}
-use Rattle.gate_io.specs.Meaning.{Told, Link, Meaning, IsOpen, link_of}
-use Rattle.gate_io.specs.Hubs.{Leads, Changes, Closes, Answers, HasStarted, NextLeads}
-use Rattle.gate_io.specs.Causes.{Rose}
-use Rattle.gate_io.specs.declared.hub.Served.{Served}
-use Rattle.gate_io.specs.declared.hub.Served.TheVariants as served
-use Rattle.gate_io.specs.declared.hub.Side.{Side}
-use Rattle.gate_io.specs.declared.hub.Side.TheVariants as side
-use Rattle.gate_io.specs.declared.hub.HubNext.{HubNext}
-use Rattle.gate_io.specs.declared.hub.HubNext.TheVariants as event
-use Rattle.gate_io.specs.declared.hub.LinkPut.TheVariants as puts
+use Rattle.gate_hub.specs.Meaning.{Told, Link, Meaning, IsOpen, link_of}
+use Rattle.gate_hub.specs.Hubs.{Leads, Changes, Closes, Answers, HasStarted, NextLeads}
+use Rattle.gate_base.specs.Causes.{Rose}
+use Rattle.gate_hub.specs.declared.hub.Served.{Served}
+use Rattle.gate_hub.specs.declared.hub.Served.TheVariants as served
+use Rattle.gate_hub.specs.declared.hub.Side.{Side}
+use Rattle.gate_hub.specs.declared.hub.Side.TheVariants as side
+use Rattle.gate_hub.specs.declared.hub.HubNext.{HubNext}
+use Rattle.gate_hub.specs.declared.hub.HubNext.TheVariants as event
+use Rattle.gate_hub.specs.declared.hub.LinkPut.TheVariants as puts
 use Rattle.session_core.specs.Rules.{Rules}
 use Rattle.session_core.specs.Standing.{Standing, History}
 use Rattle.session_core.specs.Session.{Seen, due_to}

@@ -4,14 +4,14 @@ use Rattle.std.proofs.lemmas.List.{append-nil, take_all}
 use Rattle.std.proofs.lemmas.Bool.Decides.{nat_tests}
 use Rattle.std.specs.Int.{from_be_bytes, w32}
 use Rattle.std.specs.Prelude.{ℤ}
-use Rattle.gate_io.specs.Meaning.{Told, Link, Meaning, link_of, IsOpen}
-use Rattle.gate_io.specs.Hubs.{Counts, Later, Leads, Changes, AtSide, LinkReads, LinkWrites}
-use Rattle.gate_io.specs.declared.hub.Side.{Side}
-use Rattle.gate_io.specs.declared.hub.Side.TheVariants as side
-use Rattle.gate_io.specs.declared.hub.LinkGot.{LinkGot}
-use Rattle.gate_io.specs.declared.hub.LinkGot.TheVariants as got
-use Rattle.gate_io.specs.declared.hub.LinkPut.{LinkPut}
-use Rattle.gate_io.specs.declared.hub.LinkPut.TheVariants as put
+use Rattle.gate_hub.specs.Meaning.{Told, Link, Meaning, link_of, IsOpen}
+use Rattle.gate_hub.specs.Hubs.{Counts, Later, Leads, Changes, AtSide, LinkReads, LinkWrites}
+use Rattle.gate_hub.specs.declared.hub.Side.{Side}
+use Rattle.gate_hub.specs.declared.hub.Side.TheVariants as side
+use Rattle.gate_hub.specs.declared.hub.LinkGot.{LinkGot}
+use Rattle.gate_hub.specs.declared.hub.LinkGot.TheVariants as got
+use Rattle.gate_hub.specs.declared.hub.LinkPut.{LinkPut}
+use Rattle.gate_hub.specs.declared.hub.LinkPut.TheVariants as put
 use Rattle.framed_transport.specs.Front.{Part, Whole, Large, front, is_part}
 use Rattle.session_core.specs.Rules.{Rules}
 use Rattle.session_core.specs.Standing.{History}

@@ -3,11 +3,11 @@ use Rattle.std.proofs.Common.{◌≡◌, ◌≢◌, ℕ, ◌+◌, ◌<◌, ◌�
 use Rattle.std.specs.Prelude.{IsSome}
 use Rattle.std.specs.List.{slice_get, remove}
 use Rattle.std.proofs.Math.ListN.{set as put}
-use Rattle.gate_io.specs.Meaning.{Told, Meaning, Started, IsOpen, reopened, new_session}
-use Rattle.gate_io.specs.Hubs.{Changes, Closes, Comes}
-use Rattle.gate_io.specs.declared.hub.Side.{Side}
-use Rattle.gate_io.specs.declared.hub.Side.TheVariants as side
-use Rattle.gate_io.specs.declared.hub.HubNext.TheVariants as event
+use Rattle.gate_hub.specs.Meaning.{Told, Meaning, Started, IsOpen, reopened, new_session}
+use Rattle.gate_hub.specs.Hubs.{Changes, Closes, Comes}
+use Rattle.gate_hub.specs.declared.hub.Side.{Side}
+use Rattle.gate_hub.specs.declared.hub.Side.TheVariants as side
+use Rattle.gate_hub.specs.declared.hub.HubNext.TheVariants as event
 use Rattle.session_core.specs.Rules.{Rules}
 use Rattle.session_core.specs.Standing.{nothing}
 use Rattle.session_core.specs.Session.{Seen}

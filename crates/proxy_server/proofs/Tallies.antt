@@ -3,11 +3,11 @@ use Rattle.std.proofs.Common.{◌≡◌, ◌≢◌, ℕ, zero, suc, ◌+◌, ◌
 use Rattle.std.proofs.lemmas.List.{take-append-le}
 use Rattle.std.proofs.Math.Seq.{take-append_seam}
 use Rattle.std.specs.List.{slice_get}
-use Rattle.gate_io.specs.Causes.{one_more}
-use Rattle.gate_io.specs.Meaning.{Told, Link, Meaning, new_session, reopened}
-use Rattle.gate_io.specs.Hubs.{Changes, Closes, Comes}
-use Rattle.gate_io.specs.declared.hub.Side.TheVariants as side
-use Rattle.gate_io.specs.declared.hub.HubNext.TheVariants as event
+use Rattle.gate_base.specs.Causes.{one_more}
+use Rattle.gate_hub.specs.Meaning.{Told, Link, Meaning, new_session, reopened}
+use Rattle.gate_hub.specs.Hubs.{Changes, Closes, Comes}
+use Rattle.gate_hub.specs.declared.hub.Side.TheVariants as side
+use Rattle.gate_hub.specs.declared.hub.HubNext.TheVariants as event
 use Rattle.session_core.specs.Rules.{Rules}
 use Rattle.session_core.specs.declared.outcome.Outcome.{Outcome}
 use Rattle.session_core.specs.declared.outcome.Outcome.TheVariants as outcome

@@ -1,6 +1,6 @@
 -- Which sessions find the server full.
 use Rattle.std.specs.Prelude.{◌≡◌, ◌≢◌, ℕ, ◌<◌, ◌≤◌, List, length, true, Some, slice_get}
-use Rattle.gate_io.specs.Meaning.{Meaning}
+use Rattle.gate_hub.specs.Meaning.{Meaning}
 use Rattle.session_core.specs.declared.outcome.Outcome.TheVariants as outcome
 use Rattle.proxy_server.specs.Serving.{Closing}
 

@@ -6,8 +6,8 @@ use Rattle.session_core.specs.declared.outcome.Halt.{Halt}
 use Rattle.session_core.specs.declared.outcome.Halt.TheVariants as halt
 use Rattle.session_core.specs.declared.outcome.Outcome.{Outcome}
 use Rattle.session_core.specs.declared.outcome.Outcome.TheVariants as outcome
-use Rattle.gate_io.specs.declared.hub.Side.{Side}
-use Rattle.gate_io.specs.declared.hub.Side.TheVariants as side
+use Rattle.gate_hub.specs.declared.hub.Side.{Side}
+use Rattle.gate_hub.specs.declared.hub.Side.TheVariants as side
 
 -- at PLACE: CAUSE, and its kin
 unfoldable pub halt_text : Halt → List ℕ

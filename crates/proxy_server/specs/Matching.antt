@@ -1,8 +1,8 @@
 -- A session matches what a hub tells of it.
 use Rattle.std.specs.Prelude.{◌≡◌, ℕ, List, ◌++◌}
-use Rattle.gate_io.specs.Meaning.{Told}
-use Rattle.gate_io.specs.declared.hub.Side.{Side}
-use Rattle.gate_io.specs.declared.hub.Side.TheVariants as side
+use Rattle.gate_hub.specs.Meaning.{Told}
+use Rattle.gate_hub.specs.declared.hub.Side.{Side}
+use Rattle.gate_hub.specs.declared.hub.Side.TheVariants as side
 use Rattle.session_core.specs.Rules.{Rules}
 use Rattle.session_core.specs.Standing.{History}
 use Rattle.session_core.specs.Fits.{Fits}

@@ -1,13 +1,13 @@
 -- What a server stands on while it serves.
 use Rattle.std.specs.Prelude.{◌≡◌, ◌≢◌, ℕ, ◌<◌, ◌≤◌, ◌⊎◌, List, Bool, true, false, Option, None, Some, slice_get}
 use Rattle.std.specs.List.{flat_map}
-use Rattle.gate_io.specs.Meaning.{Told, Meaning}
-use Rattle.gate_io.specs.Hubs.{HasStarted}
-use Rattle.gate_io.specs.declared.hub.Side.{Side}
-use Rattle.gate_io.specs.declared.hub.HubNext.{HubNext}
-use Rattle.gate_io.specs.declared.hub.HubNext.TheVariants as event
-use Rattle.gate_io.specs.declared.hub.Served.{Served}
-use Rattle.gate_io.specs.declared.hub.Served.TheVariants as served
+use Rattle.gate_hub.specs.Meaning.{Told, Meaning}
+use Rattle.gate_hub.specs.Hubs.{HasStarted}
+use Rattle.gate_hub.specs.declared.hub.Side.{Side}
+use Rattle.gate_hub.specs.declared.hub.HubNext.{HubNext}
+use Rattle.gate_hub.specs.declared.hub.HubNext.TheVariants as event
+use Rattle.gate_hub.specs.declared.hub.Served.{Served}
+use Rattle.gate_hub.specs.declared.hub.Served.TheVariants as served
 use Rattle.session_core.specs.Rules.{Rules}
 use Rattle.session_core.specs.Standing.{Standing, nothing}
 use Rattle.session_core.specs.Fits.{Fits}

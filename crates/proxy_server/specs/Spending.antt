@@ -1,6 +1,6 @@
 -- How much of its budget a server has spent.
 use Rattle.std.specs.Prelude.{◌≡◌, ℕ, zero, suc, ◌+◌, ◌*◌, ◌-◌, ◌^◌, ◌≤◌, min, if◌then◌else◌}
-use Rattle.gate_io.specs.Meaning.{Told, Meaning}
+use Rattle.gate_hub.specs.Meaning.{Told, Meaning}
 use Rattle.proxy_server.specs.Turning.{amount}
 
 -- how much was received and sent over a session that was announced, with its ends

@@ -1,13 +1,13 @@
 -- What the steps of a server do.
 use Rattle.std.specs.Prelude.{◌≡◌, ℕ, ◌^◌, ◌<◌, ◌≤◌, ◌⊎◌, List, ◌++◌, length, Option, None, Some, slice_get}
 use Rattle.std.specs.Io.KnownBytes.{Appends}
-use Rattle.gate_io.specs.Meaning.{Meaning}
-use Rattle.gate_io.specs.Causes.{Rose}
-use Rattle.gate_io.specs.declared.hub.HubNext.{HubNext}
-use Rattle.gate_io.specs.declared.hub.HubNext.TheVariants as event
-use Rattle.gate_io.specs.declared.hub.Served.{Served}
-use Rattle.gate_io.specs.declared.hub.Served.TheVariants as served
-use Rattle.gate_io.specs.declared.hub.Side.{Side}
+use Rattle.gate_hub.specs.Meaning.{Meaning}
+use Rattle.gate_base.specs.Causes.{Rose}
+use Rattle.gate_hub.specs.declared.hub.HubNext.{HubNext}
+use Rattle.gate_hub.specs.declared.hub.HubNext.TheVariants as event
+use Rattle.gate_hub.specs.declared.hub.Served.{Served}
+use Rattle.gate_hub.specs.declared.hub.Served.TheVariants as served
+use Rattle.gate_hub.specs.declared.hub.Side.{Side}
 use Rattle.session_core.specs.Rules.{Rules}
 use Rattle.session_core.specs.Steps.{outcome_of}
 use Rattle.gate_io.specs.Fronts.{AppendsFront}

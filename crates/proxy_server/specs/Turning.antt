@@ -1,11 +1,11 @@
 -- A turn of a session.
 use Rattle.std.specs.Prelude.{◌≡◌, ◌≢◌, ℕ, ◌+◌, ◌≤◌, ◌⊎◌, List, [], ◌++◌, length, Bool, true, false, if◌then◌else◌, Option, None, Some, is_some, Result, Ok, Err}
-use Rattle.gate_io.specs.Meaning.{Told, Link, Meaning, link_of, IsOpen}
-use Rattle.gate_io.specs.Hubs.{Changes}
-use Rattle.gate_io.specs.declared.hub.Side.{Side}
-use Rattle.gate_io.specs.declared.hub.Side.TheVariants as side
-use Rattle.gate_io.specs.declared.hub.LinkGot.TheVariants as got
-use Rattle.gate_io.specs.declared.hub.LinkPut.TheVariants as put
+use Rattle.gate_hub.specs.Meaning.{Told, Link, Meaning, link_of, IsOpen}
+use Rattle.gate_hub.specs.Hubs.{Changes}
+use Rattle.gate_hub.specs.declared.hub.Side.{Side}
+use Rattle.gate_hub.specs.declared.hub.Side.TheVariants as side
+use Rattle.gate_hub.specs.declared.hub.LinkGot.TheVariants as got
+use Rattle.gate_hub.specs.declared.hub.LinkPut.TheVariants as put
 use Rattle.framed_transport.specs.Front.{front, is_part}
 use Rattle.session_core.specs.Rules.{Rules}
 use Rattle.session_core.specs.Standing.{Standing, History}

@@ -1,8 +1,8 @@
 -- Where a server stands between its steps.
 use Rattle.std.specs.Prelude.{◌≡◌, ℕ, ◌<◌, ◌≤◌, List, length, take, false, None, Some, slice_get}
-use Rattle.gate_io.specs.Meaning.{Meaning, new_session}
-use Rattle.gate_io.specs.declared.hub.Side.{Side}
-use Rattle.gate_io.specs.declared.hub.HubNext.{HubNext}
+use Rattle.gate_hub.specs.Meaning.{Meaning, new_session}
+use Rattle.gate_hub.specs.declared.hub.Side.{Side}
+use Rattle.gate_hub.specs.declared.hub.HubNext.{HubNext}
 use Rattle.session_core.specs.Rules.{Rules}
 use Rattle.session_core.specs.declared.outcome.Outcome.{Outcome}
 use Rattle.session_core.specs.declared.outcome.Outcome.TheVariants as outcome

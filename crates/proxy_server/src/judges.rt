@@ -2,7 +2,7 @@
 ghost use Rattle.std.specs.Prelude.{◌≡◌, ◌≤◌, ℕ, IfOk};
 ghost use Rattle.session_core.specs.Rules.{Rules};
 
-use gate_io::OutOfMemory;
+use gate_base::OutOfMemory;
 use session_core::Judge;
 use std::alloc::Global;
 

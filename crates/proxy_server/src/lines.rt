@@ -2,7 +2,8 @@
 ghost use Rattle.std.specs.Prelude.{◌≡◌, ◌+◌, ◌≤◌, ◌++◌, length};
 ghost use Rattle.proxy_server.specs.Lines.{halt_text, side_text, open_calls_text, unsolicited_text, link_fault_text, outcome_text, ending_text, line_text};
 
-use gate_io::{Out, Side};
+use gate_hub::Side;
+use gate_io::Out;
 use itoa::{Buffer, Integer};
 use session_core::{Halt, Outcome};
 use translate_core::Cause;

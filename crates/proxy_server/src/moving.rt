@@ -4,7 +4,7 @@ ghost use Rattle.session_core.specs.Standing.{History};
 ghost use Rattle.session_core.specs.Session.{due_to, room_of, and_sent, and_ended};
 ghost use Rattle.proxy_server.specs.Matching.{Matches, IsSame, and_received};
 
-use gate_io::Side;
+use gate_hub::Side;
 use session_core::{Judge, Session};
 
 /// Gives the session bytes of a side that it has room for.

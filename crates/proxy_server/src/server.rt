@@ -2,10 +2,10 @@
 ghost use Rattle.std.specs.Prelude.{◌≡◌, ◌+◌, ◌^◌, Option, ◌≢◌, ◌⊎◌, ◌<◌, ◌≤◌, ◌++◌, ◌∷◌, [], ℕ, List, length, Some, None, IfSome, slice_get};
 ghost use Rattle.std.specs.List.{remove};
 ghost use Rattle.std.specs.Io.KnownBytes.{Appends};
-ghost use Rattle.gate_io.specs.Causes.{Rose};
-ghost use Rattle.gate_io.specs.Hubs.{Later};
-ghost use Rattle.gate_io.specs.Meaning.{Meaning};
-ghost use Rattle.gate_io.specs.declared.hub.HubNext.{HubNext};
+ghost use Rattle.gate_base.specs.Causes.{Rose};
+ghost use Rattle.gate_hub.specs.Hubs.{Later};
+ghost use Rattle.gate_hub.specs.Meaning.{Meaning};
+ghost use Rattle.gate_hub.specs.declared.hub.HubNext.{HubNext};
 ghost use Rattle.proxy_server.specs.Lines.{line_text};
 ghost use Rattle.proxy_server.specs.Serving.{Entry, Setting, Closing, Keeps, SpendsBy, left_line, left_lines};
 ghost use Rattle.proxy_server.specs.Working.{IsBusy, IsNamed, HasEndedAt, Awaits};
@@ -16,7 +16,8 @@ use crate::judges::Judges;
 use crate::limits::Limits;
 use crate::lines::{LINE_ROOM, put_line};
 use crate::table::{Open, find, open_session};
-use gate_io::{Hub, HubNext, Out, Sink, Wrote, write_all};
+use gate_hub::{Hub, HubNext};
+use gate_io::{Out, Sink, Wrote, write_all};
 use session_core::{Judge, Outcome, Session};
 use std::alloc::Global;
 

@@ -1,14 +1,15 @@
 //! The service of all sessions until the hub stops.
 ghost use Rattle.std.specs.Prelude.{◌≡◌, ◌⊎◌, ◌≤◌, [], IfSome};
-ghost use Rattle.gate_io.specs.Causes.{Rose};
-ghost use Rattle.gate_io.specs.Hubs.{Later};
+ghost use Rattle.gate_base.specs.Causes.{Rose};
+ghost use Rattle.gate_hub.specs.Hubs.{Later};
 ghost use Rattle.proxy_server.specs.Steps.{AreGood, Serves, setting_of, served_by, first_wrote};
 
 use crate::judges::Judges;
 use crate::limits::Limits;
 use crate::lines::LINE_ROOM;
 use crate::server::{Attended, Server};
-use gate_io::{Hub, Out, Served, Sink, Wrote};
+use gate_hub::{Hub, Served};
+use gate_io::{Out, Sink, Wrote};
 use session_core::Judge;
 use std::alloc::Global;
 

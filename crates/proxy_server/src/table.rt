@@ -1,7 +1,7 @@
 //! The sessions that are open, in the order of their numbers.
 ghost use Rattle.std.specs.Prelude.{◌≡◌, ◌⊎◌, ◌<◌, ◌≤◌, length, Some, None, IfSome, IfOk, slice_get, ℕ, ◌^◌};
-ghost use Rattle.gate_io.specs.Causes.{Rose};
-ghost use Rattle.gate_io.specs.Hubs.{Later};
+ghost use Rattle.gate_base.specs.Causes.{Rose};
+ghost use Rattle.gate_hub.specs.Hubs.{Later};
 ghost use Rattle.session_core.specs.Standing.{nothing};
 ghost use Rattle.proxy_server.specs.Matching.{Matches, IsSame};
 ghost use Rattle.proxy_server.specs.Turning.{Goes, TurnDoes, EndsAs};
@@ -12,7 +12,8 @@ use crate::Turn;
 use crate::judges::Judges;
 use crate::limits::Limits;
 use crate::turning::turn;
-use gate_io::{Hub, OutOfMemory};
+use gate_base::OutOfMemory;
+use gate_hub::Hub;
 use session_core::{Judge, Outcome, Session};
 use std::alloc::Global;
 use std::marker::Model;

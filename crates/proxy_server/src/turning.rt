@@ -1,7 +1,7 @@
 //! One turn of a session: rounds of writes and reads, until nothing moves.
 ghost use Rattle.std.specs.Prelude.{◌≡◌, ◌<◌, ◌≤◌, ◌⊎◌, [], length, true, is_some, Some, Ok, IfOk, IfErr};
-ghost use Rattle.gate_io.specs.Causes.{Rose};
-ghost use Rattle.gate_io.specs.Hubs.{Later};
+ghost use Rattle.gate_base.specs.Causes.{Rose};
+ghost use Rattle.gate_hub.specs.Hubs.{Later};
 ghost use Rattle.session_core.specs.Session.{due_to, room_of};
 ghost use Rattle.proxy_server.specs.Matching.{Matches, IsSame};
 ghost use Rattle.proxy_server.specs.Turning.{Goes, IsQuiet, TurnDoes, CallDoes, EndsAs, KeepsMarks, write_waits, read_waits};
@@ -9,7 +9,7 @@ ghost use Rattle.proxy_server.specs.Turning.{Goes, IsQuiet, TurnDoes, CallDoes, 
 use crate::Turn;
 use crate::moving::{finish, give, pass_on};
 use crate::waiting::Waits;
-use gate_io::{Hub, LinkGot, LinkPut, Side};
+use gate_hub::{Hub, LinkGot, LinkPut, Side};
 use session_core::{Judge, Outcome, Session};
 
 /// At most so many bytes are read or written by a call.

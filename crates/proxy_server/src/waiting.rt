@@ -2,7 +2,7 @@
 ghost use Rattle.std.specs.Prelude.{◌≡◌};
 ghost use Rattle.proxy_server.specs.Turning.{write_waits, read_waits, with_write, with_read};
 
-use gate_io::Side;
+use gate_hub::Side;
 
 /// The calls that answered in this turn that they aren't ready: none of them is made again in it.
 #[derive(Clone, Copy)]

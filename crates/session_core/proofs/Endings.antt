@@ -10,8 +10,8 @@ use Rattle.session_core.specs.Working.{Stops, Goes, Took, ending_of, ending_by}
 use Rattle.session_core.specs.Working.{ByUpstream as took_upstream, ByClient as took_client}
 use Rattle.session_core.specs.Ends.{IsAtRest}
 use Rattle.session_core.specs.Session.{due_to}
-use Rattle.gate_io.specs.declared.hub.Side.{Side}
-use Rattle.gate_io.specs.declared.hub.Side.TheVariants as side
+use Rattle.gate_hub.specs.declared.hub.Side.{Side}
+use Rattle.gate_hub.specs.declared.hub.Side.TheVariants as side
 use Rattle.session_core.specs.declared.state.Stop.{Stop}
 use Rattle.session_core.specs.declared.state.Stop.TheVariants as stop
 use Rattle.session_core.specs.declared.outcome.Outcome.{Outcome}

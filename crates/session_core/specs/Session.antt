@@ -2,8 +2,8 @@
 use Rattle.std.specs.Prelude.{ℕ, ◌+◌, ◌-◌, List, ◌++◌, length, Bool, true, ◌||◌, if◌then◌else◌, Option}
 use Rattle.session_core.specs.Standing.{Standing, History}
 use Rattle.session_core.specs.declared.outcome.Outcome.{Outcome}
-use Rattle.gate_io.specs.declared.hub.Side.{Side}
-use Rattle.gate_io.specs.declared.hub.Side.TheVariants as side
+use Rattle.gate_hub.specs.declared.hub.Side.{Side}
+use Rattle.gate_hub.specs.declared.hub.Side.TheVariants as side
 
 pub record Seen (J : Type 0) : Type 0 where
   pub judge : J

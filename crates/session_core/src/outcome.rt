@@ -1,5 +1,5 @@
 //! How a side halts, and how a session ends.
-use gate_io::Side;
+use gate_hub::Side;
 use protocol_traits::Fault;
 
 /// Why a side can be taken no further.

@@ -8,7 +8,8 @@ ghost use Rattle.session_core.specs.Session.{Seen, due_to, and_sent, and_ended, 
 use crate::judge::Judge;
 use crate::outcome::Outcome;
 use crate::state::State;
-use gate_io::{OutOfMemory, Side};
+use gate_base::OutOfMemory;
+use gate_hub::Side;
 use std::alloc::Global;
 use std::marker::Model;
 

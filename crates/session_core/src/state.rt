@@ -12,7 +12,8 @@ use crate::judge::{Call, ClientJudged, Judge, UpstreamJudged};
 use crate::outcome::{Halt, Outcome};
 use circular_buffer::HeapCircularBuffer;
 use framed_transport::{FrameBuf, Next, frame_stands_at_the_front};
-use gate_io::{Out, OutOfMemory};
+use gate_base::OutOfMemory;
+use gate_io::Out;
 use std::alloc::Global;
 use translate_core::Cause;
 

@@ -7,7 +7,7 @@ ghost use Rattle.session_judge.specs.Rules.{rules_of};
 ghost use Rattle.session_judge.specs.Setups.{setting_of};
 
 use crate::pair::PairJudge;
-use gate_io::OutOfMemory;
+use gate_base::OutOfMemory;
 use protocol_traits::Proto;
 use session_core::Session;
 use std::alloc::Global;

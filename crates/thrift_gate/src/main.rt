@@ -2,7 +2,8 @@
 //! that `run` answers.
 #![tactic(auto)]
 
-use gate_io::{DiskFiles, OutOfMemory, Sink, StdSink, StdSource, Word};
+use gate_base::{OutOfMemory, Word};
+use gate_io::{DiskFiles, Sink, StdSink, StdSource};
 use gate_run::run;
 use mio_edge::MioHub;
 use std::alloc::Global;

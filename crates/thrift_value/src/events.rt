@@ -6,7 +6,7 @@ ghost use Rattle.thrift_value.specs.Views.{tree_of};
 ghost use Rattle.thrift_value.specs.Telling.{items_left, left_in, all_left, items_of_next, IsRest, AreRests, IsNext};
 
 use crate::{Event, Field, Fields, Value};
-use gate_io::OutOfMemory;
+use gate_base::OutOfMemory;
 use std::alloc::Global;
 
 /// The events of a body: those of its fields and one last `Stop`.

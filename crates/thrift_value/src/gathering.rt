@@ -6,7 +6,7 @@ ghost use Rattle.thrift_value.specs.Stands.{stand_of};
 
 use crate::level::{Level, Start, Turn, begun_by};
 use crate::{Event, Fields, Value};
-use gate_io::OutOfMemory;
+use gate_base::OutOfMemory;
 use std::alloc::Global;
 
 /// Why a body can't be gathered.

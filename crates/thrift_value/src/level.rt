@@ -4,7 +4,7 @@ ghost use Rattle.thrift_value.specs.Items.{item_of};
 ghost use Rattle.thrift_value.specs.Gathering.{rank_of, wants, put, turn_of, start_of};
 
 use crate::{Blob, Event, Field, Fields, Items, Kind, Pairs, Value};
-use gate_io::OutOfMemory;
+use gate_base::OutOfMemory;
 use std::alloc::Global;
 
 /// A size or a number of bytes is below this.

@@ -4,7 +4,7 @@ ghost use Rattle.thrift_value.specs.Trees.{no_members, no_trees, no_pairs};
 ghost use Rattle.thrift_value.specs.Views.{tree_of, trees_of, members_of, pairs_of, then_tree, then_member, then_pair};
 
 use crate::{Kind, MessageType};
-use gate_io::OutOfMemory;
+use gate_base::OutOfMemory;
 use std::alloc::Global;
 use std::marker::Model;
 

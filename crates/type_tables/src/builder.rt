@@ -16,7 +16,7 @@ use crate::declared::{
 use crate::fields::FieldList;
 use crate::schema::Schema;
 use crate::tables::Tables;
-use gate_io::{OutOfMemory, Text};
+use gate_base::{OutOfMemory, Text};
 use std::alloc::Global;
 use std::marker::Model;
 

@@ -9,7 +9,7 @@ use crate::fields::FieldList;
 use crate::names::NameTable;
 use crate::services::ServiceDecl;
 use crate::tables::{StructDecl, Tables};
-use gate_io::OutOfMemory;
+use gate_base::OutOfMemory;
 use std::alloc::Global;
 
 /// Whether each number that was handed in is one of these tables.

@@ -2,7 +2,7 @@
 ghost use Rattle.std.specs.Prelude.{◌≡◌};
 ghost use Rattle.type_tables.specs.Kinds.{kind_of};
 
-use gate_io::Text;
+use gate_base::Text;
 use thrift_value::Kind;
 
 /// The number of an enum, from 0 in the order of adding.

@@ -2,7 +2,7 @@
 ghost use Rattle.std.specs.Prelude.{◌≡◌, ◌++◌, ◌∷◌, [], OnErr, OnOk, None, length, option_copied, option_map, slice_get};
 ghost use Rattle.type_tables.specs.Names.{value_of, name_place};
 
-use gate_io::{OutOfMemory, Text};
+use gate_base::{OutOfMemory, Text};
 use indexmap::IndexMap;
 use std::alloc::Global;
 use std::marker::Model;

@@ -6,7 +6,7 @@ ghost use Rattle.type_tables.specs.RootCount.{root_with};
 
 use crate::declared::ServiceId;
 use crate::names::NameTable;
-use gate_io::{OutOfMemory, Text};
+use gate_base::{OutOfMemory, Text};
 use std::alloc::Global;
 use std::marker::Model;
 

@@ -8,7 +8,7 @@ ghost use Rattle.type_tables.specs.Services.{methods_of, method_in, with_service
 use crate::declared::{AddFault, MethodInfo, ServiceId};
 use crate::names::NameTable;
 use crate::roots::ServiceNames;
-use gate_io::Text;
+use gate_base::Text;
 use std::alloc::Global;
 use std::marker::Model;
 

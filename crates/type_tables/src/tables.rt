@@ -14,7 +14,7 @@ use crate::declared::{
 use crate::fields::FieldList;
 use crate::members::MemberList;
 use crate::services::ServiceList;
-use gate_io::{OutOfMemory, Text};
+use gate_base::{OutOfMemory, Text};
 use std::alloc::Global;
 use std::marker::Model;
 

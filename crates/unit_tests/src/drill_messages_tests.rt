@@ -2,7 +2,8 @@
 ghost use Rattle.std.specs.Prelude.{◌≤◌};
 
 use drill_messages::{Drilled, Totals, drill};
-use gate_io::{Fails, MemSink, OutOfMemory};
+use gate_base::OutOfMemory;
+use gate_memory::{Fails, MemSink};
 use std::alloc::Global;
 use std::test::*;
 

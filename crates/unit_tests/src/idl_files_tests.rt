@@ -1,5 +1,5 @@
 //! Small walks: names that meet, and refusals of the walk.
-use gate_io::{Fails, MemFiles};
+use gate_memory::{Fails, MemFiles};
 use idl_files::{LoadError, read_files};
 use idl_names::Documents;
 use idl_rules::IdlRow;

@@ -1,5 +1,5 @@
 //! Small IDLs and their refusals, and one of two files.
-use gate_io::{Fails, MemFiles};
+use gate_memory::{Fails, MemFiles};
 use idl_resolve::{IdlRow, LoadError, Loaded, load};
 use std::alloc::Global;
 use std::test::*;

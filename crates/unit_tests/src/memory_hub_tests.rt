@@ -1,7 +1,7 @@
 //! A hub in memory that does its steps.
-use gate_io::{
-    Began, Hub, HubNext, HubStep, HubSteps, LinkGot, LinkPut, MemHub, OutOfMemory, Side, Text,
-};
+use gate_base::{OutOfMemory, Text};
+use gate_hub::{Began, Hub, HubNext, LinkGot, LinkPut, Side};
+use gate_memory::{HubStep, HubSteps, MemHub};
 use std::alloc::Global;
 use std::test::*;
 

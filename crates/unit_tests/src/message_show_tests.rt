@@ -1,5 +1,6 @@
 //! Lines of a few messages.
-use gate_io::{Fails, MemSink, OutOfMemory};
+use gate_base::OutOfMemory;
+use gate_memory::{Fails, MemSink};
 use message_show::{Shown, show};
 use protocol_traits::{Fault, Proto, Reason};
 use std::alloc::Global;

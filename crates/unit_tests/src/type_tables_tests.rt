@@ -1,5 +1,5 @@
 //! A struct whose fields are declared in no order of ids.
-use gate_io::Text;
+use gate_base::Text;
 use std::alloc::Global;
 use std::test::*;
 use type_tables::{FieldInfo, FieldList, Form, Need, Schema, SchemaBuilder, StructId, Ty};

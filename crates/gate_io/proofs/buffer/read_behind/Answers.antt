@@ -1,8 +1,8 @@
 use Rattle.std.proofs.Common.{◌≡◌, ℕ, ◌+◌, ◌≤◌, List, length, take, Option, arith, rules}
 use Rattle.std.proofs.lemmas.List.{length-take-le}
 use borrow.Rule.Slice.PartMut.{put_mid}
-use Rattle.gate_io.specs.declared.outside.Got.{Got}
-use Rattle.gate_io.specs.declared.outside.Got.TheVariants.{Bytes, End, Failed}
+use Rattle.gate_io.specs.declared.byte_streams.Got.{Got}
+use Rattle.gate_io.specs.declared.byte_streams.Got.TheVariants.{Bytes, End, Failed}
 use Rattle.gate_io.specs.Reading.{Reads, FillsCells}
 use Rattle.gate_io.proofs.Windows.{kept, pushed_first, same_length}
 use Rattle.gate_io.proofs.buffer.read_behind.Goals as goal

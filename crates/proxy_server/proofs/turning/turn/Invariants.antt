@@ -1,5 +1,5 @@
 use Rattle.std.proofs.Common.{◌≡◌, ◌-◌, ◌<◌, length}
-use Rattle.gate_io.specs.Hubs.{Later}
+use Rattle.gate_hub.specs.Hubs.{Later}
 use Rattle.proxy_server.specs.Matching.{Matches, IsSame}
 use Rattle.proxy_server.specs.Turning.{Goes, Runs, no_waits}
 use Rattle.proxy_server.proofs.turning.turn.Given as goal

@@ -6,6 +6,6 @@ use Rattle.gate_io.proofs.buffer.Out.drop_front.Goals as goal
 pub returns : goal.returns
 returns c =
     let held : take c.self.inside.len (drop c.self.inside.start c.self.inside.cells.items) ≡ c.args.self.now.bytes = ap (λ (b : Buffer). b.bytes) c.self.view_is in
-    let room : length c.self.inside.cells.items ≡ c.args.self.now.room = ap (λ (b : Buffer). b.room) c.self.view_is in
+    let room : c.self.inside.room ≡ c.args.self.now.room = ap (λ (b : Buffer). b.room) c.self.view_is in
     let within : c.args.n ≤ c.self.inside.len = omega (arith, c.requires, ap length held, length-take c.self.inside.len (drop c.self.inside.start c.self.inside.cells.items)) in
     cc (dropped c.self.inside.cells.items c.self.inside.start c.self.inside.len c.args.n within, held, room)

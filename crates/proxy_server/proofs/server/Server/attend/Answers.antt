@@ -1,6 +1,6 @@
 use Rattle.std.proofs.Common.{◌≡◌, ◌++◌, [], length, subst, sym, refl, ap, ◌∙◌, arith}
 use Rattle.std.specs.Io.KnownBytes.{Appends}
-use Rattle.gate_io.specs.declared.hub.HubNext.TheVariants as event
+use Rattle.gate_hub.specs.declared.hub.HubNext.TheVariants as event
 use Rattle.proxy_server.specs.declared.server.Went.TheVariants as went
 use Rattle.proxy_server.specs.declared.server.Stepped.TheVariants as stepped
 use Rattle.gate_io.specs.Fronts.{AppendsFront}

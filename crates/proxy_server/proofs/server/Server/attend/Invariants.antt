@@ -1,7 +1,7 @@
 use Rattle.std.proofs.Common.{◌≡◌, ◌++◌, List, ◌-◌, ◌≤◌}
 use Rattle.std.specs.Io.KnownBytes.{Appends}
-use Rattle.gate_io.specs.Meaning.{Meaning}
-use Rattle.gate_io.specs.Hubs.{Later}
+use Rattle.gate_hub.specs.Meaning.{Meaning}
+use Rattle.gate_hub.specs.Hubs.{Later}
 use Rattle.proxy_server.specs.Serving.{Closing, Keeps, closing_lines}
 use Rattle.proxy_server.specs.Working.{Waits}
 use Rattle.proxy_server.specs.Steps.{setting_of}

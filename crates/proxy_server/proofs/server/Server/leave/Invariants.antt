@@ -1,8 +1,8 @@
 use Rattle.std.proofs.Common.{◌≡◌, ℕ, List, Option, ◌-◌, ◌≤◌, ◌⊎◌, length, take}
-use Rattle.gate_io.specs.Causes.{Rose}
-use Rattle.gate_io.specs.Meaning.{Meaning}
-use Rattle.gate_io.specs.Hubs.{Later}
-use Rattle.gate_io.specs.declared.hub.HubNext.{HubNext}
+use Rattle.gate_base.specs.Causes.{Rose}
+use Rattle.gate_hub.specs.Meaning.{Meaning}
+use Rattle.gate_hub.specs.Hubs.{Later}
+use Rattle.gate_hub.specs.declared.hub.HubNext.{HubNext}
 use Rattle.gate_io.specs.declared.writing.Wrote.TheVariants as wrote
 use Rattle.proxy_server.specs.Serving.{Setting, Closing, Keeps, left_lines}
 use Rattle.proxy_server.specs.Steps.{Writes, Leaves}

@@ -1,6 +1,6 @@
 use Rattle.std.proofs.Common.{◌≡◌, List, ◌-◌, ◌<◌, ◌≤◌, length}
-use Rattle.gate_io.specs.Meaning.{Meaning}
-use Rattle.gate_io.specs.Hubs.{Later}
+use Rattle.gate_hub.specs.Meaning.{Meaning}
+use Rattle.gate_hub.specs.Hubs.{Later}
 use Rattle.proxy_server.specs.Serving.{Setting, Closing, Keeps}
 use Rattle.proxy_server.specs.Working.{IsBusy}
 use Rattle.proxy_server.proofs.server.Server.settle.Given as goal

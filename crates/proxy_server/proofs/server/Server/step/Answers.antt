@@ -1,5 +1,5 @@
 use Rattle.std.proofs.Common.{◌+◌, []}
-use Rattle.gate_io.specs.declared.hub.HubNext.TheVariants as event
+use Rattle.gate_hub.specs.declared.hub.HubNext.TheVariants as event
 use Rattle.proxy_server.specs.Working.{Awaits, Waits, HasWaited, IsNamed}
 use Rattle.proxy_server.specs.Steps.{setting_of}
 use Rattle.gate_io.proofs.Streams.{appends_none}

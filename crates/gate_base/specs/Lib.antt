@@ -1,0 +1,3 @@
+-- When a fault may be answered, and lists that are bytes.
+pub mod Bytes
+pub mod Causes

@@ -1,0 +1,3 @@
+-- What a hub tells, and what its calls do to that.
+pub mod Hubs
+pub mod Meaning

@@ -1,0 +1,6 @@
+-- What the objects in memory do, exactly.
+pub mod Files
+pub mod Hub
+pub mod Laws
+pub mod Link
+pub mod Streams
