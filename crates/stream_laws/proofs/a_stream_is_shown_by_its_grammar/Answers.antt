@@ -6,7 +6,7 @@ use Rattle.stream_laws.proofs.a_stream_is_shown_by_its_grammar.Goals as goal
 
 pub returns : goal.returns
 returns g c k from input a b ending doing source tells told streamed =
-    by_ending k (IsListed k (passage_of k from from)) (λ number frame are. listed law k from doing source number frame are) a b ending (are_read a.left b.left (g.I.Source.bytes input) tells told) streamed
+    by_ending k (IsListed k (passage_of k from from)) (λ number frame are. listed law k from doing source number frame are) a b ending (are_read a.left b.left (g.met.I.Source.bytes input) tells told) streamed
   where
     law : IsShowLaw
     law d service protocols.Binary frame are laws = c.a_frame_is_shown_by_its_grammar.ensures.binary d service frame are
