@@ -78,8 +78,8 @@ too_few k a b text bytes told few s =
     omega (arith, s.6, few, ap length more.1, length-append s.0 more.0)
 
 no_write : (broken : Broken) (a b : Streams) → HasFailed broken a b → (WriteFailed a b → ⊥) → ⊥
-no_write streams.Output a b h no = no (inl h)
-no_write streams.Report a b h no = no (inr h)
+no_write streams.Output a b h whole = whole (inl h)
+no_write streams.Report a b h whole = whole (inr h)
 
 pub good_stream : (k : Terms) (a b : Streams) (ending : Ending) (bytes : List ℕ) (frames : List (List ℕ)) → k.limit < 2 ^ 31 → Streamed k a b ending → a.left ≡ Some bytes → length bytes < MOST_BYTES → Splits k.limit bytes frames [] → any_refused k frames ≡ false → (Rose a.input_faults b.input_faults → ⊥) → (WriteFailed a b → ⊥) → (ending ≡ Done) ⊎ (ending ≡ OutOfMemory)
 good_stream k a b endings.Done bytes frames small c told few splits passed no_read_fault no_write_fault = inl refl

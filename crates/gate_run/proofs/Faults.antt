@@ -7,28 +7,29 @@ use Rattle.gate_run.specs.Checking.{Checks, Good, Bad}
 use Rattle.gate_run.specs.Endings.{code_of}
 use Rattle.gate_run.specs.Outcome.{Streams}
 use Rattle.gate_run.specs.Starting.{Holds, Starting, Goes, Stops, HasCause, Halts}
+use Rattle.gate_run.specs.declared.start.Start.{Start}
 use Rattle.gate_run.specs.declared.start.NoStart.{NoStart}
 use Rattle.gate_run.specs.declared.start.NoStart.TheVariants as stops
 use Rattle.gate_run.specs.declared.status.Ending.{Ending}
 use Rattle.gate_run.specs.declared.status.Ending.TheVariants.{FileFault}
 
-stopped : {X : Type 0} (stop : NoStart) (before now : ℕ) (a b : Streams) (ending : Ending) → HasCause {X = X} (Err stop) before now → Halts stop a b ending → (ending ≡ FileFault) ⊎ (now ≡ before)
-stopped (stops.Refused r) before now a b ending cause halts = inr cause
-stopped stops.UnknownService before now a b ending cause halts = inr cause
-stopped stops.FileFault before now a b ending cause halts = inl halts.is
-stopped stops.OutOfMemory before now a b ending cause halts = inr cause
+stopped : (X : Type 0) (stop : NoStart) (before now : ℕ) (a b : Streams) (ending : Ending) → HasCause {X = X} (Err stop) before now → Halts stop a b ending → (ending ≡ FileFault) ⊎ (now ≡ before)
+stopped X (stops.Refused r) before now a b ending cause halts = inr cause
+stopped X stops.UnknownService before now a b ending cause halts = inr cause
+stopped X stops.FileFault before now a b ending cause halts = inl halts.is
+stopped X stops.OutOfMemory before now a b ending cause halts = inr cause
 
 pub checked_faults : {told : Option Holds} {file : List ℕ} {before now : ℕ} {a b : Streams} {ending : Ending} → Checks told file before now a b ending → (ending ≡ FileFault) ⊎ (now ≡ before)
 checked_faults (Good d told cause tells) = inr cause
-checked_faults {before = before} {now = now} {a = a} {b = b} {ending = ending} (Bad stop told cause halts) = stopped {X = Declarations} stop before now a b ending cause halts
+checked_faults {before = before} {now = now} {a = a} {b = b} {ending = ending} (Bad stop told cause halts) = stopped Declarations stop before now a b ending cause halts
 
 pub stream_faults : {told : Option Holds} {words : Declared} {before now : ℕ} {a b : Streams} {ending : Ending} {Then : Declarations → Option ServiceId → Type 0} → Starting told words before now Then (λ stop. Halts stop a b ending) → (ending ≡ FileFault) ⊎ (now ≡ before)
 stream_faults (Goes s told cause did) = inr cause
-stream_faults {before = before} {now = now} {a = a} {b = b} {ending = ending} (Stops stop told cause halts) = stopped stop before now a b ending cause halts
+stream_faults {before = before} {now = now} {a = a} {b = b} {ending = ending} (Stops stop told cause halts) = stopped Start stop before now a b ending cause halts
 
 pub server_faults : {H : Type 0} {h h' : H} {told : Option Holds} {words : Declared} {before now : ℕ} {a b : Streams} {ending : Ending} {Then : Declarations → Option ServiceId → Type 0} → Starting told words before now Then (λ stop. Halts stop a b ending × (h' ≡ h)) → (ending ≡ FileFault) ⊎ (now ≡ before)
 server_faults (Goes s told cause did) = inr cause
-server_faults {before = before} {now = now} {a = a} {b = b} {ending = ending} (Stops stop told cause halts) = stopped stop before now a b ending cause halts.0
+server_faults {before = before} {now = now} {a = a} {b = b} {ending = ending} (Stops stop told cause halts) = stopped Start stop before now a b ending cause halts.0
 
 -- the same by the exit code
 pub by_code : (code : ℕ) (ending : Ending) (before now : ℕ) → code ≡ code_of ending → (ending ≡ FileFault) ⊎ (now ≡ before) → (code ≡ code_of FileFault) ⊎ (now ≡ before)

@@ -1,5 +1,6 @@
 -- From the moments of a conversion to what the whole conversion did.
-use Rattle.std.proofs.Common.{◌≡◌, ℕ, ◌+◌, ◌-◌, ◌^◌, ◌≤◌, ◌<◌, ◌⊎◌, inl, inr, List, [], ◌++◌, length, take, arith, refl, sym, ◌∙◌, ap, subst, Option, Bool, true, false, ◌||◌, Ok}
+use Rattle.std.proofs.Common.{◌≡◌, ℕ, ◌+◌, ◌-◌, ◌^◌, ◌≤◌, ◌<◌, ◌⊎◌, inl, inr, List, [], ◌++◌, length, take, arith, refl, sym, ◌∙◌, ap, subst, Option, Bool, true, false, ◌||◌, Result, Ok, Err}
+use Rattle.std.specs.Prelude.{⊤, IfErr}
 use Rattle.std.specs.List.{flat_map}
 use Rattle.std.specs.Io.KnownBytes.{Appends, IsAtEnd}
 use Rattle.std.proofs.lemmas.List.{take_all}
@@ -9,13 +10,15 @@ use Rattle.framed_transport.specs.Front.{front, is_whole}
 use Rattle.gate_run.specs.Terms.{Terms}
 use Rattle.gate_io.specs.Fronts.{AppendsFront}
 use Rattle.gate_run.specs.Handling.{output_of, lines, any_refused}
-use Rattle.gate_run.specs.Progress.{Moment, Goes, Breaks, CutsOff, IsStreamLine}
-use Rattle.gate_run.specs.Working.{Ends, EndsInRest, IsWaiting}
+use Rattle.gate_run.specs.Progress.{Moment, Goes, Breaks, CutsOff, HasRisen, IsStreamLine}
+use Rattle.gate_run.specs.Endings.{last_line}
+use Rattle.gate_run.specs.Working.{Closes, Ends, EndsInRest, IsWaiting}
 use Rattle.gate_run.specs.Outcome.{Streams, streams as streams_of, Covers, IsLastLine, CoversAll, IsTooLargeOrAtEnd, EndsWithinAFrame, StopsWith, BreaksOff, Streamed, beginning}
 use Rattle.gate_run.specs.declared.status.Ending.{Ending}
 use Rattle.gate_run.specs.declared.status.Ending.TheVariants as endings
 use Rattle.gate_run.specs.declared.stream.Broken.{Broken}
 use Rattle.gate_run.specs.declared.stream.Broken.TheVariants as streams
+use Rattle.gate_run.specs.declared.stream.TheConstants.{MOST_BYTES}
 use Rattle.gate_io.proofs.Streams.{appends_on, appends_none, consumes_none}
 
 -- where nothing is held, less than a frame is
@@ -75,21 +78,21 @@ pub rose_earlier : (before mid now : ℕ) → before ≤ mid → Rose mid now �
 rose_earlier before mid now h rose = omega arith
 
 -- the last line, or a front of it
-last_line : (r r' : Option (List ℕ)) (text : List ℕ) (before mid now : ℕ) → before ≤ mid → AppendsFront r r' text → Appends r r' text ⊎ Rose mid now → (line : List ℕ) × Appends r r' line × IsLastLine text line before now
-last_line r r' text before mid now h front (inl all) = (text, all, record { front = (length text, omega arith, sym (take_all (length text) text (omega arith))); whole = inl refl })
-last_line r r' text before mid now h front (inr rose) = (take front.0 text, front.2, record { front = (front.0, front.1, refl); whole = inr (rose_earlier before mid now h rose) })
+as_last_line : (r r' : Option (List ℕ)) (text : List ℕ) (before mid now : ℕ) → before ≤ mid → AppendsFront r r' text → Appends r r' text ⊎ Rose mid now → (line : List ℕ) × Appends r r' line × IsLastLine text line before now
+as_last_line r r' text before mid now h front (inl all) = (text, all, record { front = (length text, omega arith, sym (take_all (length text) text (omega arith))); whole = inl refl })
+as_last_line r r' text before mid now h front (inr rose) = (take front.0 text, front.2, record { front = (front.0, front.1, refl); whole = inr (rose_earlier before mid now h rose) })
 
 -- what was read is handled, and the last line, or a front of it, was written
 pub stops_with : (k : Terms) (a b : Moment) (i o e i' o' mid e' : ℕ) (reported : Option (List ℕ)) (text : List ℕ) (Many : ℕ → Type 0) → a.held ≡ [] → a.frames ≡ 0 → a.taken ≡ 0 → Goes k a b → IsWaiting k b.held → e ≤ mid → AppendsFront b.reported reported text → Appends b.reported reported text ⊎ Rose mid e' → Many b.taken → StopsWith k (at a i o e) (streams_of b.left b.written reported i' o' e') text Many
 stops_with k a b i o e i' o' mid e' reported text Many none first untaken goes waits later front whole many =
-    let last = last_line b.reported reported text e mid e' later front whole in
+    let last = as_last_line b.reported reported text e mid e' later front whole in
     let taken : b.taken ≡ length goes.read = omega (arith, goes.taken, untaken) in
     (goes.read, goes.frames, b.held, last.0, covers k a b i o e i' o' e' reported last.0 none first goes (no_frame_in_part k b.held waits) last.1, last.2, subst Many taken many)
 
 -- before anything was read
 pub stops_at_once : (k : Terms) (left written r r' : Option (List ℕ)) (i o e e' : ℕ) (text : List ℕ) → AppendsFront r r' text → Appends r r' text ⊎ Rose e e' → StopsWith k (streams_of left written r i o e) (streams_of left written r' i o e') text (λ n. n ≡ 0)
 stops_at_once k left written r r' i o e e' text front whole =
-    let last = last_line r r' text e e e' (omega arith) front whole in (
+    let last = as_last_line r r' text e e e' (omega arith) front whole in (
       [],
       [],
       [],
@@ -140,16 +143,39 @@ breaks_off broken k a b i o e i' o' e' none first p = record {
 
 -- ---- by its ending
 
--- a stream that was gone through to its end, or to a rest that is no frame
-pub by_ending : (ending : Ending) (k : Terms) (a b : Moment) (i o e i' o' e' : ℕ) → a.held ≡ [] → a.frames ≡ 0 → a.refused ≡ false →
-    (Ok {E = Broken} ending ≡ Ok endings.ReadFault → ⊥) → (Ok {E = Broken} ending ≡ Ok endings.BudgetSpent → ⊥) → Ends k a b (Ok ending) → Streamed k (at a i o e) (at b i' o' e') ending
-by_ending endings.Done k a b i o e i' o' e' none first passed no_read no_budget h = covers_all k a b i o e i' o' e' false none first passed h.0 h.1 h.2 h.3
-by_ending endings.Refused k a b i o e i' o' e' none first passed no_read no_budget h = covers_all k a b i o e i' o' e' true none first passed h.0 h.1 h.2 h.3
-by_ending endings.StreamFault k a b i o e i' o' e' none first passed no_read no_budget h = covers_rest k a b i o e i' o' e' none first h
-by_ending endings.ReadFault k a b i o e i' o' e' none first passed no_read no_budget h = absurd (no_read refl)
-by_ending endings.BudgetSpent k a b i o e i' o' e' none first passed no_read no_budget h = absurd (no_budget refl)
-by_ending endings.Usage k a b i o e i' o' e' none first passed no_read no_budget h = absurd h
-by_ending endings.WriteFault k a b i o e i' o' e' none first passed no_read no_budget h = absurd h
-by_ending endings.FileFault k a b i o e i' o' e' none first passed no_read no_budget h = absurd h
-by_ending endings.HubFault k a b i o e i' o' e' none first passed no_read no_budget h = absurd h
-by_ending endings.OutOfMemory k a b i o e i' o' e' none first passed no_read no_budget h = absurd h
+pub closes_none : (ending : Ending) (w : Option (List ℕ)) (before now : ℕ) → (ending ≡ endings.ReadFault → ⊥) → (ending ≡ endings.BudgetSpent → ⊥) → Closes ending w w before now
+closes_none endings.ReadFault w before now no_read no_budget = absurd (no_read refl)
+closes_none endings.BudgetSpent w before now no_read no_budget = absurd (no_budget refl)
+closes_none endings.Done w before now no_read no_budget = refl
+closes_none endings.Refused w before now no_read no_budget = refl
+closes_none endings.StreamFault w before now no_read no_budget = refl
+closes_none endings.Usage w before now no_read no_budget = refl
+closes_none endings.WriteFault w before now no_read no_budget = refl
+closes_none endings.FileFault w before now no_read no_budget = refl
+closes_none endings.HubFault w before now no_read no_budget = refl
+closes_none endings.OutOfMemory w before now no_read no_budget = refl
+
+-- a stream that was gone through to its end, to a rest that is no frame, to a fault of the input or as far as the budget goes
+pub by_ending : (ending : Ending) (k : Terms) (a b : Moment) (i o e i' o' mid e' : ℕ) (reported : Option (List ℕ)) → a.held ≡ [] → a.frames ≡ 0 → a.refused ≡ false → a.taken ≡ 0 → e ≤ mid →
+    (ending ≡ endings.ReadFault → Rose i i') → Ends k a b (Ok ending) → Closes ending b.reported reported mid e' → Streamed k (at a i o e) (streams_of b.left b.written reported i' o' e') ending
+by_ending endings.Done k a b i o e i' o' mid e' reported none first passed untaken later read h c =
+    subst (λ (r : Option (List ℕ)). CoversAll k (at a i o e) (streams_of b.left b.written r i' o' e') false) (sym c) (covers_all k a b i o e i' o' e' false none first passed h.0 h.1 h.2 h.3)
+by_ending endings.Refused k a b i o e i' o' mid e' reported none first passed untaken later read h c =
+    subst (λ (r : Option (List ℕ)). CoversAll k (at a i o e) (streams_of b.left b.written r i' o' e') true) (sym c) (covers_all k a b i o e i' o' e' true none first passed h.0 h.1 h.2 h.3)
+by_ending endings.StreamFault k a b i o e i' o' mid e' reported none first passed untaken later read h c =
+    subst (λ (r : Option (List ℕ)). EndsWithinAFrame k (at a i o e) (streams_of b.left b.written r i' o' e')) (sym c) (covers_rest k a b i o e i' o' e' none first h)
+by_ending endings.ReadFault k a b i o e i' o' mid e' reported none first passed untaken later read h c =
+    (read refl, stops_with k a b i o e i' o' mid e' reported (last_line endings.ReadFault) (λ _. ⊤) none first untaken h.0 h.1 later c.0 c.1 tt)
+by_ending endings.BudgetSpent k a b i o e i' o' mid e' reported none first passed untaken later read h c =
+    stops_with k a b i o e i' o' mid e' reported (last_line endings.BudgetSpent) (λ n. n ≡ MOST_BYTES) none first untaken h.0 h.1 later c.0 c.1 h.2
+by_ending endings.Usage k a b i o e i' o' mid e' reported none first passed untaken later read h c = absurd h
+by_ending endings.WriteFault k a b i o e i' o' mid e' reported none first passed untaken later read h c = absurd h
+by_ending endings.FileFault k a b i o e i' o' mid e' reported none first passed untaken later read h c = absurd h
+by_ending endings.HubFault k a b i o e i' o' mid e' reported none first passed untaken later read h c = absurd h
+by_ending endings.OutOfMemory k a b i o e i' o' mid e' reported none first passed untaken later read h c = absurd h
+
+-- a fault of the report that came after this moment
+pub risen_later : (r : Result Ending Broken) (o o' e mid e' : ℕ) → e ≤ mid → IfErr r (λ broken. HasRisen broken o o' mid e') → IfErr r (λ broken. HasRisen broken o o' e e')
+risen_later (Ok ending) o o' e mid e' later h = tt
+risen_later (Err streams.Output) o o' e mid e' later h = h
+risen_later (Err streams.Report) o o' e mid e' later h = rose_earlier e mid e' later h

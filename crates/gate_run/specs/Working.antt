@@ -2,9 +2,11 @@
 use Rattle.std.specs.Prelude.{◌≡◌, ℕ, ◌+◌, ◌^◌, ◌<◌, ◌≤◌, ◌⊎◌, ℤ, List, [], ◌++◌, length, true, false, Option, Some, None, Result, Ok, Err, ⊤}
 use Rattle.std.specs.List.{flat_map}
 use Rattle.std.specs.Io.KnownBytes.{Appends, IsAtEnd, append_known}
+use Rattle.gate_base.specs.Causes.{Rose}
 use Rattle.framed_transport.specs.Front.{front, Part, Large}
 use Rattle.gate_run.specs.Progress.{Moment, Goes, Breaks, IsStreamLine}
 use Rattle.gate_io.specs.Buffer.{Buffer}
+use Rattle.gate_run.specs.Endings.{last_line}
 use Rattle.gate_run.specs.Terms.{Terms}
 use Rattle.gate_io.specs.Fronts.{AppendsFront, Flushed}
 use Rattle.gate_run.specs.Handling.{Treated, Passes, Fails, output_of, lines}
@@ -145,6 +147,19 @@ pub record EndsInRest (k : Terms) (a b : Moment) : Type 0 where
   pub reported : Appends mid.reported b.reported line
   pub left : b.left ≡ mid.left
   pub at_end : ((n : ℤ) × (front k.limit mid.held ≡ Large n)) ⊎ IsAtEnd mid.left
+
+-- the last line of a read fault and of a spent budget was reported, or a front of it; other endings have none
+abbrev pub Closes : Ending → Option (List ℕ) → Option (List ℕ) → ℕ → ℕ → Type 0
+Closes endings.ReadFault old new before now = AppendsFront old new (last_line endings.ReadFault) × (Appends old new (last_line endings.ReadFault) ⊎ Rose before now)
+Closes endings.BudgetSpent old new before now = AppendsFront old new (last_line endings.BudgetSpent) × (Appends old new (last_line endings.BudgetSpent) ⊎ Rose before now)
+Closes endings.Done old new before now = new ≡ old
+Closes endings.Refused old new before now = new ≡ old
+Closes endings.StreamFault old new before now = new ≡ old
+Closes endings.Usage old new before now = new ≡ old
+Closes endings.WriteFault old new before now = new ≡ old
+Closes endings.FileFault old new before now = new ≡ old
+Closes endings.HubFault old new before now = new ≡ old
+Closes endings.OutOfMemory old new before now = new ≡ old
 
 abbrev pub Ends : Terms → Moment → Moment → Result Ending Broken → Type 0
 Ends k a b (Ok endings.Done) = Goes k a b × (b.held ≡ []) × (b.refused ≡ false) × IsAtEnd b.left

@@ -3,14 +3,14 @@
 //!
 //! What comes of the frames is gathered, and written where no whole frame is held or the room for the next one might not
 //! do: the output first, and then the lines of the report.
-ghost use Rattle.std.specs.Prelude.{◌≡◌, ◌+◌, ◌^◌, ◌<◌, ◌≤◌, [], ℕ, List, Option, None, Some, Ok, length, IfOk, IfErr, OnOk};
+ghost use Rattle.std.specs.Prelude.{◌≡◌, ◌+◌, ◌^◌, ◌<◌, ◌≤◌, [], ℕ, List, Option, None, Some, length, IfOk, IfErr, OnOk};
 ghost use Rattle.std.specs.Io.KnownBytes.{IsAtEnd};
 ghost use Rattle.gate_base.specs.Causes.{Rose};
 ghost use Rattle.framed_transport.specs.Front.{front, Large};
 ghost use Rattle.gate_run.specs.Outcome.{Streamed, streams};
 ghost use Rattle.gate_run.specs.Progress.{HasRisen};
 ghost use Rattle.gate_run.specs.Rooms.{framed_room};
-ghost use Rattle.gate_run.specs.Working.{IsReady, IsFlushed, IsStart, IsWaiting, moment, Handles, Drains, Takes, Ends, WritesBoth, MakesRoom};
+ghost use Rattle.gate_run.specs.Working.{IsReady, IsFlushed, IsStart, IsWaiting, moment, Closes, Handles, Drains, Takes, Ends, WritesBoth, MakesRoom};
 
 use crate::frame::{WriteFault, handle};
 use crate::lines::{self, LINE_ROOM};
@@ -79,10 +79,21 @@ pub fn stream<I: Source, O: Sink, E: Sink>(
         return end_with(report, Ending::OutOfMemory);
     };
     match work.process(task, &mut room, input, output, report) {
-        Ok(Ending::ReadFault) => end_with(report, Ending::ReadFault),
-        Ok(Ending::BudgetSpent) => end_with(report, Ending::BudgetSpent),
-        Ok(ending) => ending,
+        Ok(ending) => close(report, ending),
         Err(_) => Ending::WriteFault,
+    }
+}
+
+// Reports the last line of the ending, if it has one.
+fn close<E: Sink>(report: &mut E, ending: Ending) -> Ending
+    ensures ending { result ≡ ending }
+    ensures closed { Closes ending (E.written report.old) (E.written report.new) (E.faults report.old) (E.faults report.new) }
+    ensures later { E.faults report.old ≤ E.faults report.new }
+{
+    match ending {
+        Ending::ReadFault => end_with(report, Ending::ReadFault),
+        Ending::BudgetSpent => end_with(report, Ending::BudgetSpent),
+        _ => ending,
     }
 }
 
@@ -127,7 +138,7 @@ impl Work {
         ensures input_later { I.faults input.old ≤ I.faults input.new }
         ensures later { O.faults output.old ≤ O.faults output.new }
         ensures report_later { E.faults report.old ≤ E.faults report.new }
-        ensures read_fault { result ≡ Ok Ending.ReadFault → Rose (I.faults input.old) (I.faults input.new) }
+        ensures read_fault { IfOk result (λ ending. ending ≡ Ending.ReadFault → Rose (I.faults input.old) (I.faults input.new)) }
         ensures cause { IfErr result (λ broken. HasRisen broken (O.faults output.old) (O.faults output.new) (E.faults report.old) (E.faults report.new)) }
     {
         'pieces: while self.taken < MOST_BYTES {
@@ -257,7 +268,7 @@ impl Work {
             (moment self.old left written (E.written report.old))
             (moment self.new left written (E.written report.new)) result }
         ensures later { E.faults report.old ≤ E.faults report.new }
-        ensures no_read_fault { result ≡ Ok Ending.ReadFault → ⊥ }
+        ensures no_read_fault { IfOk result (λ ending. ending ≡ Ending.ReadFault → ⊥) }
         ensures cause { (before now : ℕ) → IfErr result (λ broken. HasRisen broken before now (E.faults report.old) (E.faults report.new)) }
     {
         let count = self.frames.held();
@@ -288,7 +299,7 @@ impl Work {
             (moment self.old left written (E.written report.old))
             (moment self.new left written (E.written report.new)) result }
         ensures later { E.faults report.old ≤ E.faults report.new }
-        ensures no_read_fault { result ≡ Ok Ending.ReadFault → ⊥ }
+        ensures no_read_fault { IfOk result (λ ending. ending ≡ Ending.ReadFault → ⊥) }
         ensures cause { (before now : ℕ) → IfErr result (λ broken. HasRisen broken before now (E.faults report.old) (E.faults report.new)) }
     {
         lines::too_large(&mut self.lines, self.number + 1, length);

@@ -1,5 +1,6 @@
-use Rattle.std.proofs.Common.{◌≡◌, inl, inr, refl}
-use Rattle.gate_run.specs.declared.start.NoStart.TheVariants.{OutOfMemory}
+use Rattle.std.proofs.Common.{◌≡◌, Some, None, inl, refl}
+use Rattle.gate_words.specs.Commands.{command}
+use Rattle.gate_words.specs.declared.command.Command.TheVariants as commands
 use Rattle.gate_run.proofs.Faults.{checked_faults, stream_faults, server_faults, by_code}
 use Rattle.gate_run.proofs.Starts.{unread}
 use Rattle.gate_run.proofs.commands.run.Goals as goal
@@ -9,7 +10,8 @@ returns-in-Ok-Some-Check-clause-does g c =
     let made = c.check.ensures.checks (g.I.Source.left c.args.input.now) (g.I.Source.faults c.args.input.now) in
     let here : c.as_slice.result.now ≡ c.in-Ok-Some-Check.file = c.as_slice.ensures in
     let done = rw here at made in
-    rw (← c.in-Ok-Some-Check.ensures.value) (c.check.result, c.status.ensures, done)
+    let named : Some (commands.Check c.in-Ok-Some-Check.file) ≡ command c.args.words.now = cc (c.in-Ok-Some-Check.ensures.value) in
+    rw (← named) (c.check.result, c.status.ensures, done)
 
 pub returns-in-Ok-Some-Check-clause-no_file_fault : goal.returns-in-Ok-Some-Check-clause-no_file_fault
 returns-in-Ok-Some-Check-clause-no_file_fault g c =
@@ -17,7 +19,8 @@ returns-in-Ok-Some-Check-clause-no_file_fault g c =
 
 pub returns-in-Ok-Some-Convert-clause-does : goal.returns-in-Ok-Some-Convert-clause-does
 returns-in-Ok-Some-Convert-clause-does g c =
-    rw (← c.in-Ok-Some-Convert.ensures.value) (c.start_stream.result, c.status-in-Ok-Some-Convert.ensures, c.start_stream.ensures.streamed)
+    let named : Some (commands.Convert c.in-Ok-Some-Convert.k c.in-Ok-Some-Convert.declared) ≡ command c.args.words.now = cc (c.in-Ok-Some-Convert.ensures.value) in
+    rw (← named) (c.start_stream.result, c.status-in-Ok-Some-Convert.ensures, c.start_stream.ensures.streamed)
 
 pub returns-in-Ok-Some-Convert-clause-no_file_fault : goal.returns-in-Ok-Some-Convert-clause-no_file_fault
 returns-in-Ok-Some-Convert-clause-no_file_fault g c =
@@ -25,7 +28,8 @@ returns-in-Ok-Some-Convert-clause-no_file_fault g c =
 
 pub returns-in-Ok-Some-Show-clause-does : goal.returns-in-Ok-Some-Show-clause-does
 returns-in-Ok-Some-Show-clause-does g c =
-    rw (← c.in-Ok-Some-Show.ensures.value) (c.start_stream-in-Ok-Some-Show.result, c.status-in-Ok-Some-Show.ensures, c.start_stream-in-Ok-Some-Show.ensures.streamed)
+    let named : Some (commands.Show c.in-Ok-Some-Show.k c.in-Ok-Some-Show.declared) ≡ command c.args.words.now = cc (c.in-Ok-Some-Show.ensures.value) in
+    rw (← named) (c.start_stream-in-Ok-Some-Show.result, c.status-in-Ok-Some-Show.ensures, c.start_stream-in-Ok-Some-Show.ensures.streamed)
 
 pub returns-in-Ok-Some-Show-clause-no_file_fault : goal.returns-in-Ok-Some-Show-clause-no_file_fault
 returns-in-Ok-Some-Show-clause-no_file_fault g c =
@@ -33,7 +37,8 @@ returns-in-Ok-Some-Show-clause-no_file_fault g c =
 
 pub returns-in-Ok-Some-Serve-clause-does : goal.returns-in-Ok-Some-Serve-clause-does
 returns-in-Ok-Some-Serve-clause-does g c =
-    rw (← c.in-Ok-Some-Serve.ensures.value) (
+    let named : Some (commands.Serve c.in-Ok-Some-Serve.serving c.in-Ok-Some-Serve.declared) ≡ command c.args.words.now = cc (c.in-Ok-Some-Serve.ensures.value) in
+    rw (← named) (
       c.start_server.result,
       c.status-in-Ok-Some-Serve.ensures,
       c.start_server.ensures.serves (g.I.Source.left c.args.input.now) (g.I.Source.faults c.args.input.now),
@@ -45,7 +50,8 @@ returns-in-Ok-Some-Serve-clause-no_file_fault g c =
 
 pub returns-in-Ok-Some-Drill-clause-does : goal.returns-in-Ok-Some-Drill-clause-does
 returns-in-Ok-Some-Drill-clause-does g c =
-    rw (← c.in-Ok-Some-Drill.ensures.value) (
+    let named : Some (commands.Drill c.in-Ok-Some-Drill.drilling) ≡ command c.args.words.now = cc (c.in-Ok-Some-Drill.ensures.value) in
+    rw (← named) (
       c.drill_all.result,
       c.status-in-Ok-Some-Drill.ensures,
       c.drill_all.ensures.drills (g.I.Source.left c.args.input.now) (g.I.Source.faults c.args.input.now),
@@ -53,7 +59,8 @@ returns-in-Ok-Some-Drill-clause-does g c =
 
 pub returns-in-Ok-Some-Help-clause-does : goal.returns-in-Ok-Some-Help-clause-does
 returns-in-Ok-Some-Help-clause-does g c =
-    rw (← c.in-Ok-Some-Help.ensures.value) (
+    let named : Some commands.Help ≡ command c.args.words.now = cc (c.in-Ok-Some-Help.ensures.value) in
+    rw (← named) (
       c.help.result,
       c.status-in-Ok-Some-Help.ensures,
       inl (c.help.ensures.helps (g.I.Source.left c.args.input.now) (g.E.Sink.written c.args.report.now) (g.I.Source.faults c.args.input.now) (g.E.Sink.faults c.args.report.now)),
@@ -61,7 +68,8 @@ returns-in-Ok-Some-Help-clause-does g c =
 
 pub returns-in-Ok-None-clause-does : goal.returns-in-Ok-None-clause-does
 returns-in-Ok-None-clause-does g c =
-    rw (← c.in-Ok-None.ensures.value) (
+    let named : None ≡ command c.args.words.now = cc (c.in-Ok-None.ensures.value) in
+    rw (← named) (
       c.usage.result,
       c.status-in-Ok-None.ensures,
       inl (record { left = refl; written = refl; front = c.usage.ensures.front; ends = c.usage.ensures.ends }),

@@ -3,12 +3,12 @@ use Rattle.gate_run.specs.Working.{IsRoomy, moment}
 use Rattle.gate_run.proofs.Draining.{all_drained, drain_broke}
 use Rattle.gate_run.proofs.stream.Work.drain.Goals as goal
 
-pub returns-in-Ok-clause-drained : goal.returns-in-Ok-clause-drained
-returns-in-Ok-clause-drained g c = λ left.
+pub returns-in-Ok-flush_both-clause-drained : goal.returns-in-Ok-flush_both-clause-drained
+returns-in-Ok-flush_both-clause-drained g c = λ left.
     all_drained c.args.task.now _ (moment c.handle_frames.new.self left (g.O.Sink.written c.handle_frames.new.output) (g.E.Sink.written c.handle_frames.new.report)) _
     c.handle_frames.new.self.page.out.bytes c.handle_frames.new.self.lines.bytes c.in-Ok.large (c.in-Ok.ensures.handled left) refl refl refl refl refl c.in-Ok-flush_both.ensures.both.0 c.in-Ok-flush_both.ensures.both.1
 
-pub returns-in-Err-clause-drained : goal.returns-in-Err-clause-drained
-returns-in-Err-clause-drained g c = λ left.
-    drain_broke c.in-Err.broken c.args.task.now _ (moment c.handle_frames.new.self left (g.O.Sink.written c.handle_frames.new.output) (g.E.Sink.written c.handle_frames.new.report)) _
-    c.handle_frames.new.self.page.out.bytes c.handle_frames.new.self.lines.bytes c.in-Ok.large (c.in-Ok.ensures.handled left) refl c.in-Err.ensures.both
+pub returns-in-Err-flush_both-clause-drained : goal.returns-in-Err-flush_both-clause-drained
+returns-in-Err-flush_both-clause-drained g c = λ left.
+    drain_broke c.in-Err-flush_both.broken c.args.task.now _ (moment c.handle_frames.new.self left (g.O.Sink.written c.handle_frames.new.output) (g.E.Sink.written c.handle_frames.new.report)) _
+    c.handle_frames.new.self.page.out.bytes c.handle_frames.new.self.lines.bytes c.in-Ok.large (c.in-Ok.ensures.handled left) refl c.in-Err-flush_both.ensures.both

@@ -44,14 +44,8 @@ returns-in-TooLarge-clause-handled g c = λ left.
       (let fits : SFits w32 c.in-TooLarge.length = search rules in rw (to_z-of_z w32 c.in-TooLarge.length fits) (ap (λ n. front n c.frames.self.frames.held) (sym i.ready.limit_is) ∙ c.in-TooLarge.ensures.exact)),
     )
 
-pub overflow_mul-wanted : goal.overflow_mul-wanted
-overflow_mul-wanted g c =
-    let i = c.frames.invariant in
-    let cut = cut_at c.args.task.now.limit c.frames.self.frames.limit c.frames.self.frames.held c.in-Frame.frame.now c.in-Frame.ensures.exact.0 i.ready.limit_is c.in-Frame.ensures.exact.1 c.in-Frame.ensures.cut in
-    omega (arith, cut.within, c.requires.limit)
-
-pub overflow_add-wanted : goal.overflow_add-wanted
-overflow_add-wanted g c =
+pub framed_room-wanted-requires : goal.framed_room-wanted-requires
+framed_room-wanted-requires g c =
     let i = c.frames.invariant in
     let cut = cut_at c.args.task.now.limit c.frames.self.frames.limit c.frames.self.frames.held c.in-Frame.frame.now c.in-Frame.ensures.exact.0 i.ready.limit_is c.in-Frame.ensures.exact.1 c.in-Frame.ensures.cut in
     omega (arith, cut.within, c.requires.limit)
@@ -65,7 +59,7 @@ pub handle-requires-clause-fits : goal.handle-requires-clause-fits
 handle-requires-clause-fits g c =
     let i = c.frames.invariant in
     let cut = cut_at c.args.task.now.limit c.frames.self.frames.limit c.frames.self.frames.held c.in-Frame.frame.now c.in-Frame.ensures.exact.0 i.ready.limit_is c.in-Frame.ensures.exact.1 c.in-Frame.ensures.cut in
-    has_room c.args.task.now.doing c.args.task.now.limit (length c.in-Frame.frame.now) c.frames.self.page.out.room c.make_room.new.page.out cut.within c.requires.limit i.ready.page c.make_room.ensures.room c.in-Ok.ensures.wanted
+    has_room c.args.task.now.doing c.args.task.now.limit (length c.in-Frame.frame.now) c.frames.self.page.out.room c.make_room.new.page.out cut.within c.requires.limit i.ready.page c.make_room.ensures.room (rw c.framed_room-wanted.ensures at c.in-Ok.ensures.wanted)
 
 pub handle-requires-clause-room : goal.handle-requires-clause-room
 handle-requires-clause-room g c =

@@ -3,6 +3,7 @@ use Rattle.std.specs.Int.{w32}
 use mir.Val.{SFits}
 use Rattle.std.proofs.lemmas.Int.{to_z-of_z}
 use Rattle.gate_run.specs.Working.{moment}
+use Rattle.gate_run.proofs.Outcome.{risen_later}
 use Rattle.gate_run.proofs.Progress.{goes_nowhere, goes_on, goes_and_breaks, ends_on}
 use Rattle.gate_run.proofs.stream.Work.process.Goals as goal
 
@@ -30,14 +31,14 @@ returns-in-End-clause-ended g c =
 pub pieces-smaller : goal.pieces-smaller
 pieces-smaller g c =
     let took = c.in-Bytes.ensures.taken (g.O.Sink.written c.pieces.output) (g.E.Sink.written c.pieces.report) in
-    let went = c.in-Ok-None.ensures.drained (g.I.Source.left c.take.new.input) in
+    let went = rw c.in-Ok-None.field-0-is at (c.in-Ok-None.ensures.drained (g.I.Source.left c.take.new.input)) in
     omega (arith, took.1, went.0.taken, c.pieces.invariant.ready.taken)
 
 pub pieces-preserved : goal.pieces-preserved
 pieces-preserved g c =
     let i = c.pieces.invariant in
     let took = c.in-Bytes.ensures.taken (g.O.Sink.written c.pieces.output) (g.E.Sink.written c.pieces.report) in
-    let went = c.in-Ok-None.ensures.drained (g.I.Source.left c.take.new.input) in
+    let went = rw c.in-Ok-None.field-0-is at (c.in-Ok-None.ensures.drained (g.I.Source.left c.take.new.input)) in
     record {
       ready = c.drain.ensures.ready;
       flushed = c.in-Ok-None.ensures.flushed;
@@ -51,13 +52,13 @@ pieces-preserved g c =
 pub too_large-requires-clause-large : goal.too_large-requires-clause-large
 too_large-requires-clause-large g c =
     let fits : SFits w32 c.in-Ok-Some.length = search rules in
-    let went = c.in-Ok-Some.ensures.drained (g.I.Source.left c.take.new.input) in
+    let went = rw c.in-Ok-Some.field-0-is at (c.in-Ok-Some.ensures.drained (g.I.Source.left c.take.new.input)) in
     rw (to_z-of_z w32 c.in-Ok-Some.length fits) went.1
 
 pub returns-in-Ok-Some-clause-ended : goal.returns-in-Ok-Some-clause-ended
 returns-in-Ok-Some-clause-ended g c =
     let took = c.in-Bytes.ensures.taken (g.O.Sink.written c.pieces.output) (g.E.Sink.written c.pieces.report) in
-    let went = c.in-Ok-Some.ensures.drained (g.I.Source.left c.take.new.input) in
+    let went = rw c.in-Ok-Some.field-0-is at (c.in-Ok-Some.ensures.drained (g.I.Source.left c.take.new.input)) in
     let mid = moment c.drain.new.self (g.I.Source.left c.take.new.input) (g.O.Sink.written c.drain.new.output) (g.E.Sink.written c.drain.new.report) in
     let last = moment c.too_large.new.self (g.I.Source.left c.take.new.input) (g.O.Sink.written c.drain.new.output) (g.E.Sink.written c.too_large.new.report) in
     ends_on c.args.task.now _ mid last c.too_large.result
@@ -72,3 +73,13 @@ returns-in-Err-clause-ended g c =
     goes_and_breaks c.in-Err.broken c.args.task.now _ mid last
     (goes_on c.args.task.now _ _ _ c.pieces.invariant.goes took.0)
     (c.in-Err.ensures.drained (g.I.Source.left c.take.new.input))
+
+pub returns-in-End-clause-cause : goal.returns-in-End-clause-cause
+returns-in-End-clause-cause g c =
+    risen_later c.finish.result _ _ _ (g.E.Sink.faults c.pieces.report) _ c.pieces.invariant.report_later
+    (c.finish.ensures.cause (g.O.Sink.faults c.args.output.now) (g.O.Sink.faults c.pieces.output))
+
+pub returns-in-Ok-Some-clause-cause : goal.returns-in-Ok-Some-clause-cause
+returns-in-Ok-Some-clause-cause g c =
+    risen_later c.too_large.result _ _ _ (g.E.Sink.faults c.drain.new.report) _ (omega (arith, c.pieces.invariant.report_later, c.drain.ensures.report_later))
+    (c.too_large.ensures.cause (g.O.Sink.faults c.args.output.now) (g.O.Sink.faults c.drain.new.output))
