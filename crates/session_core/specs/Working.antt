@@ -4,7 +4,8 @@ use Rattle.session_core.specs.declared.outcome.Halt.TheVariants as halt
 use Rattle.framed_transport.specs.Frames.{IsCut}
 use Rattle.framed_transport.specs.Front.{Whole, front}
 use Rattle.session_core.specs.Rules.{Rules}
-use Rattle.session_core.specs.Standing.{Standing}
+use Rattle.session_core.specs.Standing.{Standing, History}
+use Rattle.session_core.specs.Fits.{Fits}
 use Rattle.session_core.specs.Steps.{Move, Waits, Halts, Takes, of_upstream, of_client, is_none, by_upstream, by_client}
 use Rattle.session_core.specs.Ends.{IsAtRest}
 use Rattle.session_core.specs.declared.outcome.Outcome.{Outcome}
@@ -41,6 +42,19 @@ pub record IsReady (limit most : ℕ) (s : State) : Type 0 where
   pub calls : s.calls.capacity ≡ most
   pub some : 0 < most
   pub few : most ≤ 65536
+
+-- its rooms serve for its own limit and number of calls
+abbrev pub IsSound : State → Type 0
+IsSound s = IsReady s.client.limit s.calls.capacity s
+
+-- and later for the same
+abbrev pub StaysSound : State → State → Type 0
+StaysSound old new = IsReady old.client.limit old.calls.capacity new
+
+-- what came and went fits the later state too, with what was added on the way
+abbrev pub FitsOn : Rules → State → State → (History → History) → Type 0
+FitsOn rules old new on =
+    (h : History) → Fits rules old.client.limit old.calls.capacity h (standing old) → Fits rules old.client.limit old.calls.capacity (on h) (standing new)
 
 -- what came of a look at a side
 abbrev pub Turns : Turn → Move → Standing → Standing → Type 0
@@ -86,6 +100,10 @@ ending_of limit s why = if is_none s.to_client && is_none s.to_upstream then end
 -- between two calls the session is at rest
 abbrev pub IsSettled : Rules → ℕ → ℕ → State → Type 0
 IsSettled rules limit most s = IsAtRest rules limit most (standing s) s.outcome
+
+-- so it is by the limit and the number of calls that it began with
+abbrev pub IsSettledBy : Rules → State → State → Type 0
+IsSettledBy rules old s = IsSettled rules old.client.limit old.calls.capacity s
 
 -- the verdict on a frame that waits
 abbrev pub judged_as : Waiting → ClientJudged

@@ -27,7 +27,7 @@ ghost use Rattle.session_core.specs.Standing.{Standing, History, begun};
 ghost use Rattle.session_core.specs.Fits.{Fits, told};
 ghost use Rattle.session_core.specs.Steps.{of_upstream, of_client, outcome_of, IsStill, is_none, by_judged, by_upstream, by_client, at_end, Move, Waits};
 ghost use Rattle.session_core.specs.Ends.{TakesNoMore, held_of};
-ghost use Rattle.session_core.specs.Working.{standing, IsSettled, IsReady, Turns, Stops, Goes, Cuts, ends_turn, ending_of, Knows, IsFound};
+ghost use Rattle.session_core.specs.Working.{standing, IsReady, IsSound, StaysSound, IsSettledBy, FitsOn, Turns, Stops, Goes, Cuts, ends_turn, ending_of, Knows, IsFound};
 
 use crate::framing::{answer_call, judge_client, judge_upstream};
 use crate::judge::{Call, ClientJudged, Judge, UpstreamJudged};
@@ -111,11 +111,11 @@ impl State {
 
     /// Takes the upstream's front frame for the oldest open call, once nothing is due to the client.
     fn upstream_turn<J: Judge>(&mut self, judge: &mut J) -> Turn
-        requires ready { IsReady self.old.client.limit self.old.calls.capacity self.old }
+        requires ready { IsSound self.old }
         requires fits { self.old.client.limit ≤ J.longest judge.old }
         ensures same { judge.new ≡ judge.old }
         ensures kept { (self.new.known ≡ self.old.known) × (self.new.client ≡ self.old.client) }
-        ensures ready { IsReady self.old.client.limit self.old.calls.capacity self.new }
+        ensures ready { StaysSound self.old self.new }
         ensures turned { Turns result (of_upstream (J.rules judge.old) self.old.client.limit (standing self.old)) (standing self.old) (standing self.new) }
         ensures cut { result ≡ Turn.Takes → Cuts self.old.upstream.limit self.old.upstream.held }
     {
@@ -170,12 +170,12 @@ impl State {
 
     /// Takes the client's front frame, while nothing is due to the upstream and a call may open.
     fn client_turn<J: Judge>(&mut self, judge: &mut J) -> Turn
-        requires ready { IsReady self.old.client.limit self.old.calls.capacity self.old }
+        requires ready { IsSound self.old }
         requires fits { self.old.client.limit ≤ J.longest judge.old }
         requires known { Knows (J.rules judge.old) self.old }
         ensures same { judge.new ≡ judge.old }
         ensures known { Knows (J.rules judge.old) self.new }
-        ensures ready { IsReady self.old.client.limit self.old.calls.capacity self.new }
+        ensures ready { StaysSound self.old self.new }
         ensures turned { Turns result (of_client (J.rules judge.old) self.old.client.limit self.old.calls.capacity (standing self.old)) (standing self.old) (standing self.new) }
         ensures cut { result ≡ Turn.Takes → Cuts self.old.client.limit self.old.client.held }
     {
@@ -190,7 +190,7 @@ impl State {
 
     /// Continues with the client's front frame by its stored verdict.
     fn wait_turn<J: Judge>(&mut self, judge: &mut J, waiting: Waiting) -> Turn
-        requires ready { IsReady self.old.client.limit self.old.calls.capacity self.old }
+        requires ready { IsSound self.old }
         requires fits { self.old.client.limit ≤ J.longest judge.old }
         requires known { Knows (J.rules judge.old) self.old }
         requires empty { self.old.to_upstream.bytes ≡ [] }
@@ -198,7 +198,7 @@ impl State {
         requires found { IsFound (J.rules judge.old) self.old.client.limit self.old.client.held waiting }
         ensures same { judge.new ≡ judge.old }
         ensures known { Knows (J.rules judge.old) self.new }
-        ensures ready { IsReady self.old.client.limit self.old.calls.capacity self.new }
+        ensures ready { StaysSound self.old self.new }
         ensures turned { Turns result (of_client (J.rules judge.old) self.old.client.limit self.old.calls.capacity (standing self.old)) (standing self.old) (standing self.new) }
         ensures cut { result ≡ Turn.Takes → Cuts self.old.client.limit self.old.client.held }
     {
@@ -210,14 +210,14 @@ impl State {
 
     /// Judges the client's front frame, and takes it or stores the verdict.
     fn judge_turn<J: Judge>(&mut self, judge: &mut J) -> Turn
-        requires ready { IsReady self.old.client.limit self.old.calls.capacity self.old }
+        requires ready { IsSound self.old }
         requires fits { self.old.client.limit ≤ J.longest judge.old }
         requires known { Knows (J.rules judge.old) self.old }
         requires empty { self.old.to_upstream.bytes ≡ [] }
         requires few { length self.old.calls.items < self.old.calls.capacity }
         ensures same { judge.new ≡ judge.old }
         ensures known { Knows (J.rules judge.old) self.new }
-        ensures ready { IsReady self.old.client.limit self.old.calls.capacity self.new }
+        ensures ready { StaysSound self.old self.new }
         ensures turned { Turns result (of_client (J.rules judge.old) self.old.client.limit self.old.calls.capacity (standing self.old)) (standing self.old) (standing self.new) }
         ensures cut { result ≡ Turn.Takes → Cuts self.old.client.limit self.old.client.held }
     {
@@ -269,13 +269,13 @@ impl State {
 
     /// Answers the client's front frame in its turn.
     fn answer_turn<J: Judge>(&mut self, judge: &mut J, cause: Cause) -> Turn
-        requires ready { IsReady self.old.client.limit self.old.calls.capacity self.old }
+        requires ready { IsSound self.old }
         requires fits { self.old.client.limit ≤ J.longest judge.old }
         requires refused { (frame rest : List ℕ) → front self.old.client.limit self.old.client.held ≡ Whole frame rest → (J.rules judge.old).judged frame ≡ ClientJudged.Refused cause }
         requires whole { is_whole (front self.old.client.limit self.old.client.held) ≡ true }
         ensures same { judge.new ≡ judge.old }
         ensures known { Knows (J.rules judge.old) self.old → Knows (J.rules judge.old) self.new }
-        ensures ready { IsReady self.old.client.limit self.old.calls.capacity self.new }
+        ensures ready { StaysSound self.old self.new }
         ensures turned { (frame rest : List ℕ) → front self.old.client.limit self.old.client.held ≡ Whole frame rest →
             Turns result (by_judged (ClientJudged.Refused cause) (standing self.old) [] ((J.rules judge.old).answer frame) rest) (standing self.old) (standing self.new) }
     {
@@ -292,12 +292,12 @@ impl State {
 
     /// Takes a frame, or says why none can be taken.
     fn step<J: Judge>(&mut self, judge: &mut J) -> Option<Stop>
-        requires ready { IsReady self.old.client.limit self.old.calls.capacity self.old }
+        requires ready { IsSound self.old }
         requires fits { self.old.client.limit ≤ J.longest judge.old }
         requires known { Knows (J.rules judge.old) self.old }
         ensures same { judge.new ≡ judge.old }
         ensures known { Knows (J.rules judge.old) self.new }
-        ensures ready { IsReady self.old.client.limit self.old.calls.capacity self.new }
+        ensures ready { StaysSound self.old self.new }
         ensures goes { Goes (J.rules judge.old) self.old.client.limit self.old.calls.capacity (standing self.old) (standing self.new) result }
     {
         match self.upstream_turn(judge) {
@@ -313,16 +313,15 @@ impl State {
 
     /// Takes all that can be taken, and answers the outcome.
     pub fn advance<J: Judge>(&mut self, judge: &mut J) -> Option<Outcome>
-        requires ready { IsReady self.old.client.limit self.old.calls.capacity self.old }
+        requires ready { IsSound self.old }
         requires fits { self.old.client.limit ≤ J.longest judge.old }
         requires known { Knows (J.rules judge.old) self.old }
         ensures same { judge.new ≡ judge.old }
         ensures known { Knows (J.rules judge.old) self.new }
-        ensures ready { IsReady self.old.client.limit self.old.calls.capacity self.new }
+        ensures ready { StaysSound self.old self.new }
         ensures still { IsStill (J.rules judge.old) self.old.client.limit self.old.calls.capacity (standing self.new) }
         ensures outcome { result ≡ outcome_of (J.rules judge.old) self.old.client.limit self.old.calls.capacity (standing self.new) }
-        ensures fits { (h : History) → Fits (J.rules judge.old) self.old.client.limit self.old.calls.capacity h (standing self.old) →
-            Fits (J.rules judge.old) self.old.client.limit self.old.calls.capacity h (standing self.new) }
+        ensures fits { FitsOn (J.rules judge.old) self.old self.new (λ h. h) }
     {
         'frames: loop {
             if let Some(stop) = self.step(judge) {
@@ -397,32 +396,30 @@ impl State {
 
     /// Takes all that can be taken, and keeps the outcome.
     pub fn settle<J: Judge>(&mut self, judge: &mut J)
-        requires ready { IsReady self.old.client.limit self.old.calls.capacity self.old }
+        requires ready { IsSound self.old }
         requires fits { self.old.client.limit ≤ J.longest judge.old }
         requires known { Knows (J.rules judge.old) self.old }
         ensures same { judge.new ≡ judge.old }
         ensures known { Knows (J.rules judge.old) self.new }
-        ensures ready { IsReady self.old.client.limit self.old.calls.capacity self.new }
-        ensures settled { IsSettled (J.rules judge.old) self.old.client.limit self.old.calls.capacity self.new }
-        ensures fits { (h : History) → Fits (J.rules judge.old) self.old.client.limit self.old.calls.capacity h (standing self.old) →
-            Fits (J.rules judge.old) self.old.client.limit self.old.calls.capacity h (standing self.new) }
+        ensures ready { StaysSound self.old self.new }
+        ensures settled { IsSettledBy (J.rules judge.old) self.old self.new }
+        ensures fits { FitsOn (J.rules judge.old) self.old self.new (λ h. h) }
     {
         self.outcome = self.advance(judge);
     }
 
     /// Takes bytes of the client, as long as there is room and no outcome.
     pub fn take_client<J: Judge>(&mut self, judge: &mut J, bytes: &[u8]) -> usize
-        requires ready { IsReady self.old.client.limit self.old.calls.capacity self.old }
+        requires ready { IsSound self.old }
         requires fits { self.old.client.limit ≤ J.longest judge.old }
-        requires settled { IsSettled (J.rules judge.old) self.old.client.limit self.old.calls.capacity self.old }
+        requires settled { IsSettledBy (J.rules judge.old) self.old self.old }
         requires known { Knows (J.rules judge.old) self.old }
         ensures same { judge.new ≡ judge.old }
         ensures known { Knows (J.rules judge.old) self.new }
-        ensures ready { IsReady self.old.client.limit self.old.calls.capacity self.new }
-        ensures settled { IsSettled (J.rules judge.old) self.old.client.limit self.old.calls.capacity self.new }
+        ensures ready { StaysSound self.old self.new }
+        ensures settled { IsSettledBy (J.rules judge.old) self.old self.new }
         ensures count { result ≤ length bytes.now }
-        ensures fits { (h : History) → Fits (J.rules judge.old) self.old.client.limit self.old.calls.capacity h (standing self.old) →
-            Fits (J.rules judge.old) self.old.client.limit self.old.calls.capacity (record h { from_client = h.from_client ++ take result bytes.now }) (standing self.new) }
+        ensures fits { FitsOn (J.rules judge.old) self.old self.new (λ h. record h { from_client = h.from_client ++ take result bytes.now }) }
         ensures fewer { result < length bytes.now → TakesNoMore self.old.client.limit (standing self.new).client self.old.client_ended self.new.outcome }
         ensures whole { length bytes.now ≤ (if self.old.client_ended || is_some self.old.outcome then 0 else self.old.client.limit + 4 - length self.old.client.held) → result ≡ length bytes.now }
         ensures ended { self.old.client_ended ≡ true → result ≡ 0 }
@@ -442,17 +439,16 @@ impl State {
 
     /// Takes bytes of the upstream, as long as there is room and no outcome.
     pub fn take_upstream<J: Judge>(&mut self, judge: &mut J, bytes: &[u8]) -> usize
-        requires ready { IsReady self.old.client.limit self.old.calls.capacity self.old }
+        requires ready { IsSound self.old }
         requires fits { self.old.client.limit ≤ J.longest judge.old }
-        requires settled { IsSettled (J.rules judge.old) self.old.client.limit self.old.calls.capacity self.old }
+        requires settled { IsSettledBy (J.rules judge.old) self.old self.old }
         requires known { Knows (J.rules judge.old) self.old }
         ensures same { judge.new ≡ judge.old }
         ensures known { Knows (J.rules judge.old) self.new }
-        ensures ready { IsReady self.old.client.limit self.old.calls.capacity self.new }
-        ensures settled { IsSettled (J.rules judge.old) self.old.client.limit self.old.calls.capacity self.new }
+        ensures ready { StaysSound self.old self.new }
+        ensures settled { IsSettledBy (J.rules judge.old) self.old self.new }
         ensures count { result ≤ length bytes.now }
-        ensures fits { (h : History) → Fits (J.rules judge.old) self.old.client.limit self.old.calls.capacity h (standing self.old) →
-            Fits (J.rules judge.old) self.old.client.limit self.old.calls.capacity (record h { from_upstream = h.from_upstream ++ take result bytes.now }) (standing self.new) }
+        ensures fits { FitsOn (J.rules judge.old) self.old self.new (λ h. record h { from_upstream = h.from_upstream ++ take result bytes.now }) }
         ensures fewer { result < length bytes.now → TakesNoMore self.old.client.limit (standing self.new).upstream self.old.upstream_ended self.new.outcome }
         ensures whole { length bytes.now ≤ (if self.old.upstream_ended || is_some self.old.outcome then 0 else self.old.client.limit + 4 - length self.old.upstream.held) → result ≡ length bytes.now }
         ensures ended { self.old.upstream_ended ≡ true → result ≡ 0 }
@@ -471,17 +467,16 @@ impl State {
 
     /// So many bytes were sent to the client. While some are left, no more can be taken than before.
     pub fn sent_client<J: Judge>(&mut self, judge: &mut J, n: usize)
-        requires ready { IsReady self.old.client.limit self.old.calls.capacity self.old }
+        requires ready { IsSound self.old }
         requires fits { self.old.client.limit ≤ J.longest judge.old }
         requires due { n ≤ length self.old.to_client.bytes }
-        requires settled { IsSettled (J.rules judge.old) self.old.client.limit self.old.calls.capacity self.old }
+        requires settled { IsSettledBy (J.rules judge.old) self.old self.old }
         requires known { Knows (J.rules judge.old) self.old }
         ensures same { judge.new ≡ judge.old }
         ensures known { Knows (J.rules judge.old) self.new }
-        ensures ready { IsReady self.old.client.limit self.old.calls.capacity self.new }
-        ensures settled { IsSettled (J.rules judge.old) self.old.client.limit self.old.calls.capacity self.new }
-        ensures fits { (h : History) → Fits (J.rules judge.old) self.old.client.limit self.old.calls.capacity h (standing self.old) →
-            Fits (J.rules judge.old) self.old.client.limit self.old.calls.capacity (record h { to_client = h.to_client ++ take n self.old.to_client.bytes }) (standing self.new) }
+        ensures ready { StaysSound self.old self.new }
+        ensures settled { IsSettledBy (J.rules judge.old) self.old self.new }
+        ensures fits { FitsOn (J.rules judge.old) self.old self.new (λ h. record h { to_client = h.to_client ++ take n self.old.to_client.bytes }) }
     {
         self.to_client.drop_front(n);
         if self.to_client.bytes().is_empty() {
@@ -491,17 +486,16 @@ impl State {
 
     /// So many bytes were sent to the upstream. While some are left, no more can be taken than before.
     pub fn sent_upstream<J: Judge>(&mut self, judge: &mut J, n: usize)
-        requires ready { IsReady self.old.client.limit self.old.calls.capacity self.old }
+        requires ready { IsSound self.old }
         requires fits { self.old.client.limit ≤ J.longest judge.old }
         requires due { n ≤ length self.old.to_upstream.bytes }
-        requires settled { IsSettled (J.rules judge.old) self.old.client.limit self.old.calls.capacity self.old }
+        requires settled { IsSettledBy (J.rules judge.old) self.old self.old }
         requires known { Knows (J.rules judge.old) self.old }
         ensures same { judge.new ≡ judge.old }
         ensures known { Knows (J.rules judge.old) self.new }
-        ensures ready { IsReady self.old.client.limit self.old.calls.capacity self.new }
-        ensures settled { IsSettled (J.rules judge.old) self.old.client.limit self.old.calls.capacity self.new }
-        ensures fits { (h : History) → Fits (J.rules judge.old) self.old.client.limit self.old.calls.capacity h (standing self.old) →
-            Fits (J.rules judge.old) self.old.client.limit self.old.calls.capacity (record h { to_upstream = h.to_upstream ++ take n self.old.to_upstream.bytes }) (standing self.new) }
+        ensures ready { StaysSound self.old self.new }
+        ensures settled { IsSettledBy (J.rules judge.old) self.old self.new }
+        ensures fits { FitsOn (J.rules judge.old) self.old self.new (λ h. record h { to_upstream = h.to_upstream ++ take n self.old.to_upstream.bytes }) }
     {
         self.to_upstream.drop_front(n);
         if self.to_upstream.bytes().is_empty() {
@@ -511,15 +505,14 @@ impl State {
 
     /// The client sends nothing more.
     pub fn end_client<J: Judge>(&mut self, judge: &mut J)
-        requires ready { IsReady self.old.client.limit self.old.calls.capacity self.old }
+        requires ready { IsSound self.old }
         requires fits { self.old.client.limit ≤ J.longest judge.old }
         requires known { Knows (J.rules judge.old) self.old }
         ensures same { judge.new ≡ judge.old }
         ensures known { Knows (J.rules judge.old) self.new }
-        ensures ready { IsReady self.old.client.limit self.old.calls.capacity self.new }
-        ensures settled { IsSettled (J.rules judge.old) self.old.client.limit self.old.calls.capacity self.new }
-        ensures fits { (h : History) → Fits (J.rules judge.old) self.old.client.limit self.old.calls.capacity h (standing self.old) →
-            Fits (J.rules judge.old) self.old.client.limit self.old.calls.capacity (record h { client_ended = true }) (standing self.new) }
+        ensures ready { StaysSound self.old self.new }
+        ensures settled { IsSettledBy (J.rules judge.old) self.old self.new }
+        ensures fits { FitsOn (J.rules judge.old) self.old self.new (λ h. record h { client_ended = true }) }
     {
         self.client_ended = true;
         self.settle(judge);
@@ -527,15 +520,14 @@ impl State {
 
     /// The upstream sends nothing more.
     pub fn end_upstream<J: Judge>(&mut self, judge: &mut J)
-        requires ready { IsReady self.old.client.limit self.old.calls.capacity self.old }
+        requires ready { IsSound self.old }
         requires fits { self.old.client.limit ≤ J.longest judge.old }
         requires known { Knows (J.rules judge.old) self.old }
         ensures same { judge.new ≡ judge.old }
         ensures known { Knows (J.rules judge.old) self.new }
-        ensures ready { IsReady self.old.client.limit self.old.calls.capacity self.new }
-        ensures settled { IsSettled (J.rules judge.old) self.old.client.limit self.old.calls.capacity self.new }
-        ensures fits { (h : History) → Fits (J.rules judge.old) self.old.client.limit self.old.calls.capacity h (standing self.old) →
-            Fits (J.rules judge.old) self.old.client.limit self.old.calls.capacity (record h { upstream_ended = true }) (standing self.new) }
+        ensures ready { StaysSound self.old self.new }
+        ensures settled { IsSettledBy (J.rules judge.old) self.old self.new }
+        ensures fits { FitsOn (J.rules judge.old) self.old self.new (λ h. record h { upstream_ended = true }) }
     {
         self.upstream_ended = true;
         self.settle(judge);
@@ -543,7 +535,7 @@ impl State {
 
     /// How many bytes are held in all.
     pub fn held(&self) -> usize
-        requires { IsReady self.now.client.limit self.now.calls.capacity self.now }
+        requires { IsSound self.now }
         ensures exact { result ≡ held_of self.now.client.limit (standing self.now) self.now.outcome }
         ensures within { result ≤ 52 * self.now.client.limit + 16 * self.now.calls.capacity + 4096 }
     {
