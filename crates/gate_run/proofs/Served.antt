@@ -16,9 +16,10 @@ use Rattle.session_judge.specs.Rules.{rules_of}
 use Rattle.proxy_server.specs.Serving.{Entry, Closing, Stands, IsHeld, HasClosed, IsAmong, IsOpenOne, IsEndedOne, IsFresh, no_more, Setting as Sessions}
 use Rattle.proxy_server.specs.Steps.{Serves}
 use Rattle.proxy_server.specs.Turning.{IsSettled}
+use Rattle.proxy_server.proofs.Calls.{served_writes}
 use Rattle.gate_words.specs.declared.serving.Serving.{Serving}
 use Rattle.gate_run.specs.Outcome.{Streams, WriteFailed}
-use Rattle.gate_run.specs.Serving.{ServesAll, Began, NotBegun, NoMemory, EndsBy, HasServed, GoesOn, settings, started_by}
+use Rattle.gate_run.specs.Serving.{ServesAll, Began, NotBegun, NoMemory, EndsBy, HasServed, GoesOn, settings, started_by, served_from}
 use Rattle.gate_run.specs.declared.status.Ending.{Ending}
 use Rattle.gate_run.specs.declared.status.Ending.TheVariants as endings
 use Rattle.gate_run.proofs.Outcome.{rose_earlier}
@@ -33,22 +34,23 @@ each set held ended busy n stands settled k (inr (IsOpenOne i e at same)) =
 not_budget : served.Stopped ≡ served.Budget → ⊥
 not_budget e = cc
 
-module _ (told told' : Meaning → Type 0) (s : Serving) (d : Declarations) (service : Option ServiceId) (m : Meaning) (known : told m) (is_fresh : IsFresh m) where
-  stopped : (written written' : Option (List ℕ)) (faults faults' : ℕ) → Serves Setting rules_of told told' written written' faults faults' (settings s d service) served.Stopped → HasServed told' s d service
-  stopped written written' faults faults' x =
-      let after = x.4 m known is_fresh in
-      (after.0, after.1, after.2.1, λ k announced. each (settings s d service) x.0 x.1 x.2 after.0 after.2.0 (after.2.2.settled not_budget) k (after.2.0.covers k announced))
+module _ (told told' : Meaning → Type 0) (counts counts' : Counts) (s : Serving) (d : Declarations) (service : Option ServiceId) (m : Meaning) (known : told m) (is_fresh : IsFresh m) where
+  stopped : (a b : Streams) → Serves Setting rules_of (settings s d service) (served_from told counts a) (served_from told' counts' b) served.Stopped → HasServed told' s d service
+  stopped a b x =
+      let after = x.keeps m known is_fresh in
+      (after.0, after.1, after.2.event, λ k announced. each (settings s d service) x.held x.ended x.busy after.0 after.2.stands (after.2.left.settled not_budget) k (after.2.stands.covers k announced))
 
-  spent : (written written' : Option (List ℕ)) (faults faults' : ℕ) → Serves Setting rules_of told told' written written' faults faults' (settings s d service) served.Budget → GoesOn told'
-  spent written written' faults faults' x =
-      let after = x.4 m known is_fresh in
-      (after.0, after.1, after.2.1)
+  spent : (a b : Streams) → Serves Setting rules_of (settings s d service) (served_from told counts a) (served_from told' counts' b) served.Budget → GoesOn told'
+  spent a b x =
+      let after = x.keeps m known is_fresh in
+      (after.0, after.1, after.2.event)
 
-  by_result : (first before now : ℕ) (a b : Streams) (ending : Ending) (result : Served) → first ≤ before → Serves Setting rules_of told told' a.written b.written a.output_faults b.output_faults (settings s d service) result → EndsBy result before now a b ending → (Rose first now → ⊥) → (WriteFailed a b → ⊥) → ((ending ≡ endings.Done) × HasServed told' s d service) ⊎ ((ending ≡ endings.BudgetSpent) × GoesOn told') ⊎ (ending ≡ endings.OutOfMemory)
-  by_result first before now a b ending served.Stopped later x ends no_hub no_write = inl (ends.0, stopped a.written b.written a.output_faults b.output_faults x)
+  by_result : (first before now : ℕ) (a b : Streams) (ending : Ending) (result : Served) → first ≤ before → Serves Setting rules_of (settings s d service) (served_from told counts a) (served_from told' counts' b) result → EndsBy result before now a b ending → (Rose first now → ⊥) → (WriteFailed a b → ⊥) → ((ending ≡ endings.Done) × HasServed told' s d service) ⊎ ((ending ≡ endings.BudgetSpent) × GoesOn told') ⊎ (ending ≡ endings.OutOfMemory)
+  by_result first before now a b ending served.Stopped later x ends no_hub no_write = inl (ends.0, stopped a b x)
   by_result first before now a b ending served.HubFault later x ends no_hub no_write = absurd (no_hub (rose_earlier first before now later ends.1))
-  by_result first before now a b ending served.WriteFault later x ends no_hub no_write = absurd (no_write (inl x.3.1))
-  by_result first before now a b ending served.Budget later x ends no_hub no_write = inr (inl (ends.0, spent a.written b.written a.output_faults b.output_faults x))
+  by_result first before now a b ending served.WriteFault later x ends no_hub no_write =
+      absurd (no_write (inl (served_writes Setting served.WriteFault x.lines (served_from told counts a) (served_from told' counts' b) x.ended x.held x.writes x.answers).1))
+  by_result first before now a b ending served.Budget later x ends no_hub no_write = inr (inl (ends.0, spent a b x))
   by_result first before now a b ending served.OutOfMemory later x ends no_hub no_write = inr (inr ends.0)
 
 fresh : (s : Serving) (m n : Meaning) → NotStarted m → ((k : ℕ) → (m.session k).announced ≡ true → ⊥) → StartLeads (started_by s) began.Done m n → IsFresh n
@@ -57,6 +59,6 @@ fresh s m n before none e = subst (λ (x : Meaning). IsFresh x) (sym e) (record 
 pub served_well : {H : Type 0} (tells : H → Meaning → Type 0) (counts : H → Counts) (s : Serving) (d : Declarations) (service : Option ServiceId) (h h' : H) (a b : Streams) (ending : Ending) (m : Meaning) → ServesAll tells counts s d service h h' a b ending → tells h m → NotStarted m → ((k : ℕ) → (m.session k).announced ≡ true → ⊥) → (Rose (counts h).faults (counts h').faults → ⊥) → (WriteFailed a b → ⊥) → ((ending ≡ endings.Done) × HasServed (tells h') s d service) ⊎ ((ending ≡ endings.BudgetSpent) × GoesOn (tells h')) ⊎ (ending ≡ endings.OutOfMemory)
 served_well tells counts s d service h h' a b ending m (Began mid result left later leads serves ends) known before none no_hub no_write =
     let begun = leads m known before in
-    by_result (tells mid) (tells h') s d service begun.0 begun.1 (fresh s m begun.0 before none begun.2) (counts h).faults (counts mid).faults (counts h').faults a b ending result later.faults serves ends no_hub no_write
+    by_result (tells mid) (tells h') (counts mid) (counts h') s d service begun.0 begun.1 (fresh s m begun.0 before none begun.2) (counts h).faults (counts mid).faults (counts h').faults a b ending result later.faults serves ends no_hub no_write
 served_well tells counts s d service h h' a b ending m (NotBegun leads rose says) known before none no_hub no_write = absurd (no_hub rose)
 served_well tells counts s d service h h' a b ending m (NoMemory leads says) known before none no_hub no_write = inr (inr says.is)

@@ -16,7 +16,7 @@ use Rattle.session_core.specs.Session.{Seen}
 use Rattle.session_core.specs.declared.outcome.Outcome.{Outcome}
 use Rattle.proxy_server.specs.Serving.{IsHeld, HasClosed, is_over, Setting as Sessions}
 use Rattle.proxy_server.specs.Turning.{IsSettled}
-use Rattle.proxy_server.specs.Steps.{Serves}
+use Rattle.proxy_server.specs.Steps.{Outside, Serves}
 use Rattle.gate_words.specs.declared.serving.Serving.{Serving}
 use Rattle.gate_io.specs.Fronts.{AppendsFront}
 use Rattle.gate_run.specs.Endings.{last_line}
@@ -50,11 +50,15 @@ EndsBy served.WriteFault before now a b ending = (ending ≡ endings.WriteFault)
 EndsBy served.Budget before now a b ending = (ending ≡ endings.BudgetSpent) × Reports (last_line endings.BudgetSpent) a b
 EndsBy served.OutOfMemory before now a b ending = (ending ≡ endings.OutOfMemory) × Reports (last_line endings.OutOfMemory) a b
 
+-- what a server finds, or leaves: what the hub tells and its counts, and the output
+abbrev pub served_from : (Meaning → Type 0) → Counts → Streams → Outside
+served_from told counts x = record { told = told; counts = counts; written = x.written; faults = x.output_faults }
+
 -- the hub was started with what the words say, and from there it and the output are as a server of this setting leaves
 -- them; or it could not be started, and nothing was written
 pub data ServesAll {H : Type 0} (tells : H → Meaning → Type 0) (counts : H → Counts) (s : Serving) (d : Declarations) (service : Option ServiceId) (h h' : H) (a b : Streams) (ending : Ending) : Type 0 where
   Began : (mid : H) (result : Served) → b.left ≡ a.left → Later (counts h) (counts mid) → Leads (tells h) (tells mid) NotStarted (StartLeads (started_by s) began.Done)
-      → Serves Setting rules_of (tells mid) (tells h') a.written b.written a.output_faults b.output_faults (settings s d service) result
+      → Serves Setting rules_of (settings s d service) (served_from (tells mid) (counts mid) a) (served_from (tells h') (counts h') b) result
       → EndsBy result (counts mid).faults (counts h').faults a b ending → ServesAll tells counts s d service h h' a b ending
   NotBegun : Leads (tells h) (tells h') NotStarted (StartLeads (started_by s) began.Failed) → Rose (counts h).faults (counts h').faults → SaysLast endings.HubFault a b ending
       → ServesAll tells counts s d service h h' a b ending

@@ -5,7 +5,7 @@ ghost use Rattle.gate_hub.specs.Hubs.{Later};
 ghost use Rattle.gate_run.specs.Outcome.{streams};
 ghost use Rattle.session_judge.specs.Setting.{Setting};
 ghost use Rattle.session_judge.specs.Rules.{rules_of};
-ghost use Rattle.proxy_server.specs.Steps.{Serves};
+ghost use Rattle.proxy_server.specs.Steps.{Serves, outside};
 ghost use Rattle.gate_run.specs.Serving.{ServesAll, EndsBy, settings};
 
 use crate::judges::PairJudges;
@@ -69,8 +69,8 @@ fn serve_started<O: Sink, H: Hub>(
     requires few { serving.now.calls ≤ MOST_CALLS }
     requires service { IfSome start.now.service (λ x. x.0 < length start.now.schema.services) }
     ensures serves { let set = settings serving.now start.now.schema start.now.service in
-        Serves Setting rules_of (H.tells hub.old) (H.tells hub.new)
-        (O.written output.old) (O.written output.new) (O.faults output.old) (O.faults output.new) set result }
+        let moment = outside H.tells H.counts O.written O.faults in
+        Serves Setting rules_of set (moment hub.old output.old) (moment hub.new output.new) result }
     ensures output_later { O.faults output.old ≤ O.faults output.new }
     ensures later { Later (H.counts hub.old) (H.counts hub.new) }
     ensures hub_fault { result ≡ Served.HubFault → Rose (H.counts hub.old).faults (H.counts hub.new).faults }
