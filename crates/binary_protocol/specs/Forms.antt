@@ -26,7 +26,7 @@ use Rattle.protocol_traits.specs.Stack.{first_of}
 use Rattle.protocol_traits.specs.Steps.{Step, told}
 use Rattle.binary_protocol.specs.declared.scan.Called.TheVariants as calls
 use Rattle.binary_protocol.specs.Codes.{kind_of_code}
-use Rattle.binary_protocol.specs.Heads.{head_at}
+use Rattle.binary_protocol.specs.Heads.{head_at, name_place}
 use Rattle.binary_protocol.specs.Scan.{Scan, fault, unsigned_at, nests, called_for, item_in, value_in, value_at, field_of, field_at, string_at, text_at, uuid_at, shifted, size_at, zero_at, elements_at, set_at, list_at, map_of, map_at, is_bad_kind}
 use Rattle.binary_protocol.specs.Reading.{State, rest, begun, headed, reads, reads_head, reads_end}
 use Rattle.binary_protocol.specs.Laws.{head_was_read, reads_ok}
@@ -377,3 +377,15 @@ field_takes bytes item taken found = subst TakesSome found (field_some bytes)
 
 pub lead_past : (frame : List ℕ) (at taken : ℕ) (lead : Lead) (id : ℤ) → at ≤ length frame → Finds (drop at frame) (field_at (drop at frame)) (lead_item lead id) taken → IsPast at frame (at + taken)
 lead_past frame at taken lead id within found = found_past frame at taken (field_at (drop at frame)) (lead_item lead id) within found (field_takes (drop at frame) (lead_item lead id) taken found.0)
+
+-- where a header that was read leaves the reader
+pub front_stands : (frame : List ℕ) (header : Header) (new : State) (taken : ℕ) → reads_head (begun frame) ≡ Ok (header, new) → new.place ≡ taken
+    → stands_at new frame taken openings.Body (slots.Fields (pos 0) ∷ []) × (length header.name ≤ taken) × (taken ≤ length frame)
+front_stands frame header new taken e place =
+    let stood = subst (λ (r : Step State Header). IfOk r (λ x. stands_at x.1 frame x.1.place openings.Body (slots.Fields (pos 0) ∷ []) × (length x.0.name ≤ x.1.place) × (x.1.place ≤ length frame))) e (head_stands frame) in
+    ((stood.0.0, place, stood.0.2), omega (arith, stood.1, place), omega (arith, stood.2, place))
+
+pub front_read : (frame : List ℕ) (header : Header) (taken : ℕ) → Ok (header, taken) ≡ head_at frame
+    → (new : State) × (reads_head (begun frame) ≡ Ok (header, new)) × (new.place ≡ taken)
+unfolding reads_head
+front_read frame header taken e = (record { frame = frame; place = 0 + taken; value = 0 + name_place frame; nest = slots.Fields (pos 0) ∷ [] }, rw (← e) refl, omega arith)

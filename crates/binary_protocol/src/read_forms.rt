@@ -1,5 +1,5 @@
 //! The reader's quick forms: one item at a place of a frame, by value.
-ghost use Rattle.std.specs.Prelude.{◌≡◌, ℕ, ℤ, ◌+◌, ◌≤◌, ◌<◌, List, ◌∷◌, length, false, true, IfSome};
+ghost use Rattle.std.specs.Prelude.{◌≡◌, ℕ, ℤ, pos, ◌+◌, ◌≤◌, ◌<◌, ◌^◌, List, [], ◌∷◌, length, false, true, Ok, IfSome};
 ghost use Rattle.std.specs.Int.{w64, to_be_bytes};
 ghost use Rattle.thrift_value.specs.declared.kind.Kind.{Kind};
 ghost use Rattle.thrift_value.specs.Items.{field, bool_value, i8_value, i16_value, i32_value, i64_value, double_value, text, struct_begin, end, uuid_value};
@@ -10,37 +10,44 @@ ghost use Rattle.protocol_traits.specs.declared.nest.Slot.{Slot};
 ghost use Rattle.protocol_traits.specs.declared.nest.Slot.TheVariants.{Fields};
 ghost use Rattle.protocol_traits.specs.declared.proto.Hint.{Hint};
 ghost use Rattle.protocol_traits.specs.Forms.{lead_item, elements_item, container_kind, pairs_item, part, Calls, IsDone, IsPast, Steps, StepsTwice, StepsValue, StepsInto};
-ghost use Rattle.binary_protocol.specs.Forms.{stands_at, next_read, head_stands, whole_ends};
+ghost use Rattle.protocol_traits.specs.Heads.{header_of};
+ghost use Rattle.binary_protocol.specs.Reading.{State, begun, reads_head};
+ghost use Rattle.binary_protocol.specs.Forms.{stands_at, next_read, whole_ends};
 
 use crate::forms::{
     bool_front, double_front, elements_front, i8_front, i16_front, i32_front, i64_front,
     lead_front, length_front, pairs_front,
 };
+use crate::head::head_at;
 use crate::reader::BinaryRead;
-use protocol_traits::{Container, FormRead, Hint, Lead, Opening, Pairs, Span, Stand, UUID};
+use protocol_traits::{Container, FormRead, Head, Hint, Lead, Opening, Pairs, Span, Stand, UUID};
 use thrift_value::Kind;
 
 impl<'f> FormRead for BinaryRead<'f> {
     ghost stands_at = { stands_at };
 
-    ghost next_place = { λ s. s.place };
-
     ghost hinted = { false };
 
-    ghost headed = { head_stands };
-
     ghost ended = { whole_ends };
-
-    #[inline(always)]
-    fn next_place(&self) -> usize {
-        self.item_place()
-    }
 
     #[inline(always)]
     fn is_hinted() -> bool
         ensures { result ≡ false }
     {
         false
+    }
+
+    #[inline(always)]
+    fn front(frame: &[u8]) -> Option<(Head<'_>, usize)>
+        requires { length frame.now < 2 ^ 31 }
+        ensures reads { IfSome result (λ x. (new : State) × (reads_head (begun frame.now) ≡ Ok (header_of x.0, new)) × stands_at new frame.now x.1 Opening.Body (Fields (pos 0) ∷ [])) }
+        ensures sized { IfSome result (λ x. length x.0.name.now < 2 ^ 31) }
+        ensures place { IfSome result (λ x. (length x.0.name.now ≤ x.1) × (x.1 ≤ length frame.now)) }
+    {
+        match head_at(frame) {
+            Ok((head, taken)) => Some((head, taken)),
+            Err(_) => None,
+        }
     }
 
     #[inline(always)]

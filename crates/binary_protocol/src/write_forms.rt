@@ -5,9 +5,10 @@ ghost use Rattle.binary_protocol.specs.Grammar.{size as size_of};
 ghost use Rattle.binary_protocol.specs.WriteForms.{stands_at, goes_on, starts_at};
 
 use crate::codes::code_of_kind;
-use crate::writer::BinaryWrite;
+use crate::writer::{BinaryWrite, put_head};
 use cell_writes::{lay, lay_part};
-use protocol_traits::{Container, FormWrite, Hint, Mark, Opening, Stand, UUID};
+use gate_io::Out;
+use protocol_traits::{Container, FormWrite, Head, Hint, Mark, Opening, Stand, UUID};
 use thrift_value::Kind;
 
 impl FormWrite for BinaryWrite {
@@ -29,6 +30,10 @@ impl FormWrite for BinaryWrite {
     #[inline(always)]
     fn is_marked() -> bool {
         true
+    }
+
+    fn front(head: &Head<'_>, out: &mut Out) {
+        put_head(head, out)
     }
 
     #[inline(always)]

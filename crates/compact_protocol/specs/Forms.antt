@@ -28,11 +28,12 @@ use Rattle.protocol_traits.specs.declared.nest.Slot.TheVariants as slots
 use Rattle.protocol_traits.specs.declared.proto.Hint.{Hint}
 use Rattle.protocol_traits.specs.Follow.{after}
 use Rattle.protocol_traits.specs.Forms.{lead_item, elements_item, container_kind, pairs_item, part, Calls, IsDone, Steps, StepsTwice, StepsValue, StepsInto}
+use Rattle.thrift_value.specs.declared.kind.MessageType.{MessageType}
 use Rattle.protocol_traits.specs.Heads.{Header}
 use Rattle.protocol_traits.specs.Stack.{first_of}
 use Rattle.protocol_traits.specs.Steps.{Step, told}
 use Rattle.compact_protocol.specs.Codes.{kind_of}
-use Rattle.compact_protocol.specs.Scan.{Scan, fault, varint16_at, varint32_at, varint64_at, id_at, size_at, string_at, next_id, long_field, field_of, field_at, flag_of, i16_at, i32_at, i64_at, double_at, text_at, uuid_at, elements_at, set_at, list_at, kinds_at, map_at, value_at, value_in, opens, is_bool, field_value, next_of, item_in}
+use Rattle.compact_protocol.specs.Scan.{Scan, fault, front_at, shifted, varint16_at, varint32_at, varint64_at, id_at, size_at, string_at, next_id, long_field, field_of, field_at, flag_of, i16_at, i32_at, i64_at, double_at, text_at, uuid_at, elements_at, set_at, list_at, kinds_at, map_at, value_at, value_in, opens, is_bool, field_value, next_of, item_in}
 use Rattle.compact_protocol.specs.Reading.{State, rest, begun, moved, reads, reads_head, reads_end, scan_at}
 use Rattle.compact_protocol.specs.Laws.{reads_ok, head_fits}
 
@@ -513,3 +514,15 @@ pub pairs_seen : (frame : List ℕ) (at : ℕ) (stand : Stand) (found : Option P
     → IfSome found (λ x. StepsInto next_read stands_at frame at stand kinds.Map (pairs_item x.key x.value x.size) x.behind)
 pairs_seen frame at stand (Some x) found = level_read frame at x.behind stand kinds.Map (pairs_item x.key x.value x.size) refl (omega (arith, found.1)) found.0
 pairs_seen frame at stand None found = tt
+
+-- where a header that was read leaves the reader
+pub front_stands : (frame : List ℕ) (header : Header) (new : State) (taken : ℕ) → reads_head (begun frame) ≡ Ok (header, new) → new.place ≡ taken
+    → stands_at new frame taken openings.Body (slots.Fields (pos 0) ∷ []) × (length header.name ≤ taken) × (taken ≤ length frame)
+front_stands frame header new taken e place =
+    let stood = subst (λ (r : Step State Header). IfOk r (λ x. stands_at x.1 frame x.1.place openings.Body (slots.Fields (pos 0) ∷ []) × (length x.0.name ≤ x.1.place) × (x.1.place ≤ length frame))) e (head_stands frame) in
+    ((stood.0.0, place, stood.0.2), omega (arith, stood.1, place), omega (arith, stood.2, place))
+
+pub head_read : (frame : List ℕ) (front : MessageType × ℤ) (at : ℕ) (name : List ℕ) (taken : ℕ) → front_at frame ≡ Ok (front, at) → shifted at (string_at (drop at frame)) ≡ Ok (name, taken)
+    → (new : State) × (reads_head (begun frame) ≡ Ok (record { name = name; mtype = front.0; seq = front.1 }, new)) × (new.place ≡ taken)
+unfolding reads_head
+head_read frame front at name taken e more = (record { frame = frame; place = 0 + taken; value = 0 + at; flag = false; nest = slots.Fields (pos 0) ∷ [] }, rw (e, more) refl, omega arith)

@@ -110,14 +110,6 @@ impl<'f> CompactRead<'f> {
         self.nest.top()
     }
 
-    /// Where the next item begins.
-    #[inline(always)]
-    pub fn item_place(&self) -> usize
-        ensures { result ≡ self.now.place }
-    {
-        self.place
-    }
-
     /// Where the last value began; after the header, where the name began.
     #[inline(always)]
     pub fn value_place(&self) -> usize

@@ -6,9 +6,10 @@ ghost use Rattle.compact_protocol.specs.Codes.{code_of};
 ghost use Rattle.compact_protocol.specs.Plain.{field_spelling, elements_spelling};
 ghost use Rattle.compact_protocol.specs.WriteForms.{stands_at, starts_at, goes_on};
 
-use crate::writer::{CompactWrite, code_of, flag_code, short_step};
+use crate::writer::{CompactWrite, code_of, flag_code, put_head, short_step};
 use cell_writes::{lay, lay_part};
-use protocol_traits::{Container, FormWrite, Hint, Mark, Opening, Stand, UUID};
+use gate_io::Out;
+use protocol_traits::{Container, FormWrite, Head, Hint, Mark, Opening, Stand, UUID};
 use thrift_value::Kind;
 use varint_zigzag::{put_u32, put_u64, zigzag32, zigzag64};
 
@@ -32,6 +33,10 @@ impl FormWrite for CompactWrite {
     #[inline(always)]
     fn is_marked() -> bool {
         false
+    }
+
+    fn front(head: &Head<'_>, out: &mut Out) {
+        put_head(head, out)
     }
 
     #[inline(always)]

@@ -7,4 +7,5 @@ pub mod Head
 pub mod Laws
 pub mod Writing
 pub mod Weights
+pub mod WriteForms
 pub mod Grammar

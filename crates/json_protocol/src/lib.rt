@@ -6,6 +6,7 @@
 
 mod head;
 mod item;
+mod lay;
 mod opening;
 mod protocol;
 mod put;
@@ -14,6 +15,7 @@ mod room;
 mod scan;
 mod value;
 mod word;
+mod write_forms;
 mod writer;
 
 pub use reader::JsonRead;

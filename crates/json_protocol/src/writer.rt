@@ -99,7 +99,7 @@ impl WireWrite for JsonWrite {
 }
 
 /// Whether bytes are UTF-8.
-fn is_text(bytes: &[u8]) -> bool
+pub fn is_text(bytes: &[u8]) -> bool
     ensures { result ≡ is_utf8 bytes.now }
 {
     match simdutf8::compat::from_utf8(bytes) {
@@ -128,7 +128,7 @@ fn takes_kind(uuid: bool) -> Result<(), Bar>
     if uuid { Err(Bar::Uuid) } else { Ok(()) }
 }
 
-fn is_uuid(kind: Kind) -> bool
+pub fn is_uuid(kind: Kind) -> bool
     ensures { result ≡ is_uuid kind }
 {
     matches!(kind, Kind::Uuid)

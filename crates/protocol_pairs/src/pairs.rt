@@ -38,7 +38,7 @@ pub fn translate(
 {
     match from {
         Proto::Binary => translate_forms::<BinaryRead>(schema, route, to, frame, room, out),
-        Proto::Compact => translate_to::<CompactRead>(schema, route, to, frame, room, out),
+        Proto::Compact => translate_forms::<CompactRead>(schema, route, to, frame, room, out),
         Proto::Json => translate_to::<JsonRead>(schema, route, to, frame, room, out),
     }
 }
@@ -67,7 +67,7 @@ fn translate_forms<'f, R: WireRead<'f> + FormRead>(
             translate_core::translate_quickly::<R, BinaryWrite>(schema, route, frame, room, out)
         }
         Proto::Compact => {
-            translate_core::translate::<R, CompactWrite>(schema, route, frame, room, out)
+            translate_core::translate_quickly::<R, CompactWrite>(schema, route, frame, room, out)
         }
         Proto::Json => translate_core::translate::<R, JsonWrite>(schema, route, frame, room, out),
     }

@@ -1,5 +1,5 @@
 -- The verdict from its parts.
-use Rattle.std.proofs.Common.{◌≡◌, ℕ, List, [], ◌++◌, length, take, drop, Bool, true, false, Ok, Err, refl, ap, ◌∙◌, append_assoc}
+use Rattle.std.proofs.Common.{◌≡◌, ℕ, List, [], ◌++◌, length, take, drop, Bool, true, false, None, Ok, Err, refl, sym, ap, ◌∙◌, append_assoc}
 use Rattle.std.specs.Prelude.{if◌then◌else◌}
 use Rattle.protocol_traits.specs.declared.fault.Fault.{Fault}
 use Rattle.protocol_traits.specs.Heads.{Header}
@@ -7,8 +7,9 @@ use Rattle.translate_core.specs.declared.verdict.HeadInfo.{HeadInfo}
 use Rattle.translate_core.specs.declared.verdict.Verdict.{Verdict}
 use Rattle.translate_core.specs.declared.verdict.Verdict.TheVariants.{Passed, Refused, Unread}
 use Rattle.translate_core.specs.Positions.{Positions}
-use Rattle.translate_core.specs.Body.{Source, Target}
-use Rattle.translate_core.specs.Judged.{judge, judged, after_head, kept, IsLeft}
+use Rattle.protocol_traits.specs.Steps.{Step, told}
+use Rattle.translate_core.specs.Body.{Source, Target, going, whole}
+use Rattle.translate_core.specs.Judged.{judge, judged, after_head, at_end, body_of, kept, IsJudged, IsLeft}
 use Rattle.std.proofs.lemmas.List.{append-nil}
 use Rattle.std.proofs.Math.Seq.{take-append_seam, drop-append_seam}
 
@@ -42,3 +43,21 @@ out_left (Refused info cause) barred old head added bytes e =
     append-nil _ ∙ rw (written barred old head added bytes e, take-append_seam) refl
 out_left (Unread f) barred old head added bytes e =
     append-nil _ ∙ rw (written barred old head added bytes e, take-append_seam) refl
+
+passes_at_end : {S : Type 0} (info : HeadInfo) (r : Step S (Unit {0})) → told r ≡ Ok tt → at_end info None r ≡ Passed info
+passes_at_end info (Ok x) e = refl
+passes_at_end info (Err f) e = absurd (cc)
+
+-- a header that is free, and a body that passes whole
+module _ {S P T : Type 0} (source : Source S) (positions : Positions P) (start : Header → P) (info : Header → HeadInfo) (target : Target T) (frame : List ℕ) where
+  pub passed_whole : (header : Header) (new read : S) (first behind : P) (wrote : T) (told_info : HeadInfo) (old mid out added : List ℕ)
+      → source.reads_head (source.begun frame) ≡ Ok (header, new) → target.name_bar header.name ≡ None → first ≡ start header → told_info ≡ info header
+      → whole source positions target (going new first target.begun 1 None []) ≡ Ok (going read behind wrote 0 None added) → told (source.reads_end read) ≡ Ok tt
+      → mid ≡ old ++ target.plain_head header → out ≡ mid ++ added → IsJudged (Passed told_info) old out (judge source positions start info target frame)
+  passed_whole header new read first behind wrote told_info old mid out added e free begins tells passes ends front back =
+      let body : body_of source positions start info target (header, new) ≡ Ok (going read behind wrote 0 None added) = rw (free, ← begins) passes in
+      let done : at_end (info header) None (source.reads_end read) ≡ Passed (info header) = passes_at_end (info header) (source.reads_end read) ends in
+      rw (judge_ok source positions start info target frame header new e, body, done, free) (
+        ap Passed (sym tells),
+        back ∙ (ap (λ (bytes : List ℕ). bytes ++ added) front ∙ append_assoc old (target.plain_head header) added),
+      )

@@ -1,8 +1,6 @@
 //! A whole message.
-ghost use Rattle.std.specs.Prelude.{◌≡◌, ℕ, pos, ◌+◌, ◌*◌, ◌≤◌, ◌^◌, ◌<◌, List, ◌++◌, [], ◌∷◌, length, take, drop, is_some, if◌then◌else◌, IfSome, FitsSigned};
+ghost use Rattle.std.specs.Prelude.{◌≡◌, ℕ, ◌+◌, ◌*◌, ◌≤◌, ◌^◌, ◌<◌, List, ◌++◌, [], length, take, drop, is_some, if◌then◌else◌, IfSome, FitsSigned};
 ghost use Rattle.std.specs.Int.{w32};
-ghost use Rattle.protocol_traits.specs.declared.forms.Opening.{Opening};
-ghost use Rattle.protocol_traits.specs.declared.nest.Slot.TheVariants.{Fields};
 ghost use Rattle.protocol_traits.specs.Heads.{header_of};
 ghost use Rattle.protocol_traits.specs.Room.{head_weight};
 ghost use Rattle.protocol_traits.specs.Steps.{seen};
@@ -13,7 +11,6 @@ ghost use Rattle.translate_core.specs.Body.{first_cause, source_of, target_of, g
 ghost use Rattle.translate_core.specs.Judged.{judge, IsJudged, after_body, body_bytes, kept, Grows, IsLeft, type_of};
 
 use crate::body::{body, first_cause};
-use crate::leaves::AROUND;
 use crate::passing::pass_quickly;
 use crate::route::{Route, Told, told_of};
 use crate::verdict::{Cause, HeadInfo, Verdict};
@@ -30,6 +27,7 @@ use type_walk::{Undeclared, Walk, Walking};
 /// `room` is the reader's, at least as long as the frame. The verdict is `Unread` where no front of the frame is a
 /// whole header, else `Refused` with the fault where the frame is no message, else `Refused` with the first value that
 /// is barred, the name before the others, and else `Passed`.
+#[inline(never)]
 pub fn translate<'f, R: WireRead<'f>, W: WireWrite>(
     schema: &Schema,
     route: Route,
@@ -64,7 +62,7 @@ pub fn translate<'f, R: WireRead<'f>, W: WireWrite>(
     verdict
 }
 
-/// The same by the quick way, where it leads to the end: what it doesn't take is taken event by event.
+/// The same, by the quick way where it leads to the end, and else event by event.
 pub fn translate_quickly<'f, R: WireRead<'f> + FormRead, W: FormWrite>(
     schema: &Schema,
     route: Route,
@@ -83,57 +81,10 @@ pub fn translate_quickly<'f, R: WireRead<'f> + FormRead, W: FormWrite>(
     ensures room { out.new.room ≡ out.old.room }
     ensures short { length out.new.bytes ≤ length out.old.bytes + (24 * length frame.now + 256) }
 {
-    let start = out.bytes().len();
-    let mut reader = R::over(frame, room);
-    let mut writer = W::over();
-    let (told, bar) = match reader.head() {
-        Ok(head) => {
-            let told = told_of(schema, route, &head);
-            (told, pass_head(&mut writer, head, out))
-        }
-        Err(fault) => return Verdict::Unread(fault),
-    };
-    let barred = first_cause(None, bar, reader.place());
-    let verdict = verdict_quickly(schema, told, frame, &mut reader, &mut writer, barred, out);
-    keep(&verdict, start, out);
-    verdict
-}
-
-/// Takes the body and the end, and answers the verdict, by what the header tells: by the quick way, or else event by event.
-fn verdict_quickly<'f, R: WireRead<'f> + FormRead, W: FormWrite>(
-    schema: &Schema,
-    told: Told,
-    frame: &[u8],
-    reader: &mut R,
-    writer: &mut W,
-    barred: Option<Cause>,
-    out: &mut Out,
-) -> Verdict
-    requires known { IfSome told.body (λ s. s.0 < length schema.now.structs) }
-    requires begins { R.depth reader.old ≡ 1 }
-    requires opens { writer.old ≡ W.begun }
-    requires size { length frame.now < 2 ^ 31 }
-    requires place { R.next_place reader.old ≤ length frame.now }
-    requires stands { R.stands_at reader.old frame.now (R.next_place reader.old) Opening.Body (Fields (pos 0) ∷ []) }
-    requires room { length out.old.bytes + R.ahead reader.old ≤ out.old.room }
-    requires cells { length out.old.bytes + (24 * length frame.now + AROUND) ≤ out.old.room + 24 * R.next_place reader.old }
-    ensures verdict { result ≡ after_body (source_of R.begun R.reads_head R.reads R.reads_end R.value_place R.ahead) told.info
-        (whole (source_of R.begun R.reads_head R.reads R.reads_end R.value_place R.ahead) typed
-        (target_of W.begun W.name_bar W.plain_head W.bar W.plain W.after)
-        (going reader.old (start schema.now told.body) writer.old 1 barred [])) }
-    ensures bytes { Grows result out.old.bytes out.new.bytes (body_bytes
-        (whole (source_of R.begun R.reads_head R.reads R.reads_end R.value_place R.ahead) typed
-        (target_of W.begun W.name_bar W.plain_head W.bar W.plain W.after)
-        (going reader.old (start schema.now told.body) writer.old 1 barred []))) }
-    ensures room { out.new.room ≡ out.old.room }
-    ensures short { (limit : ℕ) → R.ahead reader.old ≤ limit → 24 * length frame.now ≤ limit + 24 * R.next_place reader.old → length out.new.bytes ≤ length out.old.bytes + limit }
-{
-    let free = barred.is_none();
-    let passed = pass_quickly::<R, W>(schema, told.body, frame, reader.next_place(), free, out);
-    if passed {
-        return Verdict::Passed(told.info);
+    match pass_quickly::<R, W>(schema, route, frame, out) {
+        Some(info) => Verdict::Passed(info),
+        None => translate::<R, W>(schema, route, frame, room, out),
     }
-    verdict_by(schema, told, reader, writer, barred, out)
 }
 
 /// The type that a frame's header tells, or the fault that stands in the header.

@@ -1,50 +1,83 @@
 //! The quick way into the output.
-ghost use Rattle.std.specs.Prelude.{◌≡◌, pos, ◌+◌, ◌*◌, ◌≤◌, ◌<◌, ◌^◌, [], ◌∷◌, length, true, false, IfSome};
+ghost use Rattle.std.specs.Prelude.{◌≡◌, pos, ◌+◌, ◌*◌, ◌≤◌, ◌<◌, ◌^◌, [], ◌∷◌, ◌++◌, length, true, false, None, IfErr, IfOk, IfSome};
 ghost use Rattle.protocol_traits.specs.declared.forms.Opening.{Opening};
 ghost use Rattle.protocol_traits.specs.Forms.{IsPast};
+ghost use Rattle.protocol_traits.specs.Heads.{header_of};
+ghost use Rattle.protocol_traits.specs.Room.{head_weight};
+ghost use Rattle.protocol_traits.specs.Steps.{IsFree};
 ghost use Rattle.protocol_traits.specs.declared.nest.Slot.TheVariants.{Fields};
 ghost use Rattle.type_tables.specs.Declarations.{Declarations};
 ghost use Rattle.type_tables.specs.Known.{IsKnown};
 ghost use Rattle.type_walk.specs.Positions.{start};
+ghost use Rattle.translate_core.specs.declared.verdict.Verdict.TheVariants.{Passed};
+ghost use Rattle.translate_core.specs.Positions.{typed};
+ghost use Rattle.translate_core.specs.Routes.{IsKnownRoute, info_of, start_of};
+ghost use Rattle.translate_core.specs.Judged.{IsJudged, judge};
 ghost use Rattle.translate_core.specs.Body.{source_of, target_of};
 ghost use Rattle.translate_core.specs.Quick.{Grows, HasRoom, Passes, TakesFields, body_type};
 
 use crate::known::{Declared, Nothing};
 use crate::leaves::{AROUND, Reach};
 use crate::quick::take_fields;
+use crate::route::{Route, told_of};
+use crate::verdict::HeadInfo;
 use gate_io::Out;
-use protocol_traits::{FormRead, FormWrite, Opening};
+use protocol_traits::{Bar, FormRead, FormWrite, Head, Opening};
 use type_tables::{Schema, StructId, Ty};
 
-/// Appends the body that begins at a place, and says that the message is whole; or leaves the output as it was, which
-/// says nothing of the frame. Where something bars the message the output is left.
+/// Appends a message's translation, and tells what its header says; or leaves the output as it was, which says nothing of
+/// the frame.
 pub fn pass_quickly<R: FormRead, W: FormWrite>(
     schema: &Schema,
-    body: Option<StructId>,
+    route: Route,
     frame: &[u8],
-    at: usize,
-    free: bool,
     out: &mut Out,
-) -> bool
-    requires known { IfSome body (λ s. s.0 < length schema.now.structs) }
+) -> Option<HeadInfo>
+    requires known { IsKnownRoute schema.now route }
     requires size { length frame.now < 2 ^ 31 }
-    requires place { at ≤ length frame.now }
-    requires room { length out.old.bytes + (24 * length frame.now + AROUND) ≤ out.old.room + 24 * at }
-    ensures left { result ≡ false → out.new ≡ out.old }
-    ensures free { result ≡ true → free ≡ true }
+    requires fits { length out.old.bytes + (24 * length frame.now + 256) ≤ out.old.room }
+    ensures left { result ≡ None → out.new ≡ out.old }
     ensures room { out.new.room ≡ out.old.room }
-    ensures short { length out.new.bytes + 24 * at ≤ length out.old.bytes + 24 * length frame.now }
-    ensures passes { result ≡ true → (s : R) → R.stands_at s frame.now at Opening.Body (Fields (pos 0) ∷ []) → Passes
-        (source_of R.begun R.reads_head R.reads R.reads_end R.value_place R.ahead) (target_of W.begun W.name_bar W.plain_head W.bar W.plain W.after)
-        s (start schema.now body) out.old.bytes out.new.bytes }
+    ensures short { length out.new.bytes ≤ length out.old.bytes + (24 * length frame.now + 256) }
+    ensures passes { IfSome result (λ info. IsJudged (Passed info) out.old.bytes out.new.bytes
+        (judge (source_of R.begun R.reads_head R.reads R.reads_end R.value_place R.ahead) typed (start_of schema.now route) (info_of schema.now route)
+        (target_of W.begun W.name_bar W.plain_head W.bar W.plain W.after) frame.now)) }
 {
-    if free {
-        return append_body::<R, W>(schema, body, frame, at, out);
+    let start = out.bytes().len();
+    let (head, at) = R::front(frame)?;
+    let told = told_of(schema, route, &head);
+    match append_front::<W>(head, out) {
+        Ok(()) => {
+            if append_body::<R, W>(schema, told.body, frame, at, out) {
+                return Some(told.info);
+            }
+            out.cut(start);
+            None
+        }
+        Err(_) => None,
     }
-    false
 }
 
-/// The same where nothing bars the message.
+/// Appends a header, unless its name is barred.
+fn append_front<W: FormWrite>(head: Head<'_>, out: &mut Out) -> Result<(), Bar>
+    requires sized { length head.name.now < 2 ^ 31 }
+    requires room { length out.old.bytes + head_weight (length head.name.now) ≤ out.old.room }
+    ensures free { IsFree result (W.name_bar head.entry.name.now) }
+    ensures out { IfOk result (λ _. out.new ≡ record out.old { bytes = out.old.bytes ++ W.plain_head (header_of head.entry) }) }
+    ensures left { IfErr result (λ _. out.new ≡ out.old) }
+    ensures short { length out.new.bytes ≤ length out.old.bytes + head_weight (length head.entry.name.now) }
+{
+    match W::takes_name(head.name) {
+        Ok(()) => {
+            W::front(&head, out);
+            Ok(())
+        }
+        Err(bar) => Err(bar),
+    }
+}
+
+/// Appends the body that begins at a place, and says that the message is whole; or leaves the output as it was, which
+/// says nothing of the frame.
 fn append_body<R: FormRead, W: FormWrite>(
     schema: &Schema,
     body: Option<StructId>,

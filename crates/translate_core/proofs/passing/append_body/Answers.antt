@@ -23,11 +23,11 @@ returns-in-Some-clause-passes g c passed s stands =
       standing d [],
       x.2,
       ap (λ (level : Level). whole source typed target (going s (standing d (level ∷ [])) g.W.WireWrite.begun 1 None [])) (body_level c.args.body)
-        ∙ (x.6 [] ∙ whole_end source typed target g.R.ReadRules.pays ended refl),
+          ∙ (x.6 [] ∙ whole_end source typed target g.R.ReadRules.pays ended refl),
       g.met.R.FormRead.ended x.0 c.args.frame.now openings.Old x.3,
       ap (λ (b : Buffer). b.bytes) c.cut.ensures
-        ∙ (ap (λ (n : ℕ). take (n + c.in-Some.written) (c.args.out.now.bytes ++ written_over c.tail-cells.result.now c.take_body.new.cells)) (ap (λ (held : List ℕ). length held) c.bytes-before.ensures.bytes)
-        ∙ cut_tail c.args.out.now.bytes c.tail-cells.result.now c.take_body.new.cells x.2 c.in-Some.written c.in-Some.ensures.kept x.5),
+          ∙ (ap (λ (n : ℕ). take (n + c.in-Some.written) (c.args.out.now.bytes ++ written_over c.tail-cells.result.now c.take_body.new.cells)) (ap (λ (held : List ℕ). length held) c.bytes-before.ensures.bytes)
+          ∙ cut_tail c.args.out.now.bytes c.tail-cells.result.now c.take_body.new.cells x.2 c.in-Some.written c.in-Some.ensures.kept x.5),
     )
 
 pub returns-in-None-clause-left : goal.returns-in-None-clause-left

@@ -1,0 +1,12 @@
+use Rattle.std.proofs.Common.{refl}
+use Rattle.thrift_value.specs.declared.kind.Kind.TheVariants as kinds
+use Rattle.json_protocol.specs.Writing.{number, flag}
+use Rattle.json_protocol.specs.WriteForms.{value_spelled}
+use Rattle.json_protocol.proofs.write_forms.JsonWriteFormWrite.bool.Goals as goal
+
+pub returns-clause-spells : goal.returns-clause-spells
+returns-clause-spells c = λ opening nest mark calls w there. (
+  refl,
+  value_spelled c.args.stand kinds.Bool c.args.cells.now c.lay_both.new.cells c.args.to c.lay_both.result (λ key. number key (flag c.args.value))
+      (rw (c.stand_lead.ensures.marks, c.flag_word.ensures.word, c.stand_key.ensures) at c.lay_both.ensures.laid) opening nest w calls there,
+)

@@ -1,0 +1,239 @@
+//! The writer's quick forms: one item laid into the cells, by value.
+ghost use Rattle.std.specs.Prelude.{◌≡◌, ℤ, pos, ◌+◌, ◌*◌, ◌≤◌, ◌∷◌, [], ◌++◌, true, length, take};
+ghost use Rattle.std.specs.Fmt.{signed_decimal};
+ghost use Rattle.json_text.specs.Plain.{text_spelling};
+ghost use Rattle.json_protocol.specs.Writing.{flag, kinds_spelling, sequence_spelling, stop_spelling};
+ghost use Rattle.json_protocol.specs.WriteForms.{stands_at, starts_at, goes_on, stand_lead};
+
+use crate::lay::{
+    container_end, flag_word, lay_both, lay_field, lay_whole, quoted_name, stand_key, stand_lead,
+    stop_marks,
+};
+use crate::put::put_head;
+use crate::writer::{JsonWrite, is_text, is_uuid};
+use cell_writes::lay;
+use gate_io::Out;
+use json_text::{lay_int, lay_text};
+use protocol_traits::{Container, FormWrite, Head, Hint, Mark, Opening, Stand};
+use thrift_value::Kind;
+
+impl FormWrite for JsonWrite {
+    ghost stands_at = { stands_at };
+
+    ghost hinted = { true };
+
+    ghost marked = { true };
+
+    ghost starts_at = { starts_at };
+
+    ghost goes_on = { goes_on };
+
+    #[inline(always)]
+    fn is_hinted() -> bool {
+        true
+    }
+
+    #[inline(always)]
+    fn is_marked() -> bool {
+        true
+    }
+
+    #[inline(always)]
+    fn front(head: &Head<'_>, out: &mut Out) {
+        put_head(head, out);
+    }
+
+    #[inline(always)]
+    fn field(
+        cells: &mut [u8],
+        to: usize,
+        opening: Opening,
+        _last: i16,
+        id: i16,
+        kind: Kind,
+    ) -> usize {
+        lay_field(cells, to, opening, i64::from(id), kind)
+    }
+
+    #[inline(always)]
+    fn flag(
+        cells: &mut [u8],
+        to: usize,
+        opening: Opening,
+        _last: i16,
+        id: i16,
+        value: bool,
+    ) -> usize {
+        let to = lay_field(cells, to, opening, i64::from(id), Kind::Bool);
+        lay(cells, to, flag_value(value))
+    }
+
+    #[inline(always)]
+    fn stop(cells: &mut [u8], to: usize, opening: Opening, depth: usize) -> usize {
+        lay_both(cells, to, stop_marks(opening), stop_word(depth))
+    }
+
+    #[inline(always)]
+    fn bool(cells: &mut [u8], to: usize, stand: Stand, value: bool) -> usize {
+        lay_both(
+            cells,
+            to,
+            stand_lead(stand),
+            flag_word(stand_key(stand), value),
+        )
+    }
+
+    #[inline(always)]
+    fn i8(cells: &mut [u8], to: usize, stand: Stand, value: i8) -> usize {
+        lay_whole(cells, to, stand, i64::from(value))
+    }
+
+    #[inline(always)]
+    fn i16(cells: &mut [u8], to: usize, stand: Stand, value: i16) -> usize {
+        lay_whole(cells, to, stand, i64::from(value))
+    }
+
+    #[inline(always)]
+    fn i32(cells: &mut [u8], to: usize, stand: Stand, value: i32) -> usize {
+        lay_whole(cells, to, stand, i64::from(value))
+    }
+
+    #[inline(always)]
+    fn i64(cells: &mut [u8], to: usize, stand: Stand, value: i64) -> usize {
+        lay_whole(cells, to, stand, value)
+    }
+
+    #[inline(always)]
+    fn double(_cells: &mut [u8], _to: usize, _stand: Stand, _value: u64) -> Option<usize> {
+        None
+    }
+
+    #[inline(always)]
+    fn uuid(
+        _cells: &mut [u8],
+        _to: usize,
+        _stand: Stand,
+        _frame: &[u8],
+        _begin: usize,
+    ) -> Option<usize> {
+        None
+    }
+
+    #[inline(always)]
+    fn text(
+        cells: &mut [u8],
+        to: usize,
+        stand: Stand,
+        hint: Hint,
+        frame: &[u8],
+        begin: usize,
+        end: usize,
+    ) -> Option<usize> {
+        let text = &frame[begin..end];
+        if !matches!(hint, Hint::Text) || !is_text(text) {
+            return None;
+        }
+        Some(lay_string(cells, to, stand, text))
+    }
+
+    #[inline(always)]
+    fn struct_begin(cells: &mut [u8], to: usize, stand: Stand) -> usize {
+        lay_both(cells, to, stand_lead(stand), b"{")
+    }
+
+    #[inline(always)]
+    fn elements(
+        cells: &mut [u8],
+        to: usize,
+        stand: Stand,
+        _container: Container,
+        kind: Kind,
+        size: u32,
+    ) -> Option<usize> {
+        if is_uuid(kind) {
+            return None;
+        }
+        let to = lay(cells, to, stand_lead(stand));
+        Some(lay_sequence(cells, to, kind, size))
+    }
+
+    #[inline(always)]
+    fn pairs(
+        cells: &mut [u8],
+        to: usize,
+        stand: Stand,
+        key: Kind,
+        value: Kind,
+        size: u32,
+    ) -> Option<usize> {
+        if is_uuid(key) || is_uuid(value) {
+            return None;
+        }
+        let to = lay_kinds(cells, to, stand, key, value);
+        Some(lay_int(cells, to, i64::from(size)))
+    }
+
+    #[inline(always)]
+    fn no_pairs(cells: &mut [u8], to: usize, stand: Stand, known: Mark) -> usize {
+        let to = lay_kinds(cells, to, stand, known.key, known.value);
+        lay(cells, to, b"0,{}]")
+    }
+
+    #[inline(always)]
+    fn end(cells: &mut [u8], to: usize, container: Container) -> usize {
+        lay(cells, to, container_end(container))
+    }
+}
+
+/// A bool field's value with the mark before it.
+#[inline(always)]
+fn flag_value(value: bool) -> &'static [u8]
+    ensures word { result.now ≡ 58 ∷ flag value }
+    ensures few { length result.now ≤ 2 }
+{
+    if value { b":1" } else { b":0" }
+}
+
+/// The end of a struct that is the innermost of so many levels. The last one closes the message too.
+#[inline(always)]
+fn stop_word(depth: usize) -> &'static [u8]
+    ensures word { result.now ≡ stop_spelling depth }
+    ensures few { length result.now ≤ 2 }
+{
+    if depth == 1 { b"}]" } else { b"}" }
+}
+
+/// Lays a text with the marks before it.
+fn lay_string(cells: &mut [u8], to: usize, stand: Stand, text: &[u8]) -> usize
+    requires { to + (6 * length text.now + 5 + 32) ≤ length cells.old }
+    ensures laid { take result cells.new ≡ take to cells.old ++ (stand_lead stand ++ text_spelling text.now) }
+    ensures short { result ≤ to + (6 * length text.now + 5) }
+{
+    let to = lay(cells, to, stand_lead(stand));
+    lay_text(cells, to, text)
+}
+
+/// Lays the kind and the number of the elements of a list or a set.
+#[inline(always)]
+fn lay_sequence(cells: &mut [u8], to: usize, kind: Kind, size: u32) -> usize
+    requires { to + 28 ≤ length cells.old }
+    ensures laid { take result cells.new ≡ take to cells.old ++ sequence_spelling kind size }
+    ensures short { result ≤ to + 17 }
+{
+    let to = lay_both(cells, to, b"[", quoted_name(kind));
+    let to = lay(cells, to, b",");
+    lay_int(cells, to, i64::from(size))
+}
+
+/// Lays the kinds of a map's keys and values with the marks before them.
+#[inline(always)]
+fn lay_kinds(cells: &mut [u8], to: usize, stand: Stand, key: Kind, value: Kind) -> usize
+    requires { to + 15 ≤ length cells.old }
+    ensures laid { take result cells.new ≡ take to cells.old ++ (stand_lead stand ++ kinds_spelling key value) }
+    ensures short { result ≤ to + 15 }
+{
+    let to = lay(cells, to, stand_lead(stand));
+    let to = lay_both(cells, to, b"[", quoted_name(key));
+    let to = lay_both(cells, to, b",", quoted_name(value));
+    lay(cells, to, b",")
+}
