@@ -16,12 +16,12 @@ use Rattle.session_judge.specs.Rules.{rules_of}
 use Rattle.proxy_server.specs.Serving.{Entry, Closing, Stands, IsHeld, HasClosed, IsAmong, IsOpenOne, IsEndedOne, IsFresh, no_more, Setting as Sessions}
 use Rattle.proxy_server.specs.Steps.{Serves}
 use Rattle.proxy_server.specs.Turning.{IsSettled}
+use Rattle.proxy_server.proofs.Calls.{served_writes}
 use Rattle.gate_words.specs.declared.serving.Serving.{Serving}
 use Rattle.gate_run.specs.Outcome.{Streams, WriteFailed}
 use Rattle.gate_run.specs.Serving.{ServesAll, Began, NotBegun, NoMemory, EndsBy, HasServed, GoesOn, settings, started_by, served_from}
 use Rattle.gate_run.specs.declared.status.Ending.{Ending}
 use Rattle.gate_run.specs.declared.status.Ending.TheVariants as endings
-use Rattle.proxy_server.proofs.Calls.{served_writes}
 use Rattle.gate_run.proofs.Outcome.{rose_earlier}
 
 -- an announced session has ended, or is settled
@@ -48,7 +48,8 @@ module _ (told told' : Meaning → Type 0) (counts counts' : Counts) (s : Servin
   by_result : (first before now : ℕ) (a b : Streams) (ending : Ending) (result : Served) → first ≤ before → Serves Setting rules_of (settings s d service) (served_from told counts a) (served_from told' counts' b) result → EndsBy result before now a b ending → (Rose first now → ⊥) → (WriteFailed a b → ⊥) → ((ending ≡ endings.Done) × HasServed told' s d service) ⊎ ((ending ≡ endings.BudgetSpent) × GoesOn told') ⊎ (ending ≡ endings.OutOfMemory)
   by_result first before now a b ending served.Stopped later x ends no_hub no_write = inl (ends.0, stopped a b x)
   by_result first before now a b ending served.HubFault later x ends no_hub no_write = absurd (no_hub (rose_earlier first before now later ends.1))
-  by_result first before now a b ending served.WriteFault later x ends no_hub no_write = absurd (no_write (inl (served_writes Setting served.WriteFault x.lines (served_from told counts a) (served_from told' counts' b) x.ended x.held x.writes x.answers).1))
+  by_result first before now a b ending served.WriteFault later x ends no_hub no_write =
+      absurd (no_write (inl (served_writes Setting served.WriteFault x.lines (served_from told counts a) (served_from told' counts' b) x.ended x.held x.writes x.answers).1))
   by_result first before now a b ending served.Budget later x ends no_hub no_write = inr (inl (ends.0, spent a b x))
   by_result first before now a b ending served.OutOfMemory later x ends no_hub no_write = inr (inr ends.0)
 

@@ -11,8 +11,7 @@ use Rattle.idl_rules.specs.declared.row.IdlRow.TheVariants as rows
 use Rattle.idl_files.specs.declared.fault.LoadError.{LoadError}
 use Rattle.idl_files.specs.declared.fault.LoadError.TheVariants as errors
 use Rattle.idl_files.specs.declared.mentions.Mention.{Mention}
-use Rattle.gate_base.specs.Causes.{Rose}
-use Rattle.idl_files.specs.Answers.{Gives, Refuses, HasCause, IsNoFileFault, AllBelow, AllWhole, Extends}
+use Rattle.idl_files.specs.Answers.{Gives, Refuses, AllBelow, AllWhole, Extends}
 use Rattle.idl_files.specs.Listing.{fresh, with_includes}
 use Rattle.idl_files.specs.Walk.{Load, Included, Walked, included, mentioned, mention_of, go_on, refusal, is_full, loaded, load_by, open_by, document_of}
 
@@ -21,23 +20,6 @@ pub refuses : {X Y : Type 0} (view : X → Y) (error : LoadError) (meant : IdlFa
 refuses view (errors.Idl fault) meant given r e = e ∙ ap (λ (f : IdlFault). Err f) (sym r)
 refuses view errors.FileFault meant given r e = absurd r
 refuses view errors.OutOfMemory meant given r e = tt
-
--- no fetch failed up to here, and this came of the next
-pub cause_on : {X : Type 0} (r : Result X LoadError) (before mid now : ℕ) → mid ≡ before → HasCause r mid now → HasCause r before now
-cause_on r before mid now e h = subst (λ (n : ℕ). HasCause r n now) e h
-
--- a text is parsed without a look at the files
-pub cause_behind : {X : Type 0} (r : Result X LoadError) (before now : ℕ) → IsNoFileFault r → now ≡ before → HasCause r before now
-cause_behind (Ok x) before now h e = e
-cause_behind (Err (errors.Idl fault)) before now h e = e
-cause_behind (Err errors.FileFault) before now h e = absurd h
-cause_behind (Err errors.OutOfMemory) before now h e = e
-
--- the same of an error that is passed on
-pub cause_passed : {X Y : Type 0} (error : LoadError) (before mid now : ℕ) → mid ≡ before → HasCause {X = X} (Err error) mid now → HasCause {X = Y} (Err error) before now
-cause_passed (errors.Idl fault) before mid now e h = h ∙ e
-cause_passed errors.FileFault before mid now e h = subst (λ (n : ℕ). Rose n now) e h
-cause_passed errors.OutOfMemory before mid now e h = h ∙ e
 
 module _ (holds : List ℕ → Option (List ℕ)) where
   -- a file is loaded without a case on the levels
