@@ -31,7 +31,7 @@ use Rattle.stream_laws.specs.Covering.{passage_of, IsConverted, IsWritten, IsRep
 
 -- what is read of a source that tells what is left of it consists of bytes
 pub are_read : {source : Option (List ℕ)} (left now : Option (List ℕ)) → IfSome source AreBytes → left ≡ source → IsSome left → (read : List ℕ) → Consumes left now read → AreBytes read
-are_read None now are same told read c = absurd told
+are_read None now are same told read c = absurd (cc)
 are_read (Some x) None are same told read c = absurd c
 are_read (Some x) (Some y) are same told read c = (bytes_front read y (subst AreBytes c (subst (λ l. IfSome l AreBytes) (sym same) are))).0
 
