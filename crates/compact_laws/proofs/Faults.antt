@@ -39,7 +39,7 @@ not_shallow e = absurd (cc)
 not_cut : reasons.TooDeep ≡ reasons.Truncated → ⊥
 not_cut e = absurd (cc)
 
-no_faulty_depth : (part : Part) (l : List ℕ) → IsFaulty part reasons.TooDeep l → ⊥
+pub no_faulty_depth : (part : Part) (l : List ℕ) → IsFaulty part reasons.TooDeep l → ⊥
 no_faulty_depth protocol_byte l bad = bad
 no_faulty_depth version_byte l bad = bad
 no_faulty_depth (field_byte last) l bad = bad
@@ -68,7 +68,7 @@ module _ (bytes : List ℕ) (are : AreBytes bytes) (f : Fault) (refused : IsRefu
       by_called (inr (less, (part, called, bad))) = absurd (no_faulty_depth part (drop f.place bytes) (subst (λ r. IsFaulty part r (drop f.place bytes)) deep bad))
 
   -- where a value is called for that lies too deep, the frame is refused for one, there or before
-  deep_first : (place : ℕ) → place ≤ length bytes → IsCalled level_part bytes place → (f.reason ≡ reasons.TooDeep) × (f.place ≤ place)
+  pub deep_first : (place : ℕ) → place ≤ length bytes → IsCalled level_part bytes place → (f.reason ≡ reasons.TooDeep) × (f.place ≤ place)
   deep_first place less called =
       let d = deep_there bytes are place less called in
       let same = one_fault bytes d.0 f d.1 refused in
@@ -81,7 +81,7 @@ module _ (bytes : List ℕ) (are : AreBytes bytes) (f : Fault) (refused : IsRefu
 
 -- ---- the fault stands there
 
-abbrev ItemAt : Reason → List ℕ → ℕ → Type 0
+abbrev pub ItemAt : Reason → List ℕ → ℕ → Type 0
 ItemAt reason bytes place = (place < length bytes) × IsShallow bytes place × ((part : Part) × IsCalled part bytes place × IsFaulty part reason (drop place bytes))
 
 by_item : (r : Reason) → (r ≡ reasons.Truncated → ⊥) → (r ≡ reasons.Trailing → ⊥) → (r ≡ reasons.TooDeep → ⊥) → (bytes : List ℕ) (f : Fault) → r ≡ f.reason → AreBytes bytes → IsRefused bytes f → ItemAt r bytes f.place
@@ -161,7 +161,7 @@ module _ (bytes : List ℕ) (f : Fault) (are : AreBytes bytes) where
           let all : take f.place bytes ++ x ∷ rest ≡ bytes = ap (λ l. take f.place bytes ++ l) (sym h) ∙ take-append-drop f.place bytes in
           subst (IsRefused bytes) (same_fault t.0 f (t.3 ∙ size) (t.2 ∙ e)) (subst (λ l. IsRefused l t.0) all t.1)
 
-  item_refuses : (r : Reason) → r ≡ f.reason → ItemAt r bytes f.place → IsRefused bytes f
+  pub item_refuses : (r : Reason) → r ≡ f.reason → ItemAt r bytes f.place → IsRefused bytes f
   item_refuses r e (less, shallow, (part, called, bad)) = by_way (wrong_there bytes are f.place (omega (arith, less)) part r less called bad)
     where
       by_way : IsRefused bytes (record { place = f.place; reason = r }) ⊎ DeepBy bytes f.place → IsRefused bytes f
@@ -186,7 +186,7 @@ one bytes f g are stands other = one_fault bytes f g (refuses bytes f are stands
 -- ---- what stands before it, and with it
 
 -- a front of what begins a message begins one
-viable_front : (n : ℕ) (bytes : List ℕ) → IsViable bytes → IsViable (take n bytes)
+pub viable_front : (n : ℕ) (bytes : List ℕ) → IsViable bytes → IsViable (take n bytes)
 viable_front n bytes (more, m, spells) =
     (drop n bytes ++ more, m, subst (CompactSpells m) (ap (λ l. l ++ more) (sym (take-append-drop n bytes)) ∙ append_assoc (take n bytes) (drop n bytes) more) spells)
 

@@ -31,4 +31,5 @@ pub mod Arriving
 pub mod Refusing
 pub mod Before
 pub mod Faults
+pub mod Inner
 pub mod Each

@@ -6,7 +6,7 @@ use Rattle.protocol_traits.specs.declared.fault.Reason.{Reason}
 use Rattle.protocol_traits.specs.declared.fault.Reason.TheVariants as reasons
 use Rattle.compact_protocol.specs.Grammar.{CompactSpells}
 use Rattle.compact_laws.specs.Called.{Part, level_part, IsCalled}
-use Rattle.compact_laws.specs.Extent.{extent}
+use Rattle.compact_laws.specs.Extent.{extent, part_end}
 use Rattle.compact_laws.specs.Faulty.{IsFaulty}
 use Rattle.compact_laws.specs.Refused.{IsViable}
 
@@ -17,6 +17,10 @@ IsWhole bytes = (m : Message) × CompactSpells m bytes × (depth_of_members m.bo
 -- the frame through the item at fault, as far as it has it
 abbrev pub with_item : Reason → List ℕ → ℕ → List ℕ
 with_item reason bytes place = take (place + extent reason (drop place bytes)) bytes
+
+-- the frame through the part that begins at this place, as far as it has it
+abbrev pub with_part : Part → List ℕ → ℕ → List ℕ
+with_part part bytes place = take (place + part_end part (drop place bytes)) bytes
 
 -- at no place up to this one is a value called for that 256 levels lie around
 abbrev pub IsShallow : List ℕ → ℕ → Type 0

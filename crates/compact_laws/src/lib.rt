@@ -3,18 +3,22 @@
 //! Each law is the contract of a function that does nothing. The code rests on none of them.
 #![tactic(auto)]
 
-ghost use Rattle.std.specs.Prelude.{◌≡◌, ◌<◌, ◌≤◌, ◌⊎◌, List, ℕ, ℤ, pos, [], ◌∷◌, ◌++◌, length, take};
+ghost use Rattle.std.specs.Prelude.{◌≡◌, ◌<◌, ◌≤◌, ◌+◌, ◌⊎◌, List, ℕ, ℤ, pos, [], ◌∷◌, ◌++◌, length, take, drop};
 ghost use Rattle.thrift_value.specs.Items.{Item};
 ghost use Rattle.thrift_value.specs.Trees.{Message, Members, depth_of_members, items_of_members};
 ghost use Rattle.protocol_traits.specs.Heads.{Header};
 ghost use Rattle.protocol_traits.specs.declared.fault.Fault.{Fault};
+ghost use Rattle.protocol_traits.specs.declared.fault.Reason.{Reason};
 ghost use Rattle.protocol_traits.specs.declared.fault.Reason.TheVariants as reasons;
 ghost use Rattle.protocol_traits.specs.declared.nest.Slot.TheVariants as slots;
 ghost use Rattle.compact_protocol.specs.Grammar.{CompactSpells, SpellsMembers};
 ghost use Rattle.gate_base.specs.Bytes.{AreBytes};
 ghost use Rattle.binary_laws.specs.Reads.{header_of_message};
 ghost use Rattle.binary_laws.specs.Written.{IsMessage};
-ghost use Rattle.compact_laws.specs.Faults.{IsWhole, with_item, FaultAt};
+ghost use Rattle.compact_laws.specs.Called.{Part, IsCalled};
+ghost use Rattle.compact_laws.specs.Extent.{part_end};
+ghost use Rattle.compact_laws.specs.Faults.{IsWhole, with_item, with_part, IsShallow, FaultAt};
+ghost use Rattle.compact_laws.specs.Faulty.{IsFaulty};
 ghost use Rattle.compact_laws.specs.Fronts.{Leads};
 ghost use Rattle.compact_laws.specs.Reads.{IsRead};
 ghost use Rattle.compact_laws.specs.Refused.{IsViable, IsRefused};
@@ -90,6 +94,20 @@ pub fn the_fault_that_stands_there()
     ensures before { (bytes : List ℕ) (f : Fault) → AreBytes bytes → FaultAt bytes f → IsViable (take f.place bytes) }
     ensures behind { (bytes : List ℕ) (f : Fault) → AreBytes bytes → FaultAt bytes f → (f.reason ≡ reasons.Truncated → ⊥) → (f.reason ≡ reasons.Trailing → ⊥) → (f.reason ≡ reasons.TooDeep → ⊥) → IsViable (with_item f.reason bytes f.place) → ⊥ }
     ensures item_tells { (bytes : List ℕ) (f : Fault) → AreBytes bytes → IsRefused bytes f → (f.reason ≡ reasons.Truncated → ⊥) → (f.reason ≡ reasons.Trailing → ⊥) → IsRefused (with_item f.reason bytes f.place) f }
+{}
+
+/// Where a part of a message is called for, with no value so far that lies too deep, the grammar alone tells whether it is at fault. If what
+/// begins there is none of the part, the frame through the part, as far as it has it, begins no message, of any depth. If that begins none,
+/// the frame is refused there, and not for what trails a message. Inside a part no other is called for, and no message ends.
+pub fn a_part_at_fault_begins_no_message()
+    ensures behind { (bytes : List ℕ) (place : ℕ) (part : Part) (reason : Reason) → AreBytes bytes → place < length bytes → IsShallow bytes place
+        → IsCalled part bytes place → IsFaulty part reason (drop place bytes) → IsViable (with_part part bytes place) → ⊥ }
+    ensures refused { (bytes : List ℕ) (place : ℕ) (part : Part) → AreBytes bytes → place < length bytes → IsShallow bytes place
+        → IsCalled part bytes place → (IsViable (with_part part bytes place) → ⊥)
+        → (reason : Reason) × (reason ≡ reasons.Trailing → ⊥) × IsRefused bytes (record { place = place; reason = reason }) }
+    ensures inside { (bytes : List ℕ) (place later : ℕ) (part : Part) → AreBytes bytes → IsShallow bytes place → place < later → later ≤ length bytes
+        → IsCalled part bytes place → later < place + part_end part (drop place bytes)
+        → ((other : Part) → IsCalled other bytes later → ⊥) × (IsWhole (take later bytes) → ⊥) }
 {}
 
 /// A body is spelled item by item: the levels go on from item to item with bytes that spell it there, and behind the last none is open.
