@@ -1,5 +1,5 @@
 -- No part is called for inside another, and one with which the frame begins no message is refused.
-use Rattle.std.proofs.Common.{◌≡◌, ℕ, zero, suc, ◌+◌, ◌-◌, ◌<◌, ◌≤◌, ◌^◌, ℤ, Bool, true, false, List, [], ◌∷◌, ◌++◌, length, take, drop, refl, ap, ◌∙◌, sym, subst, arith, ◌⊎◌, inl, inr, length-append, length-take-le, length-drop, take-take, take-append-drop, drop_at}
+use Rattle.std.proofs.Common.{◌≡◌, ℕ, zero, suc, ◌+◌, ◌-◌, ◌<◌, ◌≤◌, Bool, true, false, List, [], ◌∷◌, ◌++◌, length, take, drop, refl, ap, ◌∙◌, sym, subst, arith, ◌⊎◌, inl, inr, length-append, length-take-le, length-drop, take-take, take-append-drop, drop_at}
 use Rattle.std.specs.Prelude.{⊤, nat_lt, nat_le, if◌then◌else◌}
 use Rattle.std.proofs.lemmas.Bool.Decides.{nat_tests}
 use Rattle.std.proofs.lemmas.List.{append-nil, take-append-le, drop-append-le, drop-take}
@@ -17,7 +17,7 @@ use Rattle.binary_laws.proofs.Closing.{bytes_join}
 use Rattle.binary_laws.proofs.Inverse.{bytes_front}
 use Rattle.binary_laws.proofs.OneFault.{same_fault}
 use Rattle.binary_laws.proofs.Placed.{short_take}
-use Rattle.compact_laws.specs.Called.{Part, protocol_byte, version_byte, field_byte, bool_byte, elements_byte, kinds_byte, varint_part, size_part, level_part, HeaderCalls, FieldCalls, ElementsCall, PairsCall, LevelCalls, ValueCalls, ItemCalls, BodyCalls, IsCalled}
+use Rattle.compact_laws.specs.Called.{Part, protocol_byte, version_byte, field_byte, bool_byte, elements_byte, kinds_byte, varint_part, size_part, level_part, HeaderCalls, ElementsCall, ValueCalls, ItemCalls, BodyCalls, IsCalled}
 use Rattle.compact_laws.specs.Extent.{varint_end, part_end}
 use Rattle.compact_laws.specs.Faulty.{IsFaulty}
 use Rattle.compact_laws.specs.Faults.{IsWhole, with_part, IsShallow, StandsAt, FaultAt}
