@@ -20,7 +20,7 @@ use Rattle.binary_laws.proofs.Placed.{short_take}
 use Rattle.compact_laws.specs.Called.{Part, protocol_byte, version_byte, field_byte, bool_byte, elements_byte, kinds_byte, varint_part, size_part, level_part, HeaderCalls, ElementsCall, ValueCalls, ItemCalls, BodyCalls, IsCalled}
 use Rattle.compact_laws.specs.Extent.{varint_end, part_end}
 use Rattle.compact_laws.specs.Faulty.{IsFaulty}
-use Rattle.compact_laws.specs.Faults.{IsWhole, with_part, IsShallow, StandsAt, FaultAt}
+use Rattle.compact_laws.specs.Faults.{IsWhole, with_part, IsShallow, StandsAt, FaultAt, IsRefusedAt, HasNone}
 use Rattle.compact_laws.specs.Refused.{IsViable, IsRefused}
 use Rattle.compact_laws.proofs.Either.{one_fault}
 use Rattle.compact_laws.proofs.Deep.{not_viable}
@@ -329,10 +329,6 @@ module _ (bytes : List ℕ) (are : AreBytes bytes) (place later most : ℕ) (par
   none_whole : IsWhole (take later bytes) → ⊥
   none_whole w = let all = size in no_other reasons.Trailing (refuses whole (at_place later reasons.Trailing) are_whole (omega (arith, all, long), flat_later, subst IsWhole (sym (same later (omega arith))) w))
 
--- inside a part none is called for, and no message ends
-abbrev pub HasNone : List ℕ → ℕ → Type 0
-HasNone bytes later = ((other : Part) → IsCalled other bytes later → ⊥) × (IsWhole (take later bytes) → ⊥)
-
 module _ (bytes : List ℕ) (are : AreBytes bytes) (place later : ℕ) (flat : IsShallow bytes place) (after : place < later) (within : later ≤ length bytes) where
   of_varint : (most : ℕ) (part : Part) → ((l : List ℕ) → AllGoOn l → most ≤ length l → IsFaulty part reasons.BadVarint l) → IsCalled part bytes place → later < place + varint_end most (drop place bytes) → HasNone bytes later
   of_varint most part bad called inside =
@@ -464,9 +460,6 @@ module _ (bytes : List ℕ) (are : AreBytes bytes) (place : ℕ) (part : Part) (
   flat_cut : (k : ℕ) → k ≤ place → IsShallow cut k
   flat_cut = flat_through bytes are place part less flat called
 
-  abbrev RefusedThere : Type 0
-  RefusedThere = (r : Reason) × (r ≡ reasons.Trailing → ⊥) × IsRefused bytes (at_place place r)
-
   -- where a part is called for no message ends
   no_message : IsWhole (take place bytes) → ⊥
   no_message w = by_kind (fills part n (omega arith) (omega arith))
@@ -562,7 +555,7 @@ module _ (bytes : List ℕ) (are : AreBytes bytes) (place : ℕ) (part : Part) (
     not_trailing reasons.Trailing e here (less, shallow, w) trail = no_message (subst IsWhole (ap (λ n. take n cut) here ∙ same_cut place (omega arith)) w)
     not_trailing r e here s trail = absurd (cc)
 
-    by_place : FaultAt cut g → (a b : Bool) → nat_lt g.place place ≡ a → nat_lt place g.place ≡ b → RefusedThere
+    by_place : FaultAt cut g → (a b : Bool) → nat_lt g.place place ≡ a → nat_lt place g.place ≡ b → IsRefusedAt bytes place
     by_place stands true b p q = absurd (earlier g.reason refl (grind (arith, nat_tests)) stands)
     by_place stands false true p q = absurd (later g.reason refl (grind (arith, nat_tests)) stands stands)
     by_place stands false false p q =
@@ -570,13 +563,13 @@ module _ (bytes : List ℕ) (are : AreBytes bytes) (place : ℕ) (part : Part) (
         let here : g.place ≡ place = grind (arith, nat_tests) in
         (g.reason, not_trailing g.reason refl here stands, subst (IsRefused bytes) (same_fault g (at_place place g.reason) here refl) all)
 
-  pub refused_there : RefusedThere
+  pub refused_there : IsRefusedAt bytes place
   refused_there = by_reading (judged cut are_cut)
     where
-      by_cut : (g : Fault) → IsRefused cut g → FaultAt cut g → Decided g.reason → RefusedThere
+      by_cut : (g : Fault) → IsRefused cut g → FaultAt cut g → Decided g.reason → IsRefusedAt bytes place
       by_cut g stops stands (inl t) = absurd (none (cut_viable cut g are_cut stops t).1)
       by_cut g stops stands (inr other) = by_place g stops other stands (nat_lt g.place place) (nat_lt place g.place) refl refl
 
-      by_reading : IsWhole cut ⊎ ((g : Fault) × IsRefused cut g × FaultAt cut g) → RefusedThere
+      by_reading : IsWhole cut ⊎ ((g : Fault) × IsRefused cut g × FaultAt cut g) → IsRefusedAt bytes place
       by_reading (inl (m, spells, deep)) = absurd (none ([], m, subst (CompactSpells m) (sym (append-nil cut)) spells))
       by_reading (inr (g, stops, stands)) = by_cut g stops stands (is_truncated g.reason)

@@ -4,11 +4,12 @@ use Rattle.thrift_value.specs.Trees.{Message, depth_of_members}
 use Rattle.protocol_traits.specs.declared.fault.Fault.{Fault}
 use Rattle.protocol_traits.specs.declared.fault.Reason.{Reason}
 use Rattle.protocol_traits.specs.declared.fault.Reason.TheVariants as reasons
+use Rattle.gate_base.specs.Bytes.{AreBytes}
 use Rattle.compact_protocol.specs.Grammar.{CompactSpells}
 use Rattle.compact_laws.specs.Called.{Part, level_part, IsCalled}
 use Rattle.compact_laws.specs.Extent.{extent, part_end}
 use Rattle.compact_laws.specs.Faulty.{IsFaulty}
-use Rattle.compact_laws.specs.Refused.{IsViable}
+use Rattle.compact_laws.specs.Refused.{IsViable, IsRefused}
 
 -- the bytes spell a message of depth at most 256, of which its body is one level
 abbrev pub IsWhole : List ℕ → Type 0
@@ -39,3 +40,26 @@ StandsAt reason bytes place = (place < length bytes) × IsShallow bytes place ×
 
 abbrev pub FaultAt : List ℕ → Fault → Type 0
 FaultAt bytes f = StandsAt f.reason bytes f.place
+
+-- ---- a part, by what the grammar spells
+
+-- The part is called for at this place of some bytes. A byte stands there, and no value up to there lies too deep.
+pub record IsPartAt (part : Part) (bytes : List ℕ) (place : ℕ) : Type 0 where
+  pub are : AreBytes bytes
+  pub within : place < length bytes
+  pub shallow : IsShallow bytes place
+  pub called : IsCalled part bytes place
+
+-- the frame is refused there, and not for what trails a message
+abbrev pub IsRefusedAt : List ℕ → ℕ → Type 0
+IsRefusedAt bytes place = (reason : Reason) × (reason ≡ reasons.Trailing → ⊥) × IsRefused bytes (record { place = place; reason = reason })
+
+-- the later place lies behind the part's first byte, and before its end
+pub record IsInside (part : Part) (bytes : List ℕ) (place later : ℕ) : Type 0 where
+  pub after : place < later
+  pub within : later ≤ length bytes
+  pub before_end : later < place + part_end part (drop place bytes)
+
+-- no part is called for there, and no message ends
+abbrev pub HasNone : List ℕ → ℕ → Type 0
+HasNone bytes place = ((part : Part) → IsCalled part bytes place → ⊥) × (IsWhole (take place bytes) → ⊥)

@@ -3,7 +3,7 @@
 //! Each law is the contract of a function that does nothing. The code rests on none of them.
 #![tactic(auto)]
 
-ghost use Rattle.std.specs.Prelude.{◌≡◌, ◌<◌, ◌≤◌, ◌+◌, ◌⊎◌, List, ℕ, ℤ, pos, [], ◌∷◌, ◌++◌, length, take, drop};
+ghost use Rattle.std.specs.Prelude.{◌≡◌, ◌<◌, ◌≤◌, ◌⊎◌, List, ℕ, ℤ, pos, [], ◌∷◌, ◌++◌, length, take, drop};
 ghost use Rattle.thrift_value.specs.Items.{Item};
 ghost use Rattle.thrift_value.specs.Trees.{Message, Members, depth_of_members, items_of_members};
 ghost use Rattle.protocol_traits.specs.Heads.{Header};
@@ -15,9 +15,8 @@ ghost use Rattle.compact_protocol.specs.Grammar.{CompactSpells, SpellsMembers};
 ghost use Rattle.gate_base.specs.Bytes.{AreBytes};
 ghost use Rattle.binary_laws.specs.Reads.{header_of_message};
 ghost use Rattle.binary_laws.specs.Written.{IsMessage};
-ghost use Rattle.compact_laws.specs.Called.{Part, IsCalled};
-ghost use Rattle.compact_laws.specs.Extent.{part_end};
-ghost use Rattle.compact_laws.specs.Faults.{IsWhole, with_item, with_part, IsShallow, FaultAt};
+ghost use Rattle.compact_laws.specs.Called.{Part};
+ghost use Rattle.compact_laws.specs.Faults.{IsWhole, with_item, with_part, FaultAt, IsPartAt, IsRefusedAt, IsInside, HasNone};
 ghost use Rattle.compact_laws.specs.Faulty.{IsFaulty};
 ghost use Rattle.compact_laws.specs.Fronts.{Leads};
 ghost use Rattle.compact_laws.specs.Reads.{IsRead};
@@ -100,14 +99,10 @@ pub fn the_fault_that_stands_there()
 /// begins there is none of the part, the frame through the part, as far as it has it, begins no message, of any depth. If that begins none,
 /// the frame is refused there, and not for what trails a message. Inside a part no other is called for, and no message ends.
 pub fn a_part_at_fault_begins_no_message()
-    ensures behind { (bytes : List ℕ) (place : ℕ) (part : Part) (reason : Reason) → AreBytes bytes → place < length bytes → IsShallow bytes place
-        → IsCalled part bytes place → IsFaulty part reason (drop place bytes) → IsViable (with_part part bytes place) → ⊥ }
-    ensures refused { (bytes : List ℕ) (place : ℕ) (part : Part) → AreBytes bytes → place < length bytes → IsShallow bytes place
-        → IsCalled part bytes place → (IsViable (with_part part bytes place) → ⊥)
-        → (reason : Reason) × (reason ≡ reasons.Trailing → ⊥) × IsRefused bytes (record { place = place; reason = reason }) }
-    ensures inside { (bytes : List ℕ) (place later : ℕ) (part : Part) → AreBytes bytes → IsShallow bytes place → place < later → later ≤ length bytes
-        → IsCalled part bytes place → later < place + part_end part (drop place bytes)
-        → ((other : Part) → IsCalled other bytes later → ⊥) × (IsWhole (take later bytes) → ⊥) }
+    ensures behind { (bytes : List ℕ) (place : ℕ) (part : Part) (reason : Reason) → IsPartAt part bytes place → IsFaulty part reason (drop place bytes)
+        → IsViable (with_part part bytes place) → ⊥ }
+    ensures refused { (bytes : List ℕ) (place : ℕ) (part : Part) → IsPartAt part bytes place → (IsViable (with_part part bytes place) → ⊥) → IsRefusedAt bytes place }
+    ensures inside { (bytes : List ℕ) (place later : ℕ) (part : Part) → IsPartAt part bytes place → IsInside part bytes place later → HasNone bytes later }
 {}
 
 /// A body is spelled item by item: the levels go on from item to item with bytes that spell it there, and behind the last none is open.
