@@ -1,10 +1,12 @@
 -- What a session has carried from each side to the other.
-use Rattle.std.specs.Prelude.{◌≡◌, ℕ, ℤ, ◌+◌, ◌-◌, ◌<◌, ◌≤◌, List, [], length, take, Bool, true, false, Some, slice_get}
+use Rattle.std.specs.Prelude.{◌≡◌, ℕ, ℤ, ◌+◌, ◌-◌, ◌^◌, ◌<◌, ◌≤◌, List, [], length, take, Bool, true, false, None, Some, slice_get}
 use Rattle.std.specs.List.{flat_map}
+use Rattle.gate_base.specs.Bytes.{AreBytes}
 use Rattle.protocol_traits.specs.Heads.{Header}
 use Rattle.framed_transport.specs.Frames.{framed}
 use Rattle.framed_transport.specs.Front.{Whole, Large, front, is_part}
-use Rattle.session_core.specs.Standing.{History}
+use Rattle.session_core.specs.Standing.{Standing, History}
+use Rattle.session_core.specs.Ends.{IsAtRest}
 use Rattle.session_core.specs.Stands.{IsTaken, IsFrontOf}
 use Rattle.session_core.specs.Fits.{told}
 use Rattle.session_core.specs.declared.outcome.Halt.{Halt}
@@ -12,9 +14,21 @@ use Rattle.session_core.specs.declared.outcome.Halt.TheVariants as halt
 use Rattle.session_core.specs.declared.outcome.Outcome.{Outcome}
 use Rattle.session_core.specs.declared.outcome.Outcome.TheVariants as outcome
 use Rattle.session_judge.specs.Setting.{Setting}
-use Rattle.session_laws.specs.Saying.{Said}
+use Rattle.session_judge.specs.Rules.{rules_of}
+use Rattle.session_laws.specs.Saying.{HasLaws, Said}
 use Rattle.session_laws.specs.Exchange.{done, Tells, calls, onward, back}
 use Rattle.session_laws.specs.Streaming.{ClientHalts, UpstreamHalts, IsAsked, IsReplied}
+
+-- The laws cover sessions of this setting: they speak of both sides' protocols, and a frame is shorter than 2^31 bytes.
+pub record IsCovered (s : Setting) (limit : ℕ) : Type 0 where
+  pub client : HasLaws s.client
+  pub upstream : HasLaws s.upstream
+  pub small : limit < 2 ^ 31
+
+-- what came of both sides consists of bytes
+pub record IsOfBytes (h : History) : Type 0 where
+  pub client : AreBytes h.from_client
+  pub upstream : AreBytes h.from_upstream
 
 -- Each side was sent a front of what the other's frames give: the upstream the client's messages, and the client the replies to its calls
 -- and the exceptions that tell refusals, each in its place.
@@ -47,6 +61,12 @@ pub record IsComplete (s : Setting) (most : ℕ) (asked replied : List Said) (h 
   pub j : ℕ
   pub sent : IsSent s most asked replied h i j
   pub greatest : (k l : ℕ) → IsStand s most asked replied k l → (k ≤ i) × (l ≤ j)
+
+-- the session is at rest with no outcome, and all that was due was sent
+pub record HasSent (s : Setting) (limit most : ℕ) (t : Standing) : Type 0 where
+  pub rests : IsAtRest (rules_of s) limit most t None
+  pub to_client : t.to_client ≡ []
+  pub to_upstream : t.to_upstream ≡ []
 
 -- what stands behind the frames of a side that were taken halts it: a frame, a length that is too large, or its end within a frame
 pub data Halted (FrameHalts : List ℕ → Halt → Type 0) (limit : ℕ) (rest : List ℕ) (ended : Bool) : Halt → Type 0 where

@@ -23,9 +23,14 @@ use Rattle.session_laws.specs.Carrying.{Carries, IsComplete, IsEnded}
 abbrev pub sessions_of : Setting → ℕ → ℕ → ℕ → ℕ → Sessions
 sessions_of s limit most sessions events = record { rules = rules_of s; limit = limit; most = most; sessions = sessions; events = events }
 
+-- what was written to an output, where it tells it, and its faults
+pub record Output : Type 0 where
+  pub written : Option (List ℕ)
+  pub faults : ℕ
+
 -- a hub and an output, as they tell
-abbrev pub leaving : (Meaning → Type 0) → Counts → Option (List ℕ) → ℕ → Outside
-leaving told counts written faults = record { told = told; counts = counts; written = written; faults = faults }
+abbrev pub leaving : (Meaning → Type 0) → Counts → Output → Outside
+leaving told counts x = record { told = told; counts = counts; written = x.written; faults = x.faults }
 
 -- neither side's last write was refused for want of room
 abbrev pub IsWritable : Told → Type 0

@@ -3,27 +3,21 @@
 //! Each law is the contract of a function that does nothing. The code rests on none of them.
 #![tactic(auto)]
 
-ghost use Rattle.std.specs.Prelude.{◌≡◌, ◌<◌, ◌^◌, List, [], ℕ, Option, Some, None};
-ghost use Rattle.protocol_traits.specs.declared.proto.Proto.{Proto};
+ghost use Rattle.std.specs.Prelude.{◌≡◌, ◌<◌, List, ℕ, Some};
 ghost use Rattle.protocol_traits.specs.Heads.{Header};
-ghost use Rattle.type_tables.specs.Declarations.{Declarations};
-ghost use Rattle.translate_core.specs.declared.route.Route.{Route};
 ghost use Rattle.translate_core.specs.declared.verdict.Cause.{Cause};
 ghost use Rattle.protocol_pairs.specs.Pairs.{answered};
 ghost use Rattle.gate_hub.specs.declared.hub.Served.{Served};
 ghost use Rattle.session_core.specs.Standing.{Standing, History};
 ghost use Rattle.session_core.specs.Fits.{Fits};
-ghost use Rattle.session_core.specs.Ends.{IsAtRest};
 ghost use Rattle.session_core.specs.Steps.{outcome_of};
 ghost use Rattle.session_core.specs.declared.outcome.Outcome.{Outcome};
 ghost use Rattle.session_judge.specs.Setting.{Setting};
 ghost use Rattle.session_judge.specs.Rules.{rules_of};
 ghost use Rattle.proxy_server.specs.Steps.{Serves};
-ghost use Rattle.gate_base.specs.Bytes.{AreBytes};
-ghost use Rattle.verdict_laws.specs.Rounds.{SpellsIn, plain_in};
-ghost use Rattle.session_laws.specs.Saying.{HasLaws, BeginsWith, failure_of};
-ghost use Rattle.session_laws.specs.Carrying.{Carries, IsComplete, IsEnded};
-ghost use Rattle.session_laws.specs.Serving.{sessions_of, leaving, CarriesAll};
+ghost use Rattle.session_laws.specs.Saying.{HasLaws, Passage, BeginsWith, SpellsPlainly, failure_of};
+ghost use Rattle.session_laws.specs.Carrying.{IsCovered, IsOfBytes, Carries, HasSent, IsComplete, IsEnded};
+ghost use Rattle.session_laws.specs.Serving.{sessions_of, Output, leaving, CarriesAll};
 
 use framed_transport::{a_stream_is_split, frame_stands_at_the_front};
 use gate_hub::Hub;
@@ -31,14 +25,13 @@ use gate_hub::Hub;
 /// The answer to a refused message is the plain spelling of an exception with its sequence number and its name without the service
 /// before it. Field 1 of the exception is the text of the cause, field 2 the type 7, a protocol error.
 pub fn an_answer_spells_an_exception()
-    ensures { (d : Declarations) (route : Route) (from to : Proto) (frame : List ℕ) (header : Header) (cause : Cause) → HasLaws to → BeginsWith from header frame
-        → SpellsIn to (failure_of to header cause) (answered from to frame cause) × (answered from to frame cause ≡ plain_in to d route (failure_of to header cause)) }
+    ensures { (p : Passage) (frame : List ℕ) (header : Header) (cause : Cause) → HasLaws p.to → BeginsWith p.from header frame
+        → SpellsPlainly p p.to (failure_of p.to header cause) (answered p.from p.to frame cause) }
 {}
 
 /// What each side of a session was sent is a front of what all frames of the other give.
 pub fn what_was_sent_was_said()
-    ensures { (s : Setting) (limit most : ℕ) (h : History) (t : Standing) → HasLaws s.client → HasLaws s.upstream → limit < 2 ^ 31 → AreBytes h.from_client → AreBytes h.from_upstream
-        → Fits (rules_of s) limit most h t → Carries s limit h }
+    ensures { (s : Setting) (limit most : ℕ) (h : History) (t : Standing) → IsCovered s limit → IsOfBytes h → Fits (rules_of s) limit most h t → Carries s limit h }
 {
     frame_stands_at_the_front();
     a_stream_is_split();
@@ -47,8 +40,8 @@ pub fn what_was_sent_was_said()
 /// Where a session is at rest with no outcome and all that was due was sent, each side was sent all that the order of the calls and the
 /// most of them that may be open allow.
 pub fn all_that_was_due_was_said()
-    ensures { (s : Setting) (limit most : ℕ) (h : History) (t : Standing) → HasLaws s.client → HasLaws s.upstream → limit < 2 ^ 31 → 0 < most → AreBytes h.from_client → AreBytes h.from_upstream
-        → Fits (rules_of s) limit most h t → IsAtRest (rules_of s) limit most t None → t.to_client ≡ [] → t.to_upstream ≡ [] → (c : Carries s limit h) × IsComplete s most c.asked c.replied h }
+    ensures { (s : Setting) (limit most : ℕ) (h : History) (t : Standing) → IsCovered s limit → 0 < most → IsOfBytes h → Fits (rules_of s) limit most h t
+        → HasSent s limit most t → (c : Carries s limit h) × IsComplete s most c.asked c.replied h }
 {
     frame_stands_at_the_front();
     a_stream_is_split();
@@ -57,7 +50,7 @@ pub fn all_that_was_due_was_said()
 /// Where a session has an outcome of its own, each side was sent all that was due for the frames that were taken, and the outcome says
 /// which frame, length or end was met behind them.
 pub fn an_outcome_says_why()
-    ensures { (s : Setting) (limit most : ℕ) (h : History) (t : Standing) (o : Outcome) → HasLaws s.client → HasLaws s.upstream → limit < 2 ^ 31 → 0 < most → AreBytes h.from_client → AreBytes h.from_upstream
+    ensures { (s : Setting) (limit most : ℕ) (h : History) (t : Standing) (o : Outcome) → IsCovered s limit → 0 < most → IsOfBytes h
         → Fits (rules_of s) limit most h t → outcome_of (rules_of s) limit most t ≡ Some o → (c : Carries s limit h) × IsEnded s limit most h c o }
 {
     frame_stands_at_the_front();
@@ -71,10 +64,9 @@ pub fn an_outcome_says_why()
 /// frame, length or end was met. One that was left open was sent all that the order of the calls and the most of them that may be open
 /// allow, where both sides can be written to and the budget isn't spent.
 pub fn a_server_carries_messages<H: Hub>()
-    ensures { (s : Setting) (limit most sessions events : ℕ) (h h' : H) (written written' : Option (List ℕ)) (faults faults' : ℕ) (result : Served)
-        → HasLaws s.client → HasLaws s.upstream → limit < 2 ^ 31 → 0 < most
-        → Serves Setting rules_of (sessions_of s limit most sessions events) (leaving (H.tells h) (H.counts h) written faults) (leaving (H.tells h') (H.counts h') written' faults') result
-        → CarriesAll s limit most (leaving (H.tells h) (H.counts h) written faults) (leaving (H.tells h') (H.counts h') written' faults') result }
+    ensures { (s : Setting) (limit most sessions events : ℕ) (h h' : H) (x x' : Output) (result : Served) → IsCovered s limit → 0 < most
+        → let a = leaving (H.tells h) (H.counts h) x in let b = leaving (H.tells h') (H.counts h') x' in
+        Serves Setting rules_of (sessions_of s limit most sessions events) a b result → CarriesAll s limit most a b result }
 {
     frame_stands_at_the_front();
     a_stream_is_split();

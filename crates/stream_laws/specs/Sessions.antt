@@ -8,9 +8,13 @@ use Rattle.gate_hub.specs.declared.hub.Served.{Served}
 use Rattle.session_judge.specs.Setting.{Setting}
 use Rattle.proxy_server.specs.Serving.{Entry, Closing, KeepsFrom}
 use Rattle.proxy_server.specs.Steps.{LinesEnd, WritesLines, AnswersLines}
+use Rattle.gate_words.specs.declared.options.Declared.{Declared}
 use Rattle.gate_words.specs.declared.serving.Serving.{Serving}
 use Rattle.gate_run.specs.Outcome.{Streams}
+use Rattle.gate_run.specs.Running.{Outside, StartsWith}
 use Rattle.gate_run.specs.Serving.{setting_by}
+use Rattle.gate_run.specs.Starting.{Halts}
+use Rattle.gate_run.specs.declared.status.Ending.{Ending}
 use Rattle.session_laws.specs.Serving.{HasCourse}
 
 -- the hub was not started, and no session was announced
@@ -35,3 +39,8 @@ pub record HasCarried (told told' : Meaning → Type 0) (s : Serving) (d : Decla
 
 abbrev pub CarriesMessages : (Meaning → Type 0) → (Meaning → Type 0) → Serving → Declarations → Option ServiceId → Streams → Streams → Type 0
 CarriesMessages told told' s d service a b = HasCarried told told' s d service a b ⊎ HasNotServed told told' a b
+
+-- the command started from what these words declare, and carried messages from there; or it did not start, said why, and left the hub alone
+abbrev pub IsServed : {H : Type 0} → (H → Meaning → Type 0) → Serving → Declared → Outside H → Outside H → Ending → Type 0
+IsServed tells s words x y ending =
+    StartsWith x y words (λ d service. CarriesMessages (tells x.hub) (tells y.hub) s d service x.streams y.streams) (λ stop. Halts stop x.streams y.streams ending × (y.hub ≡ x.hub))

@@ -12,15 +12,14 @@ ghost use Rattle.gate_words.specs.declared.command.Command.TheVariants.{Serve};
 ghost use Rattle.gate_words.specs.declared.options.Declared.{Declared};
 ghost use Rattle.gate_words.specs.declared.serving.Serving.{Serving};
 ghost use Rattle.gate_run.specs.Outcome.{Streams, Streamed};
-ghost use Rattle.gate_run.specs.Running.{Outside, Runs, StartsWith};
+ghost use Rattle.gate_run.specs.Running.{Outside, Runs};
 ghost use Rattle.gate_run.specs.declared.status.Ending.{Ending};
-ghost use Rattle.gate_run.specs.Starting.{Halts};
 ghost use Rattle.session_laws.specs.Saying.{HasLaws};
 ghost use Rattle.gate_run.specs.declared.task.Doing.TheVariants.{Convert, Show};
 ghost use Rattle.gate_run.specs.Handling.{output_of};
 ghost use Rattle.gate_run.specs.Terms.{Terms};
 ghost use Rattle.stream_laws.specs.Covering.{passage_of, IsConverted, IsListed, GivesBy};
-ghost use Rattle.stream_laws.specs.Sessions.{CarriesMessages};
+ghost use Rattle.stream_laws.specs.Sessions.{IsServed};
 ghost use Rattle.stream_laws.specs.Streams.{GiveAll, AreFrames};
 
 use gate_hub::Hub;
@@ -58,10 +57,8 @@ pub fn a_stream_is_shown_by_its_grammar<I: Source>()
 /// One that came to an end was sent all that was due, and one that was left open all that the calls allow, where both sides can be written
 /// to and the budget isn't spent.
 pub fn a_session_carries_messages<H: Hub>()
-    ensures { (words : List (List ℕ)) (s : Serving) (d : Declared) (before after : Outside H) (ending : Ending) → command words ≡ Some (Serve s d) → HasLaws s.client → HasLaws s.upstream
-        → Runs H.tells H.counts (command words) before after ending
-        → StartsWith before after d (λ declarations service. CarriesMessages (H.tells before.hub) (H.tells after.hub) s declarations service before.streams after.streams)
-        (λ stop. Halts stop before.streams after.streams ending × (after.hub ≡ before.hub)) }
+    ensures { (words : List (List ℕ)) (s : Serving) (d : Declared) (before after : Outside H) (ending : Ending) → command words ≡ Some (Serve s d)
+        → HasLaws s.client → HasLaws s.upstream → Runs H.tells H.counts (command words) before after ending → IsServed H.tells s d before after ending }
 {
     a_server_carries_messages::<H>();
 }

@@ -11,7 +11,8 @@ returns g c words s d before after ending named from to runs =
     (λ declared service serves.
     carried g.H.Hub.tells g.H.Hub.counts s declared service before.hub after.hub before.streams after.streams ending
     (λ mid result is.
-    c.a_server_carries_messages.ensures (setting_by s declared service) s.limit s.calls s.sessions s.events mid after.hub before.streams.written after.streams.written before.streams.output_faults after.streams.output_faults result from to
-    (small_server s d words named).0 (small_server s d words named).1 is)
+    c.a_server_carries_messages.ensures (setting_by s declared service) s.limit s.calls s.sessions s.events mid after.hub
+    (record { written = before.streams.written; faults = before.streams.output_faults }) (record { written = after.streams.written; faults = after.streams.output_faults }) result
+    (record { client = from; upstream = to; small = (small_server s d words named).0 }) (small_server s d words named).1 is)
     serves)
     (subst (λ named. Runs g.H.Hub.tells g.H.Hub.counts named before after ending) named runs)
