@@ -111,7 +111,7 @@ class Gateway:
     """A gateway that runs. Its lines can be read once it has ended."""
 
     def __init__(self, target: str, accept: int = 0, sessions: int = 32, files: Optional[int] = None,
-                 before: Optional[List[str]] = None) -> None:
+                 before: Optional[List[str]] = None, is_closed: bool = False) -> None:
         self.port = free_port()
         sockets = SOCKETS_OF_FEW if sessions <= FEW_SESSIONS else SOCKETS_OF_MANY
         self.bound = sessions * SESSION + (sessions + 1) * sockets + REST
@@ -123,6 +123,8 @@ class Gateway:
         def limit() -> None:
             if files is not None:
                 resource.setrlimit(resource.RLIMIT_NOFILE, (files, files))
+            if is_closed:
+                os.closerange(0, 3)
 
         self.process = subprocess.Popen((before or []) + words, stdout=self.output, preexec_fn=limit)
         self.wait_for_port()
@@ -556,6 +558,21 @@ def stops() -> str:
     return "a fourth was refused, and it ended"
 
 
+def closed_streams() -> str:
+    """Where its standard streams are closed no socket takes their place: a line can't be written, and the server ends."""
+    with gateway(accept=2, is_closed=True) as gate:
+        stream, other = gate.connect(), gate.connect()
+        held = [os.readlink("/proc/%d/fd/%d" % (gate.process.pid, number)) for number in range(3)]
+        want(held == ["/"] * 3, "their place has %s" % held)
+        ask(other, calls(0, 10))
+        ask(stream, calls(0, 10))
+        stream.shutdown(socket.SHUT_WR)
+        want(read_to_end(stream) + read_to_end(other) == b"", "bytes came")
+        status = gate.process.wait(20)
+        want(status == 5, "its status is %s" % status)
+    return "a folder has their place, no peer got a line, and it ended with status 5"
+
+
 def system_calls() -> str:
     """Many small messages share their system calls."""
     if shutil.which("strace") is None:
@@ -583,7 +600,8 @@ def timed(work: Callable[[], None]) -> float:
 
 TRIALS: Dict[str, Callable[[], str]] = {trial.__name__: trial for trial in (
     half_close, idle_connections, resets, stop_inside, random_bytes, never_reads, byte_a_second, million_calls, slow_reader,
-    refused_upstream, without_pause, few_descriptors, no_connection_left, too_many, end_behind_all, stops, system_calls)}
+    refused_upstream, without_pause, few_descriptors, no_connection_left, too_many, end_behind_all, stops,
+    closed_streams, system_calls)}
 
 
 def main() -> int:
