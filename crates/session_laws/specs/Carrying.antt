@@ -76,10 +76,12 @@ pub data Halted (FrameHalts : List ℕ → Halt → Type 0) (limit : ℕ) (rest 
 
 -- why the session ended, where these calls were opened, so many of them were answered, and this is left of both sides
 pub data Why (s : Setting) (limit : ℕ) (h : History) (opened : List Header) (i j : ℕ) (client upstream : List ℕ) : Outcome → Type 0 where
-  ByClient : (x : Halt) → length opened ≡ j → Halted (ClientHalts s) limit client h.client_ended x → Why s limit h opened i j client upstream (outcome.ClientFault (told (i + 1)) x)
+  ByClient : (x : Halt) → length opened ≡ j → Halted (ClientHalts s) limit client h.client_ended x
+      → Why s limit h opened i j client upstream (outcome.ClientFault (told (i + 1)) x)
   ByUpstream : (call : Header) (x : Halt) → slice_get opened j ≡ Some call → Halted (UpstreamHalts s call) limit upstream h.upstream_ended x
       → Why s limit h opened i j client upstream (outcome.UpstreamFault (told (j + 1)) x)
-  WithoutUpstream : j < length opened → h.upstream_ended ≡ true → upstream ≡ [] → Why s limit h opened i j client upstream (outcome.UpstreamEnded (length opened - j))
+  WithoutUpstream : j < length opened → h.upstream_ended ≡ true → upstream ≡ []
+      → Why s limit h opened i j client upstream (outcome.UpstreamEnded (length opened - j))
   AtTheEnd : length opened ≡ j → h.client_ended ≡ true → client ≡ [] → is_part (front limit upstream) ≡ true → Why s limit h opened i j client upstream outcome.Clean
   WithOneMore : length opened ≡ j → h.client_ended ≡ true → client ≡ [] → is_part (front limit upstream) ≡ false
       → Why s limit h opened i j client upstream (outcome.Unsolicited (told (j + 1)) (told j))

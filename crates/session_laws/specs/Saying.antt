@@ -109,7 +109,8 @@ told_name protocols.Json name = if is_utf8 name then name else []
 
 -- the name without the service before it, the sequence number, and the text of the cause
 abbrev pub failure_of : Proto → Header → Cause → Message
-failure_of teller h cause = record { name = told_name teller (method_name h.mtype h.name); mtype = types.Exception; seq = h.seq; body = failure_body (cause_text cause) }
+failure_of teller h cause =
+    record { name = told_name teller (method_name h.mtype h.name); mtype = types.Exception; seq = h.seq; body = failure_body (cause_text cause) }
 
 -- ---- a frame
 
@@ -123,5 +124,6 @@ pub data Said : Type 0 where
 -- the frame says this
 abbrev pub Says : Passage → List ℕ → Said → Type 0
 Says p frame (GoesOn m out) = Spells p p.from m frame × IsShallow m × HoldsAll p.to p.declarations p.route m × SpellsPlainly p p.to m out
-Says p frame (IsRefused header cause answer) = BeginsWith p.from header frame × StandsIn p frame cause × SpellsPlainly p p.teller (failure_of p.teller header cause) answer
+Says p frame (IsRefused header cause answer) =
+    BeginsWith p.from header frame × StandsIn p frame cause × SpellsPlainly p p.teller (failure_of p.teller header cause) answer
 Says p frame (IsUnread f) = ((header : Header) → BeginsWith p.from header frame → ⊥) × FaultIn p frame f

@@ -43,7 +43,8 @@ pub data Course (s : Setting) (limit most : ℕ) (result : Served) (t : Told) : 
   NotOpened : (o : Outcome) → (o ≡ outcome.Full) ⊎ (o ≡ outcome.NoMemory) → history_of t ≡ nothing → Course s limit most result t (Some o)
   Broken : (x : Side) → HasFailed x t → Carries s limit (history_of t) → Course s limit most result t (Some (outcome.LinkFault x))
   CameToAnEnd : (o : Outcome) (c : Carries s limit (history_of t)) → IsEnded s limit most (history_of t) c o → Course s limit most result t (Some o)
-  LeftOpen : (c : Carries s limit (history_of t)) → ((result ≡ served.Budget → ⊥) → IsWritable t → IsComplete s most c.asked c.replied (history_of t)) → Course s limit most result t None
+  LeftOpen : (c : Carries s limit (history_of t))
+      → ((result ≡ served.Budget → ⊥) → IsWritable t → IsComplete s most c.asked c.replied (history_of t)) → Course s limit most result t None
 
 -- the session's line says this of its end
 abbrev pub HasLine : ℕ → Option Outcome → List (Entry Setting) → List Closing → Type 0

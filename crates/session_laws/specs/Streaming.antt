@@ -33,4 +33,5 @@ pub record IsReplied (s : Setting) (limit : ℕ) (calls : List Header) (bytes : 
   pub taken : IsTaken limit bytes frames rest
   pub say : AllReply (λ call y r. Says (replying s call) y r) calls frames replied
   pub going : All (λ r. (h : Halt) → EndsUpstream r h → ⊥) replied
-  pub last : (frame behind : List ℕ) (call : Header) → front limit rest ≡ Whole frame behind → slice_get calls (length frames) ≡ Some call → (h : Halt) × UpstreamHalts s call frame h
+  pub last : (frame behind : List ℕ) (call : Header) → front limit rest ≡ Whole frame behind → slice_get calls (length frames) ≡ Some call
+      → (h : Halt) × UpstreamHalts s call frame h

@@ -27,7 +27,11 @@ message_line d service m = (head_text (header_of_message m) ++ body_text (body_s
 
 -- The frame spells a message of depth at most 256, of which its body is one level, and its line is shown; or the fault that stands in it is
 -- told, as one of a frame that no front of is a whole header, or of another.
-pub data IsShowing (SpellsHead : Header → List ℕ → Type 0) (Spells : Message → List ℕ → Type 0) (FaultAt : List ℕ → Fault → Type 0) (d : Declarations) (service : Option ServiceId) (frame : List ℕ) (s : Showing) : Type 0 where
-  ShowsMessage : (m : Message) → Spells m frame → depth_of_members m.body < 256 → s ≡ Line (message_line d service m) → IsShowing SpellsHead Spells FaultAt d service frame s
-  TellsFault : (header : Header) (front rest : List ℕ) (f : Fault) → frame ≡ front ++ rest → SpellsHead header front → FaultAt frame f → s ≡ Refused f → IsShowing SpellsHead Spells FaultAt d service frame s
-  TellsNoHeader : (f : Fault) → ((header : Header) (front rest : List ℕ) → frame ≡ front ++ rest → SpellsHead header front → ⊥) → FaultAt frame f → s ≡ Unread f → IsShowing SpellsHead Spells FaultAt d service frame s
+pub data IsShowing (SpellsHead : Header → List ℕ → Type 0) (Spells : Message → List ℕ → Type 0) (FaultAt : List ℕ → Fault → Type 0)
+    (d : Declarations) (service : Option ServiceId) (frame : List ℕ) (s : Showing) : Type 0 where
+  ShowsMessage : (m : Message) → Spells m frame → depth_of_members m.body < 256 → s ≡ Line (message_line d service m)
+      → IsShowing SpellsHead Spells FaultAt d service frame s
+  TellsFault : (header : Header) (front rest : List ℕ) (f : Fault) → frame ≡ front ++ rest → SpellsHead header front → FaultAt frame f → s ≡ Refused f
+      → IsShowing SpellsHead Spells FaultAt d service frame s
+  TellsNoHeader : (f : Fault) → ((header : Header) (front rest : List ℕ) → frame ≡ front ++ rest → SpellsHead header front → ⊥)
+      → FaultAt frame f → s ≡ Unread f → IsShowing SpellsHead Spells FaultAt d service frame s

@@ -24,8 +24,10 @@ passage_of k from to = record { declarations = k.declarations; route = ByName k.
 
 -- Of the frame of this number its message is written in a frame, in its plain spelling; or the cause for which it can't go on is reported.
 pub data IsConverted (p : Passage) (number : ℕ) (frame out line : List ℕ) : Type 0 where
-  IsWritten : (m : Message) (bytes : List ℕ) → Spells p p.from m frame → IsShallow m → HoldsAll p.to p.declarations p.route m → SpellsPlainly p p.to m bytes → out ≡ framed bytes → line ≡ [] → IsConverted p number frame out line
-  IsReported : (cause : Cause) → StandsIn p frame cause → out ≡ [] → line ≡ refusal_text number (place_of cause) (cause_text cause) → IsConverted p number frame out line
+  IsWritten : (m : Message) (bytes : List ℕ) → Spells p p.from m frame → IsShallow m → HoldsAll p.to p.declarations p.route m → SpellsPlainly p p.to m bytes
+      → out ≡ framed bytes → line ≡ [] → IsConverted p number frame out line
+  IsReported : (cause : Cause) → StandsIn p frame cause → out ≡ []
+      → line ≡ refusal_text number (place_of cause) (cause_text cause) → IsConverted p number frame out line
 
 -- The line of its message is written, or its fault is reported.
 pub data IsListed (k : Terms) (p : Passage) (number : ℕ) (frame out line : List ℕ) : Type 0 where
@@ -59,7 +61,8 @@ GivesSome Each limit a b = (read : List ℕ) × (frames : List (List ℕ)) × (r
 abbrev pub GivesBy : (ℕ → List ℕ → List ℕ → List ℕ → Type 0) → ℕ → Streams → Streams → Ending → Type 0
 GivesBy Each limit a b endings.Done = (read : List ℕ) × (frames : List (List ℕ)) × (c : CoversBy Each limit a b read frames [] []) × (c.told ≡ []) × IsAtEnd b.left
 GivesBy Each limit a b endings.Refused = (read : List ℕ) × (frames : List (List ℕ)) × CoversBy Each limit a b read frames [] [] × IsAtEnd b.left
-GivesBy Each limit a b endings.StreamFault = (read : List ℕ) × (frames : List (List ℕ)) × (rest : List ℕ) × (line : List ℕ) × CoversBy Each limit a b read frames rest line
+GivesBy Each limit a b endings.StreamFault =
+    (read : List ℕ) × (frames : List (List ℕ)) × (rest : List ℕ) × (line : List ℕ) × CoversBy Each limit a b read frames rest line
     × IsStreamLine limit (length frames) rest line × IsTooLargeOrAtEnd limit rest b.left
 GivesBy Each limit a b endings.ReadFault = GivesSome Each limit a b
 GivesBy Each limit a b endings.BudgetSpent = GivesSome Each limit a b

@@ -35,7 +35,8 @@ pub record HasCarried (told told' : Meaning → Type 0) (s : Serving) (d : Decla
   pub lines : LinesEnd
   pub writes : WritesLines lines a.written b.written a.output_faults b.output_faults ended held
   pub answers : AnswersLines result lines
-  pub sessions : KeepsFrom told told' IsUntouched (λ m n. (k : ℕ) → (n.session k).announced ≡ true → HasCourse (setting_by s d service) s.limit s.calls result held ended n k)
+  pub sessions : KeepsFrom told told' IsUntouched
+      (λ m n. (k : ℕ) → (n.session k).announced ≡ true → HasCourse (setting_by s d service) s.limit s.calls result held ended n k)
 
 abbrev pub CarriesMessages : (Meaning → Type 0) → (Meaning → Type 0) → Serving → Declarations → Option ServiceId → Streams → Streams → Type 0
 CarriesMessages told told' s d service a b = HasCarried told told' s d service a b ⊎ HasNotServed told told' a b
@@ -43,4 +44,5 @@ CarriesMessages told told' s d service a b = HasCarried told told' s d service a
 -- the command started from what these words declare, and carried messages from there; or it did not start, said why, and left the hub alone
 abbrev pub IsServed : {H : Type 0} → (H → Meaning → Type 0) → Serving → Declared → Outside H → Outside H → Ending → Type 0
 IsServed tells s words x y ending =
-    StartsWith x y words (λ d service. CarriesMessages (tells x.hub) (tells y.hub) s d service x.streams y.streams) (λ stop. Halts stop x.streams y.streams ending × (y.hub ≡ x.hub))
+    StartsWith x y words (λ d service. CarriesMessages (tells x.hub) (tells y.hub) s d service x.streams y.streams)
+    (λ stop. Halts stop x.streams y.streams ending × (y.hub ≡ x.hub))
