@@ -4,3 +4,5 @@ pub mod Parts
 pub mod Binary
 pub mod Compact
 pub mod Scanning
+pub mod Feeding
+pub mod Fronts

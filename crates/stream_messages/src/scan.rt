@@ -1,5 +1,6 @@
 //! Where messages that follow one another end.
-ghost use Rattle.std.specs.Prelude.{◌≡◌};
+ghost use Rattle.std.specs.Prelude.{◌≡◌, ◌<◌, ℕ, List, []};
+ghost use Rattle.stream_messages.specs.Feeding.{HasRead, Answers, TakesOne};
 ghost use Rattle.stream_messages.specs.Scanning.{begins, first_part, tells_bools, step_of, item_of, field_in, value_in, waits, settles_in, takes};
 
 use crate::levels::{Settled, settle};
@@ -59,7 +60,9 @@ impl Model for Scan {
 impl Scan {
     /// Before the first byte of a message of at most `limit` bytes.
     pub fn start(wire: Wire, limit: usize) -> Scan
-        ensures { result ≡ begins wire limit }
+        requires { 0 < limit }
+        ensures begins { result ≡ begins wire limit }
+        ensures read { HasRead result [] }
     {
         Scan {
             wire,
@@ -70,10 +73,12 @@ impl Scan {
         }
     }
 
-    /// Goes on with the bytes that came next.
-    pub fn feed(&mut self, piece: &[u8]) -> Cut {
+    /// Goes on with the bytes that came next. Every earlier answer was `More`.
+    pub fn feed(&mut self, piece: &[u8]) -> Cut
+        ensures { (front : List ℕ) → HasRead self.old front → Answers self.old front piece.now result self.new }
+    {
         for (at, byte) in piece.iter().enumerate() {
-            match self.take(*byte) {
+            match self.read(*byte) {
                 Taken::More => (),
                 Taken::Whole => return Cut::Whole(at + 1),
                 Taken::Bad => return Cut::Bad(at + 1),
@@ -81,6 +86,13 @@ impl Scan {
             }
         }
         Cut::More
+    }
+
+    // Goes on with one byte, in the words of the protocol's reader.
+    fn read(&mut self, byte: u8) -> Taken
+        ensures { (front : List ℕ) → HasRead self.old front → TakesOne self.old front byte result self.new }
+    {
+        self.take(byte)
     }
 
     // Goes on with one byte.
