@@ -3,6 +3,7 @@ pub mod Settling
 pub mod Seen
 pub mod Runs
 pub mod BinaryItems
+pub mod BinaryHead
 pub mod Reading
 pub mod Taking
 pub mod Pieces
