@@ -4,6 +4,7 @@ pub mod Seen
 pub mod Runs
 pub mod BinaryItems
 pub mod BinaryHead
+pub mod Varints
 pub mod Reading
 pub mod Taking
 pub mod Pieces
