@@ -75,6 +75,7 @@ module _ (wire : Wire) where
         where
           four_more : 4 + (n + 4) ≡ suc (suc (suc (suc (n + 4))))
           four_more = omega arith
+
           by_rest : (t : Bool) → nat_lt (length (drop (n + 4) rest)) 4 ≡ t → later (4 + (n + 4)) (cond t short (goes body_open 4)) ≡ later 4 (behind (behind (behind (behind (ran_any (n + 4) (drop 4 rest) body_open)))))
           by_rest true q =
               let s : nat_lt (length (drop 4 rest)) (n + 4) ≡ true = let l = length-drop 4 rest in let m = length-drop (n + 4) rest in grind (arith, nat_tests) in
@@ -111,6 +112,7 @@ module _ (wire : Wire) where
           same : (more : List ℕ) → run wire more (part.Binary (binary.Size sizes.StrictName 4 0)) body_open ≡ first_size wire sizes.StrictName body_open more
           same [] = refl
           same (x ∷ more) = refl
+
       by_tests : nat_lt (suc (suc (suc (suc (length rest))))) 2 ≡ false → nat_lt (suc (suc (suc (suc (length rest))))) 4 ≡ false → nat_lt (suc (length rest)) 1 ≡ false
           → (z y : Bool) (k : Option MessageType) → (b == 128) ≡ z → (c == 1) ≡ y → type_of_code e ≡ k
           → seen_head (strict_at (b ∷ c ∷ d ∷ e ∷ rest)) ≡ led (of.on_if (b == 128) binary.Version) body_open (run wire (c ∷ d ∷ e ∷ rest))
@@ -137,6 +139,7 @@ module _ (wire : Wire) where
     where
       one_there : (b : ℕ) (more : List ℕ) → nat_lt (length (b ∷ more)) 1 ≡ false
       one_there b more = grind (arith, nat_tests)
+
       by_type : (k : Option MessageType)
           → seen_head (shifted at (type_of k) >>= λ t. shifted t.1 (seq_at (drop t.1 bytes)) >>= λ s. Ok (record { name = name; mtype = t.0; seq = s.0 }, s.1))
           ≡ later at (led (of.type_behind k (next.Part (part.Any 4))) body_open (run wire rest))
@@ -170,6 +173,7 @@ module _ (wire : Wire) where
       one_later (goes nest n) = let m : n + suc k + 1 ≡ n + suc (suc k) = omega arith in ap (λ j. goes nest j) m
       one_later short = refl
       one_later wrong = refl
+
       by_test : (r : Ran) (t : Bool) → nat_lt (length more) (suc k) ≡ t → behind (cond t short (later (suc k) r)) ≡ cond (nat_lt (suc (length more)) (suc (suc k))) short (later (suc (suc k)) r)
       by_test r true e = let s : nat_lt (suc (length more)) (suc (suc k)) ≡ true = grind (arith, nat_tests) in rw s refl
       by_test r false e = let s : nat_lt (suc (length more)) (suc (suc k)) ≡ false = grind (arith, nat_tests) in rw s (one_later r)
@@ -196,6 +200,7 @@ module _ (wire : Wire) where
       again (goes nest n) = let m : n + (suc k + 4) ≡ n + suc k + 1 + 1 + 1 + 1 = omega arith in ap (λ j. goes nest j) m
       again short = refl
       again wrong = refl
+
       by_test : 4 ≤ length bytes → (t : Bool) → nat_lt (length bytes) (suc k + 4) ≡ t
           → seen_head (cond t (cut bytes) (Ok (take (suc k) (drop 4 bytes), suc k + 4)) >>= λ n. shifted n.1 (type_at (drop n.1 bytes)) >>= λ t. shifted t.1 (seq_at (drop t.1 bytes)) >>= λ s. Ok (record { name = n.0; mtype = t.0; seq = s.0 }, s.1))
           ≡ behind (behind (behind (behind (cond (nat_lt (length (drop 4 bytes)) (suc k)) short (later (suc k) (run wire (drop (suc k) (drop 4 bytes)) (part.Binary binary.OldType) body_open))))))

@@ -185,6 +185,7 @@ module _ (wire : Wire) (slot : Slot) (up : List Slot) where
       by_size kind (Ok x) e =
           let n : 1 + x.1 ≡ 5 = omega (arith, (four more x e).1) in
           rw (n, shallow) refl
+
       by_kind : (k : Option Kind) → seen (slot ∷ up) (elements_of k (size_at more) >>= λ x. Ok (set_begin x.0.0 x.0.1, x.1)) ≡ led (of.sized_behind (λ kind. sizes.Set kind) k) (slot ∷ up) (run wire more)
       by_kind None = refl
       by_kind (Some kind) = by_size kind (size_at more) refl ∙ ap behind (sym (size_behind (sizes.Set kind) more are.1))
@@ -199,6 +200,7 @@ module _ (wire : Wire) (slot : Slot) (up : List Slot) where
       by_size kind (Ok x) e =
           let n : 1 + x.1 ≡ 5 = omega (arith, (four more x e).1) in
           rw (n, shallow) refl
+
       by_kind : (k : Option Kind) → seen (slot ∷ up) (elements_of k (size_at more) >>= λ x. Ok (list_begin x.0.0 x.0.1, x.1)) ≡ led (of.sized_behind (λ kind. sizes.List kind) k) (slot ∷ up) (run wire more)
       by_kind None = refl
       by_kind (Some kind) = by_size kind (size_at more) refl ∙ ap behind (sym (size_behind (sizes.List kind) more are.1))
@@ -218,9 +220,11 @@ module _ (wire : Wire) (slot : Slot) (up : List Slot) where
       by_more kind [] = refl
       by_more kind (c ∷ []) = refl
       by_more kind (c ∷ d ∷ rest) = let s : nat_lt (suc (suc (suc (length rest)))) 3 ≡ false = grind (arith, nat_tests) in rw s refl
+
       by_kind : (k : Option Kind) → seen (slot ∷ up) (field_of k (b ∷ more)) ≡ led (of.field_kind k) (slot ∷ up) (run wire more)
       by_kind None = refl
       by_kind (Some kind) = by_more kind more
+
       by_zero : (z : Bool) → seen (slot ∷ up) (cond z (Ok (stop, 1)) (field_of (kind_of_code b) (b ∷ more)))
           ≡ led_to more (cond z (next.Ended, rest_of (slot ∷ up)) (of.field_kind (kind_of_code b), slot ∷ up))
       by_zero true = refl
@@ -259,6 +263,7 @@ module _ (wire : Wire) (slot : Slot) (up : List Slot) where
     where
       size : ℕ
       size = suc (suc (suc (suc (length more))))
+
       by_tests : nat_le (suc (suc (suc (suc (length more))))) 0 ≡ false → nat_le (suc (suc (suc (suc (length more))))) 1 ≡ false → nat_le (suc (suc (suc (suc (length more))))) 2 ≡ false
           → nat_le (suc (suc (suc (suc (length more))))) 3 ≡ false → nat_lt (suc (suc (suc (suc (length more))))) 4 ≡ false
           → (x y z w : Bool) → (a == 0) ≡ x → (b == 0) ≡ y → (c == 0) ≡ z → (d == 0) ≡ w
@@ -280,6 +285,7 @@ module _ (wire : Wire) (slot : Slot) (up : List Slot) where
           ≡ behind (behind (behind (behind (behind (led_to (drop 4 bytes) (cond b (next.Ended, spent (slot ∷ up)) (opens (slots.Keys key value n) (slot ∷ up))))))))
       by_none n t e true p = rw e refl
       by_none n t e false p = rw (e, shallow) refl
+
       by_size : (s : Scan ℕ) → size_at bytes ≡ s
           → seen (slot ∷ up) (shifted 2 (s >>= λ size. Ok (map_item key value size.0, size.1))) ≡ behind (behind (size_run wire (sizes.Map key value) (slot ∷ up) bytes s))
       by_size (Err f) e = by_fault (is_cut f.reason)

@@ -5,6 +5,7 @@ pub mod Runs
 pub mod BinaryItems
 pub mod BinaryHead
 pub mod Varints
+pub mod CompactItems
 pub mod Reading
 pub mod Taking
 pub mod Pieces

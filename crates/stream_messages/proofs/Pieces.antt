@@ -30,16 +30,16 @@ next_front n front piece h = append_assoc front (take n piece) (get_or piece n 0
 pub ends_at : (s new : Scanning) (front piece : List ℕ) (found : Found) (n : ℕ) → n < length piece → new.wire ≡ s.wire → new.limit ≡ s.limit → HasRead new (front ++ take n piece)
     → IsFront new.wire found ((front ++ take n piece) ++ get_or piece n 0 ∷ []) → EndsAt s front piece found (n + 1)
 ends_at s new front piece found n h w l read is =
-  let size : length (front ++ take n piece) ≡ length front + n = length-append front (take n piece) ∙ ap (λ k. length front + k) (length-take-le n piece (omega arith)) in
-  record {
-  some = omega arith;
-  within = omega arith;
-  begins = λ k less.
-      let le : k ≤ length front + n = omega arith in
-      subst (λ x. IsFront x cut (take k (front ++ piece))) w (subst (λ y. IsFront new.wire cut y) (same_front k n front piece le) (read.begins k (omega (arith, size))));
-  is = subst (λ x. IsFront x found (take (length front + (n + 1)) (front ++ piece))) w (subst (λ y. IsFront new.wire found y) (next_front n front piece h ∙ sym (whole_front (n + 1) front piece)) is);
-  limit = omega (arith, size, read.room)
-}
+    let size : length (front ++ take n piece) ≡ length front + n = length-append front (take n piece) ∙ ap (λ k. length front + k) (length-take-le n piece (omega arith)) in
+    record {
+      some = omega arith;
+      within = omega arith;
+      begins = λ k less.
+          let le : k ≤ length front + n = omega arith in
+          subst (λ x. IsFront x cut (take k (front ++ piece))) w (subst (λ y. IsFront new.wire cut y) (same_front k n front piece le) (read.begins k (omega (arith, size))));
+      is = subst (λ x. IsFront x found (take (length front + (n + 1)) (front ++ piece))) w (subst (λ y. IsFront new.wire found y) (next_front n front piece h ∙ sym (whole_front (n + 1) front piece)) is);
+      limit = omega (arith, size, read.room);
+    }
 
 -- with the next byte the limit is reached
 pub full_at : (front piece : List ℕ) (n limit last : ℕ) → n < length piece → limit ≡ last → length (front ++ take n piece) + 1 ≡ limit → length front + (n + 1) ≡ last

@@ -76,6 +76,7 @@ deep_compact slot up flag kind h e t = value_compact slot up flag [] kind h e (n
     no_bool true kinds.Map t = refl
     no_bool true kinds.Set t = refl
     no_bool true kinds.List t = refl
+
     too_deep : (k : Kind) → (nests k && nat_le 256 (length (slot ∷ up))) ≡ true → scan_compact.value_in (length (slot ∷ up)) k [] ≡ Err (record { place = 0; reason = reasons.TooDeep })
     too_deep kinds.Bool t = absurd (cc)
     too_deep kinds.I8 t = absurd (cc)

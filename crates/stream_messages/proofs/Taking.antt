@@ -44,6 +44,7 @@ ready_body wire nest ready found bytes are h flag =
     by_reason : (f : Fault) → item_at wire nest flag bytes ≡ Err f → (b : Bool) → is_cut f.reason ≡ b → RanTo wire found bytes (cond b short wrong) → IsBody wire found nest flag bytes
     by_reason f e true t k = subst (λ x. IsBody wire x nest flag bytes) (sym k) (no_item wire cut nest flag bytes (not_empty wire nest ready, (f, e, cut_reason f.reason t)))
     by_reason f e false t k = subst (λ x. IsBody wire x nest flag bytes) (sym k) (no_item wire bad nest flag bytes (not_empty wire nest ready, (f, e, other_reason f.reason t)))
+
     by_step : (step : Step ℕ Item) → item_at wire nest flag bytes ≡ step → RanTo wire found bytes (seen nest step) → IsBody wire found nest flag bytes
     by_step (Ok x) e k = one_item wire found nest flag bytes x.0 x.1 e k
     by_step (Err f) e k = by_reason f e (is_cut f.reason) refl k
@@ -55,6 +56,7 @@ front_found wire found bytes are h =
     by_reason : (f : Fault) → head_at wire bytes ≡ Err f → (b : Bool) → is_cut f.reason ≡ b → RanTo wire found bytes (cond b short wrong) → IsFront wire found bytes
     by_reason f e true t k = subst (λ x. IsFront wire x bytes) (sym k) (inl (f, e, cut_reason f.reason t))
     by_reason f e false t k = subst (λ x. IsFront wire x bytes) (sym k) (inl (f, e, other_reason f.reason t))
+
     by_step : (step : Step ℕ Header) → head_at wire bytes ≡ step → RanTo wire found bytes (seen_head step) → IsFront wire found bytes
     by_step (Ok x) e k = inr (x.0, x.1, e, k false)
     by_step (Err f) e k = by_reason f e (is_cut f.reason) refl k
@@ -92,14 +94,17 @@ module _ (s : Scanning) (front : List ℕ) (byte : ℕ) (small : byte < 256) (re
           (h cut [] tt refl, omega (arith, read.room))
       by_test false e =
           let less : taken < s.limit = grind (arith, nat_tests) in
-          let size : length (front ++ byte ∷ []) ≡ length front + 1 = length-append front (byte ∷ []) in
-          (record {
-            taken = n ∙ sym size;
-            room = omega arith;
-            fits = read.fits;
-            begins = cut_fronts (h cut [] tt refl);
-            goes_on = λ found more are finds. subst (λ l. IsFront s.wire found l) (sym (append_assoc front (byte ∷ []) more)) (h found more are finds)
-          }, refl, refl)
+          let size : length (front ++ byte ∷ []) ≡ length front + 1 = length-append front (byte ∷ []) in (
+            record {
+              taken = n ∙ sym size;
+              room = omega arith;
+              fits = read.fits;
+              begins = cut_fronts (h cut [] tt refl);
+              goes_on = λ found more are finds. subst (λ l. IsFront s.wire found l) (sym (append_assoc front (byte ∷ []) more)) (h found more are finds);
+            },
+            refl,
+            refl,
+          )
 
   -- the byte, and then what the step leads to
   found_by : (found : Found) (more : List ℕ) (x : Next × List Slot) → step_of s.wire s.part byte s.nest ≡ x → AreBytes more
@@ -134,7 +139,7 @@ begun wire limit some fits = record {
   room = some;
   fits = fits;
   begins = λ n h. subst (λ l. IsFront wire cut l) (sym (none n)) (front_found wire cut [] tt refl);
-  goes_on = λ found more are h. front_found wire found more are h
+  goes_on = λ found more are h. front_found wire found more are h;
 }
   where
     none : (n : ℕ) → take {A = ℕ} n [] ≡ []

@@ -28,9 +28,11 @@ wide_same byte width = by_test (nat_le width 7) refl
   where
     split : 7 ≤ width → 2 ^ width ≡ 2 ^ 7 * 2 ^ (width - 7)
     split h = let e : width ≡ 7 + (width - 7) = omega arith in ap (λ k. 2 ^ k) e ∙ pow-add 2 7 (width - 7)
+
     some : (k : ℕ) → 0 < 2 ^ k
     some zero = omega arith
     some (suc k) = let h = some k in grind arith
+
     by_test : (t : Bool) → nat_le width 7 ≡ t → nat_le (2 ^ min width 7) (byte % 128) ≡ nat_le (2 ^ width) (byte % 128)
     by_test true e = let m : min width 7 ≡ width = let le : width ≤ 7 = grind (arith, nat_tests) in omega arith in ap (λ k. nat_le (2 ^ k) (byte % 128)) m
     by_test false e =
@@ -233,6 +235,7 @@ module _ (wire : Wire) (size : CompactSized) (nest : List Slot) where
       by_last : (y : Bool) → nat_lt b 128 ≡ y → led_by more (cond y (of.numbered size (sum + unit * (b % 128)) nest) (next.Bad, nest)) ≡ number_run unit sum (b ∷ more) (cond y (Ok (b, 1)) (Err Bad))
       by_last true q = at_end unit sum b more q
       by_last false q = refl
+
       by_wide : (x : Bool) → nat_le (2 ^ width) (b % 128) ≡ x
           → led_by more (cond x (next.Bad, nest) (of.summed size width unit (sum + unit * (b % 128)) b nest)) ≡ number_run unit sum (b ∷ more) (cond x (Err Bad) (cond (nat_lt b 128) (Ok (b, 1)) (Err Bad)))
       by_wide true p = refl
@@ -252,6 +255,7 @@ module _ (wire : Wire) (size : CompactSized) (nest : List Slot) where
           ≡ number_run unit sum (b ∷ more) (cond y (Ok (b, 1)) (below (b % 128) (varint_at (suc k) (width - 7) more)))
       by_last again true q = at_end unit sum b more q
       by_last again false q = ap behind again ∙ number_below unit sum (b % 128) b more (varint_at (suc k) (width - 7) more)
+
       by_wide : run wire more (part.Compact (compact.Number size (width - 7) (unit * 128) (sum + unit * (b % 128)))) nest ≡ number_run (unit * 128) (sum + unit * (b % 128)) more (varint_at (suc k) (width - 7) more)
           → (x : Bool) → nat_le (2 ^ width) (b % 128) ≡ x
           → led_by more (cond x (next.Bad, nest) (of.summed size width unit (sum + unit * (b % 128)) b nest))

@@ -12,11 +12,3 @@ mod parts;
 mod scan;
 
 pub use scan::{Cut, Scan, Wire};
-
-ghost use Rattle.std.specs.Prelude.{⊤};
-
-/// Trial.
-pub fn trial()
-    ensures { ⊤ }
-{
-}
