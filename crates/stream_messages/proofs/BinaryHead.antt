@@ -1,21 +1,17 @@
 -- A header of the Binary protocol, byte by byte.
-use Rattle.std.proofs.Common.{◌≡◌, ℕ, zero, suc, ◌+◌, ◌-◌, ◌*◌, ◌<◌, ◌≤◌, ◌^◌, Bool, true, false, cond, List, [], ◌∷◌, length, take, drop, Ok, Err, refl, arith, sym, ap, ◌∙◌, subst, length-drop}
-use Rattle.std.specs.Prelude.{ℤ, Option, Some, None, nat_lt, nat_le, ◌==◌, ◌&&◌, ◌||◌, if◌then◌else◌, slice_index}
+use Rattle.std.proofs.Common.{◌≡◌, ℕ, zero, suc, ◌+◌, ◌-◌, ◌<◌, ◌≤◌, Bool, true, false, cond, List, [], ◌∷◌, length, take, drop, Ok, Err, refl, arith, sym, ap, ◌∙◌, length-drop}
+use Rattle.std.specs.Prelude.{ℤ, Option, Some, None, nat_lt, nat_le, ◌==◌}
 use Rattle.std.specs.Int.{w32}
 use Rattle.std.proofs.lemmas.Bool.Decides.{nat_tests}
 use Rattle.std.proofs.lemmas.List.{drop-drop}
 use Rattle.gate_base.specs.Bytes.{AreBytes}
 use Rattle.thrift_value.specs.declared.kind.MessageType.{MessageType}
 use Rattle.protocol_traits.specs.declared.fault.Fault.{Fault}
-use Rattle.protocol_traits.specs.declared.fault.Reason.TheVariants as reasons
 use Rattle.protocol_traits.specs.Heads.{Header}
-use Rattle.protocol_traits.specs.Steps.{Step}
 use Rattle.binary_protocol.specs.Codes.{type_of_code}
-use Rattle.binary_protocol.specs.Scan.{Scan, cut, fault, shifted, ◌>>=◌, signed_at, size_at, string_at, string_of}
+use Rattle.binary_protocol.specs.Scan.{Scan, cut, shifted, ◌>>=◌, signed_at, size_at, string_at, string_of}
 use Rattle.binary_protocol.specs.Heads.{type_of, type_at, seq_at, version_at, strict_at, old_at, head_at}
 use Rattle.stream_messages.specs.declared.scan.Wire.{Wire}
-use Rattle.stream_messages.specs.declared.scan.Wire.TheVariants as wires
-use Rattle.stream_messages.specs.declared.parts.Next.{Next}
 use Rattle.stream_messages.specs.declared.parts.Next.TheVariants as next
 use Rattle.stream_messages.specs.declared.parts.Part.TheVariants as part
 use Rattle.stream_messages.specs.declared.parts.BinaryPart.TheVariants as binary
@@ -23,7 +19,7 @@ use Rattle.stream_messages.specs.declared.parts.BinarySized.TheVariants as sizes
 use Rattle.stream_messages.specs.Binary as of
 use Rattle.stream_messages.specs.Feeding.{Ran, goes, short, wrong, behind, led, run}
 use Rattle.stream_messages.proofs.Seen.{faulty, seen_head, is_cut, body_open}
-use Rattle.stream_messages.proofs.Runs.{any_law, ran_any, size_law, size_run, sized_run, first_size}
+use Rattle.stream_messages.proofs.Runs.{any_law, ran_any, size_law, size_run, first_size}
 use Rattle.stream_messages.proofs.BinaryItems.{four}
 
 -- so many bytes further on

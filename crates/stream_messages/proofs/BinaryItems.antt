@@ -1,21 +1,19 @@
 -- The items of the Binary protocol, byte by byte.
-use Rattle.std.proofs.Common.{◌≡◌, ℕ, zero, suc, ◌+◌, ◌-◌, ◌*◌, ◌<◌, ◌≤◌, ◌^◌, Bool, true, false, cond, List, [], ◌∷◌, length, take, drop, Ok, Err, refl, arith, sym, ap, ◌∙◌, subst, length-drop}
-use Rattle.std.specs.Prelude.{Option, Some, None, is_none, not, nat_lt, nat_le, ◌==◌, ◌&&◌, ◌||◌, if◌then◌else◌, slice_index}
-use Rattle.std.specs.Int.{w8, w16, w32, w64, cast_signed, from_be_bytes}
+use Rattle.std.proofs.Common.{◌≡◌, ℕ, zero, suc, ◌+◌, ◌≤◌, Bool, true, false, cond, List, [], ◌∷◌, length, take, drop, Ok, Err, refl, arith, sym, ap, ◌∙◌, length-drop}
+use Rattle.std.specs.Prelude.{Option, Some, None, nat_lt, nat_le, ◌==◌, ◌&&◌}
 use Rattle.std.proofs.lemmas.Bool.Decides.{nat_tests}
 use Rattle.gate_base.specs.Bytes.{AreBytes}
 use Rattle.thrift_value.specs.declared.kind.Kind.{Kind}
 use Rattle.thrift_value.specs.declared.kind.Kind.TheVariants as kinds
-use Rattle.thrift_value.specs.Items.{Item, field, stop, bool_value, i8_value, i16_value, i32_value, i64_value, double_value, text, empty_map, map_begin, set_begin, list_begin, uuid_value}
+use Rattle.thrift_value.specs.Items.{Item, stop, bool_value, text, empty_map, map_begin, set_begin, list_begin}
 use Rattle.protocol_traits.specs.declared.fault.Fault.{Fault}
 use Rattle.protocol_traits.specs.declared.fault.Reason.TheVariants as reasons
 use Rattle.protocol_traits.specs.declared.nest.Slot.{Slot}
 use Rattle.protocol_traits.specs.declared.nest.Slot.TheVariants as slots
 use Rattle.protocol_traits.specs.Follow.{after, spent}
 use Rattle.protocol_traits.specs.Stack.{rest_of}
-use Rattle.protocol_traits.specs.Steps.{Step}
 use Rattle.binary_protocol.specs.Codes.{kind_of_code}
-use Rattle.binary_protocol.specs.Scan.{Scan, cut, fault, shifted, ◌>>=◌, signed_at, field_at, field_of, bool_at, i8_at, i16_at, i32_at, i64_at, double_at, uuid_at, size_at, size_begun, zero_at, is_zero_at, string_at, string_of, text_at, elements_at, elements_of, set_at, list_at, map_at, map_of, map_item, is_bad_kind, value_at}
+use Rattle.binary_protocol.specs.Scan.{Scan, cut, fault, shifted, ◌>>=◌, field_at, field_of, bool_at, i8_at, i16_at, i32_at, i64_at, double_at, uuid_at, size_at, zero_at, string_at, string_of, text_at, elements_at, elements_of, set_at, list_at, map_at, map_of, map_item, value_at}
 use Rattle.stream_messages.specs.declared.scan.Wire.{Wire}
 use Rattle.stream_messages.specs.declared.parts.Next.{Next}
 use Rattle.stream_messages.specs.declared.parts.Next.TheVariants as next
@@ -23,8 +21,7 @@ use Rattle.stream_messages.specs.declared.parts.Part.TheVariants as part
 use Rattle.stream_messages.specs.declared.parts.BinaryPart.TheVariants as binary
 use Rattle.stream_messages.specs.declared.parts.BinarySized.{BinarySized}
 use Rattle.stream_messages.specs.declared.parts.BinarySized.TheVariants as sizes
-use Rattle.stream_messages.specs.Parts.{any_or_end}
-use Rattle.stream_messages.specs.Levels.{opens, puts, nests}
+use Rattle.stream_messages.specs.Levels.{opens, nests}
 use Rattle.stream_messages.specs.Binary as of
 use Rattle.stream_messages.specs.Feeding.{Ran, goes, short, wrong, behind, led, run}
 use Rattle.stream_messages.proofs.Seen.{faulty, seen, is_cut}

@@ -1,24 +1,17 @@
 -- A body goes on with an item, or stops.
-use Rattle.std.proofs.Common.{◌≡◌, ℕ, ◌+◌, ◌<◌, ◌≤◌, Bool, true, false, cond, List, [], ◌∷◌, length, drop, Ok, Err, refl, arith, sym, ap, ◌∙◌, subst}
-use Rattle.std.specs.Prelude.{⊤, Some, None, Option, nat_le, ◌==◌, ◌&&◌}
-use Rattle.std.proofs.lemmas.Bool.Decides.{nat_tests}
+use Rattle.std.proofs.Common.{◌≡◌, ℕ, Bool, true, false, cond, List, [], ◌∷◌, length, drop, Ok, refl}
+use Rattle.std.specs.Prelude.{⊤, Some, ◌&&◌}
 use Rattle.thrift_value.specs.declared.kind.Kind.{Kind}
-use Rattle.thrift_value.specs.declared.kind.Kind.TheVariants as kinds
-use Rattle.thrift_value.specs.Items.{Item, end, struct_begin, bool_value}
-use Rattle.protocol_traits.specs.declared.fault.Fault.{Fault}
-use Rattle.protocol_traits.specs.declared.fault.Reason.TheVariants as reasons
+use Rattle.thrift_value.specs.Items.{Item, end}
 use Rattle.protocol_traits.specs.declared.nest.Slot.{Slot}
 use Rattle.protocol_traits.specs.declared.nest.Slot.TheVariants as slots
-use Rattle.protocol_traits.specs.Follow.{after, spent}
+use Rattle.protocol_traits.specs.Follow.{after}
 use Rattle.binary_protocol.specs.Scan as scan_binary
 use Rattle.compact_protocol.specs.Scan as scan_compact
 use Rattle.stream_messages.specs.declared.scan.Wire.{Wire}
 use Rattle.stream_messages.specs.declared.scan.Wire.TheVariants as wires
-use Rattle.stream_messages.specs.declared.levels.Settled.{Settled}
-use Rattle.stream_messages.specs.declared.levels.Settled.TheVariants as settled
-use Rattle.stream_messages.specs.Levels.{kind_called, nests, has_ended, is_field, closed, opened_value, opened_kind, opened}
-use Rattle.stream_messages.specs.Scanning.{tells_bools}
-use Rattle.stream_messages.specs.Fronts.{Found, whole, cut, bad, item_at, told_by, Leads, Stops, IsBody}
+use Rattle.stream_messages.specs.Levels.{kind_called, has_ended, is_field, closed}
+use Rattle.stream_messages.specs.Fronts.{Found, item_at, told_by, Stops, IsBody}
 
 -- whatever the flag is
 abbrev pub Bodies : Wire → Found → List Slot → List ℕ → Type 0

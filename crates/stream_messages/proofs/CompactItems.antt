@@ -1,7 +1,7 @@
 -- The items and the header of the Compact protocol, byte by byte.
-use Rattle.std.proofs.Common.{◌≡◌, ℕ, zero, suc, ◌+◌, ◌-◌, ◌*◌, ◌/◌, ◌%◌, ◌<◌, ◌≤◌, ◌^◌, Bool, true, false, cond, List, [], ◌∷◌, length, take, drop, reverse, Ok, Err, refl, arith, sym, ap, ◌∙◌, subst, length-drop}
-use Rattle.std.specs.Prelude.{ℤ, Result, Option, Some, None, nat_lt, nat_le, ◌==◌, ◌&&◌, if◌then◌else◌, slice_index}
-use Rattle.std.specs.Int.{w8, w32, cast_signed}
+use Rattle.std.proofs.Common.{◌≡◌, ℕ, zero, suc, ◌+◌, ◌*◌, ◌/◌, ◌%◌, Bool, true, false, cond, List, [], ◌∷◌, length, take, drop, Ok, Err, refl, arith, sym, ap, ◌∙◌, length-drop}
+use Rattle.std.specs.Prelude.{ℤ, Result, Option, Some, None, nat_lt, nat_le, ◌==◌, ◌&&◌, if◌then◌else◌}
+use Rattle.std.specs.Int.{w32, cast_signed}
 use Rattle.std.proofs.lemmas.Bool.Decides.{nat_tests}
 use Rattle.varint_zigzag.specs.declared.fault.VarFault.{VarFault}
 use Rattle.varint_zigzag.specs.declared.fault.VarFault.TheVariants.{Short, Bad}
@@ -11,29 +11,26 @@ use Rattle.varint_zigzag.specs.Zigzag.{unfolded}
 use Rattle.thrift_value.specs.declared.kind.Kind.{Kind}
 use Rattle.thrift_value.specs.declared.kind.Kind.TheVariants as kinds
 use Rattle.thrift_value.specs.declared.kind.MessageType.{MessageType}
-use Rattle.thrift_value.specs.Items.{Item, field, stop, bool_value, i8_value, i16_value, i32_value, i64_value, double_value, text, empty_map, map_begin, set_begin, list_begin, uuid_value}
-use Rattle.protocol_traits.specs.declared.fault.Fault.{Fault}
+use Rattle.thrift_value.specs.Items.{Item, field, stop, bool_value, i16_value, i32_value, i64_value, text, empty_map, map_begin, set_begin, list_begin}
 use Rattle.protocol_traits.specs.declared.fault.Reason.TheVariants as reasons
 use Rattle.protocol_traits.specs.declared.nest.Slot.{Slot}
 use Rattle.protocol_traits.specs.declared.nest.Slot.TheVariants as slots
 use Rattle.protocol_traits.specs.Follow.{after, spent}
 use Rattle.protocol_traits.specs.Stack.{rest_of}
 use Rattle.protocol_traits.specs.Heads.{Header}
-use Rattle.protocol_traits.specs.Steps.{Step}
 use Rattle.compact_protocol.specs.Codes.{kind_of, type_of}
-use Rattle.compact_protocol.specs.Scan.{Scan, fault, shifted, ◌>>=◌, varint_of, varint16_at, varint32_at, varint64_at, id_at, size_at, string_at, next_id, short_field, long_field, field_of, field_at, bool_at, i8_at, i16_at, i32_at, i64_at, double_at, text_at, uuid_at, elements_of, elements_at, set_at, list_at, both_kinds, kinds_at, map_at, value_at, type_or_fault, type_at, front_at}
+use Rattle.compact_protocol.specs.Scan.{Scan, fault, shifted, ◌>>=◌, varint_of, varint16_at, varint32_at, varint64_at, id_at, size_at, string_at, next_id, short_field, long_field, field_of, field_at, bool_at, i8_at, i16_at, i32_at, i64_at, double_at, text_at, uuid_at, elements_of, elements_at, set_at, list_at, both_kinds, kinds_at, map_at, value_at, type_or_fault, type_at}
 use Rattle.stream_messages.specs.declared.scan.Wire.{Wire}
 use Rattle.stream_messages.specs.declared.parts.Next.{Next}
 use Rattle.stream_messages.specs.declared.parts.Next.TheVariants as next
 use Rattle.stream_messages.specs.declared.parts.Part.TheVariants as part
 use Rattle.stream_messages.specs.declared.parts.CompactPart.TheVariants as compact
-use Rattle.stream_messages.specs.declared.parts.CompactSized.{CompactSized}
 use Rattle.stream_messages.specs.declared.parts.CompactSized.TheVariants as sizes
 use Rattle.stream_messages.specs.declared.parts.CompactPassed.TheVariants as whose
-use Rattle.stream_messages.specs.Levels.{opens, puts, nests}
+use Rattle.stream_messages.specs.Levels.{opens, nests}
 use Rattle.stream_messages.specs.Compact as of
 use Rattle.stream_messages.specs.Feeding.{Ran, goes, short, wrong, behind, led, run}
-use Rattle.stream_messages.proofs.Seen.{faulty, seen, seen_head, is_cut, body_open}
+use Rattle.stream_messages.proofs.Seen.{seen, seen_head, body_open}
 use Rattle.stream_messages.proofs.Runs.{any_law, ran_any}
 use Rattle.stream_messages.proofs.BinaryHead.{later}
 use Rattle.stream_messages.proofs.Varints.{passed_value, value_run, passed_sequence, sequence_run, number_law, number_run, begun_at, from_size, from_id}

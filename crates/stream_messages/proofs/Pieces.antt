@@ -1,9 +1,9 @@
 -- A piece, byte by byte.
-use Rattle.std.proofs.Common.{◌≡◌, ℕ, zero, suc, ◌+◌, ◌-◌, ◌<◌, ◌≤◌, Bool, true, false, List, [], ◌∷◌, ◌++◌, length, take, get_or, refl, arith, sym, ap, ◌∙◌, subst, append_assoc, length-append}
+use Rattle.std.proofs.Common.{◌≡◌, ℕ, zero, suc, ◌+◌, ◌<◌, ◌≤◌, List, [], ◌∷◌, ◌++◌, length, take, get_or, refl, arith, sym, ap, ◌∙◌, subst, append_assoc, length-append}
 use Rattle.std.proofs.lemmas.List.{take_more, length-take-le}
-use Rattle.gate_base.specs.Bytes.{AreBytes}
+use Rattle.stream_messages.specs.declared.scan.Wire.{Wire}
 use Rattle.stream_messages.specs.Scanning.{Scanning}
-use Rattle.stream_messages.specs.Fronts.{Found, whole, cut, bad, IsFront}
+use Rattle.stream_messages.specs.Fronts.{Found, cut, IsFront}
 use Rattle.stream_messages.specs.Feeding.{HasRead, EndsAt}
 
 pub same_front : (k n : ℕ) (front piece : List ℕ) → k ≤ length front + n → take k (front ++ take n piece) ≡ take k (front ++ piece)
@@ -48,7 +48,6 @@ full_at front piece n limit last h l full =
     omega arith
 
 -- and if it isn't, the scan has read one byte more
-pub goes_on : (s now new : Scanning) (front piece : List ℕ) (n : ℕ) → n < length piece → now.wire ≡ s.wire → now.limit ≡ s.limit
-    → HasRead new ((front ++ take n piece) ++ get_or piece n 0 ∷ []) → new.wire ≡ now.wire → new.limit ≡ now.limit
-    → HasRead new (front ++ take (n + 1) piece) × (new.wire ≡ s.wire) × (new.limit ≡ s.limit)
-goes_on s now new front piece n h w l read v k = (subst (λ x. HasRead new x) (next_front n front piece h) read, v ∙ w, k ∙ l)
+pub goes_on : (new : Scanning) (front piece : List ℕ) (n : ℕ) (w v : Wire) (l k : ℕ) → n < length piece → v ≡ w → k ≡ l
+    → HasRead new ((front ++ take n piece) ++ get_or piece n 0 ∷ []) → new.wire ≡ v → new.limit ≡ k → HasRead new (front ++ take (n + 1) piece) × (new.wire ≡ w) × (new.limit ≡ l)
+goes_on new front piece n w v l k h e f read a b = (subst (λ x. HasRead new x) (next_front n front piece h) read, a ∙ e, b ∙ f)

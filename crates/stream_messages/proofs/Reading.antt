@@ -1,6 +1,6 @@
 -- The items and headers of both protocols, byte by byte.
-use Rattle.std.proofs.Common.{◌≡◌, ℕ, Bool, true, false, List, [], ◌∷◌, length, refl, ◌∙◌, sym, ap, subst}
-use Rattle.std.specs.Prelude.{ℤ, Option, Some, None, nat_le, ◌&&◌}
+use Rattle.std.proofs.Common.{◌≡◌, ℕ, Bool, true, false, List, [], ◌∷◌, length, refl, ◌∙◌, ap, subst}
+use Rattle.std.specs.Prelude.{ℤ, Some, nat_le, ◌&&◌}
 use Rattle.gate_base.specs.Bytes.{AreBytes}
 use Rattle.thrift_value.specs.declared.kind.Kind.{Kind}
 use Rattle.thrift_value.specs.declared.kind.Kind.TheVariants as kinds

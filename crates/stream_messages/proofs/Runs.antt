@@ -1,24 +1,19 @@
 -- Runs over bytes of any value, and over sizes.
-use Rattle.std.proofs.Common.{◌≡◌, ℕ, zero, suc, ◌+◌, ◌-◌, ◌*◌, ◌<◌, ◌≤◌, ◌^◌, Bool, true, false, cond, List, [], ◌∷◌, length, drop, Ok, Err, refl, arith, sym, ap, ◌∙◌, subst}
+use Rattle.std.proofs.Common.{◌≡◌, ℕ, zero, suc, ◌+◌, ◌-◌, ◌*◌, ◌<◌, ◌^◌, Bool, true, false, cond, List, [], ◌∷◌, length, drop, Ok, Err, refl, arith, sym, ap, ◌∙◌}
 use Rattle.std.specs.Prelude.{nat_lt, nat_le, ◌==◌, ◌&&◌, if◌then◌else◌}
 use Rattle.std.specs.Int.{w32, from_be_bytes}
 use Rattle.std.proofs.lemmas.Bool.Decides.{nat_tests}
 use Rattle.gate_base.specs.Bytes.{AreBytes}
-use Rattle.thrift_value.specs.Items.{Item}
-use Rattle.protocol_traits.specs.declared.fault.Reason.TheVariants as reasons
 use Rattle.protocol_traits.specs.declared.nest.Slot.{Slot}
-use Rattle.protocol_traits.specs.Follow.{after}
-use Rattle.protocol_traits.specs.Steps.{Step}
-use Rattle.binary_protocol.specs.Scan.{Scan, cut, fault, size_at, size_begun, unsigned_at}
+use Rattle.binary_protocol.specs.Scan.{Scan, size_at, unsigned_at}
 use Rattle.stream_messages.specs.declared.scan.Wire.{Wire}
 use Rattle.stream_messages.specs.declared.parts.Next.TheVariants as next
 use Rattle.stream_messages.specs.declared.parts.Part.TheVariants as part
 use Rattle.stream_messages.specs.declared.parts.BinaryPart.TheVariants as binary
 use Rattle.stream_messages.specs.declared.parts.BinarySized.{BinarySized}
-use Rattle.stream_messages.specs.Parts.{any_or_end}
 use Rattle.stream_messages.specs.Binary.{step_of, size_of, sized}
-use Rattle.stream_messages.specs.Feeding.{Ran, goes, short, wrong, behind, led, run}
-use Rattle.stream_messages.proofs.Seen.{faulty, seen}
+use Rattle.stream_messages.specs.Feeding.{Ran, goes, short, behind, led, run}
+use Rattle.stream_messages.proofs.Seen.{faulty}
 
 -- so many bytes, whatever they are
 abbrev pub ran_any : ℕ → List ℕ → List Slot → Ran

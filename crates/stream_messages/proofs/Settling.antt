@@ -1,15 +1,13 @@
 -- What has no bytes behind an item is read as the protocol's reader reads it.
-use Rattle.std.proofs.Common.{◌≡◌, ℕ, ◌+◌, ◌<◌, ◌≤◌, pos, Bool, true, false, cond, List, [], ◌∷◌, length, drop, Ok, Err, refl, arith, sym, ap, ◌∙◌, subst}
-use Rattle.std.specs.Prelude.{⊤, Some, None, Option, nat_le, ◌==◌, ◌&&◌}
-use Rattle.std.proofs.lemmas.Bool.Decides.{nat_tests}
+use Rattle.std.proofs.Common.{◌≡◌, ℕ, Bool, true, false, cond, List, [], ◌∷◌, length, Ok, Err, refl, ◌∙◌}
+use Rattle.std.specs.Prelude.{⊤, Some, None, Option, nat_le, ◌&&◌}
 use Rattle.thrift_value.specs.declared.kind.Kind.{Kind}
 use Rattle.thrift_value.specs.declared.kind.Kind.TheVariants as kinds
-use Rattle.thrift_value.specs.Items.{Item, end, struct_begin, bool_value}
-use Rattle.protocol_traits.specs.declared.fault.Fault.{Fault}
+use Rattle.thrift_value.specs.Items.{struct_begin, bool_value}
 use Rattle.protocol_traits.specs.declared.fault.Reason.TheVariants as reasons
 use Rattle.protocol_traits.specs.declared.nest.Slot.{Slot}
 use Rattle.protocol_traits.specs.declared.nest.Slot.TheVariants as slots
-use Rattle.protocol_traits.specs.Follow.{after, spent}
+use Rattle.protocol_traits.specs.Follow.{spent}
 use Rattle.binary_protocol.specs.Scan as scan_binary
 use Rattle.compact_protocol.specs.Scan as scan_compact
 use Rattle.stream_messages.specs.declared.scan.Wire.{Wire}
@@ -18,7 +16,7 @@ use Rattle.stream_messages.specs.declared.levels.Settled.{Settled}
 use Rattle.stream_messages.specs.declared.levels.Settled.TheVariants as settled
 use Rattle.stream_messages.specs.Levels.{kind_called, nests, has_ended, is_field, closed, opened_value, opened_kind, opened, settles}
 use Rattle.stream_messages.specs.Scanning.{tells_bools}
-use Rattle.stream_messages.specs.Fronts.{Found, whole, cut, bad, item_at, told_by, Leads, Stops, IsBody}
+use Rattle.stream_messages.specs.Fronts.{Found, whole, bad, item_at}
 use Rattle.stream_messages.proofs.Bodies.{Bodies, one_item, no_item, closed_body, Lasts, closed_lasts, value_at, value_compact}
 
 -- a struct, a bool that was told, or a value that lies too deep isn't called for

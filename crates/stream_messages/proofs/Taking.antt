@@ -1,20 +1,15 @@
 -- One byte takes a scan on as the protocol's reader reads.
-use Rattle.std.proofs.Common.{◌≡◌, ℕ, zero, suc, ◌+◌, ◌-◌, ◌^◌, ◌<◌, ◌≤◌, ◌⊎◌, inl, inr, pos, Bool, true, false, cond, List, [], ◌∷◌, ◌++◌, length, take, drop, Ok, Err, refl, arith, sym, ap, ◌∙◌, subst, append_assoc, length-append}
-use Rattle.std.specs.Prelude.{⊤, nat_le, min}
+use Rattle.std.proofs.Common.{◌≡◌, ℕ, zero, suc, ◌+◌, ◌-◌, ◌^◌, ◌<◌, ◌≤◌, inl, inr, Bool, true, false, cond, List, [], ◌∷◌, ◌++◌, length, take, drop, Ok, Err, refl, arith, sym, ◌∙◌, subst, append_assoc, length-append}
+use Rattle.std.specs.Prelude.{nat_le, min}
 use Rattle.std.proofs.lemmas.Bool.Decides.{nat_tests}
 use Rattle.std.proofs.lemmas.List.{take-append-le, take_all}
 use Rattle.gate_base.specs.Bytes.{AreBytes}
 use Rattle.thrift_value.specs.Items.{Item}
 use Rattle.protocol_traits.specs.declared.fault.Fault.{Fault}
-use Rattle.protocol_traits.specs.declared.fault.Reason.{Reason}
-use Rattle.protocol_traits.specs.declared.fault.Reason.TheVariants as reasons
 use Rattle.protocol_traits.specs.declared.nest.Slot.{Slot}
-use Rattle.protocol_traits.specs.declared.nest.Slot.TheVariants as slots
-use Rattle.protocol_traits.specs.Follow.{after}
 use Rattle.protocol_traits.specs.Heads.{Header}
 use Rattle.protocol_traits.specs.Steps.{Step}
 use Rattle.stream_messages.specs.declared.scan.Wire.{Wire}
-use Rattle.stream_messages.specs.declared.scan.Taken.{Taken}
 use Rattle.stream_messages.specs.declared.scan.Taken.TheVariants as took
 use Rattle.stream_messages.specs.declared.levels.Settled.{Settled}
 use Rattle.stream_messages.specs.declared.levels.Settled.TheVariants as settled
@@ -23,12 +18,12 @@ use Rattle.stream_messages.specs.declared.parts.Next.TheVariants as next
 use Rattle.stream_messages.specs.declared.parts.Part.{Part}
 use Rattle.stream_messages.specs.declared.parts.Part.TheVariants as part
 use Rattle.stream_messages.specs.Levels.{settles}
-use Rattle.stream_messages.specs.Scanning.{Scanning, first_part, begins, tells_bools, step_of, waits, with_levels, settled_in, settles_in, led_by, counted, takes}
+use Rattle.stream_messages.specs.Scanning.{Scanning, first_part, begins, tells_bools, step_of, waits, with_levels, settled_in, led_by, counted, takes}
 use Rattle.stream_messages.specs.Fronts.{Found, whole, cut, bad, head_at, item_at, IsBody, IsFront}
 use Rattle.stream_messages.specs.Feeding.{Ran, goes, short, wrong, behind, led, run, RanTo, HasRead, TakesOne}
 use Rattle.stream_messages.proofs.Bodies.{Bodies, one_item, no_item}
 use Rattle.stream_messages.proofs.Settling.{IsReady, Outcome, settled_body}
-use Rattle.stream_messages.proofs.Seen.{faulty, is_cut, cut_reason, other_reason, seen, seen_head, body_open}
+use Rattle.stream_messages.proofs.Seen.{is_cut, cut_reason, other_reason, seen, seen_head, body_open}
 use Rattle.stream_messages.proofs.Reading.{item_law, head_law}
 
 -- ---- what the automaton finds, the reader finds

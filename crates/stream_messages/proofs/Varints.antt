@@ -1,8 +1,8 @@
 -- Runs over varints.
-use Rattle.std.proofs.Common.{◌≡◌, ℕ, zero, suc, ◌+◌, ◌-◌, ◌*◌, ◌/◌, ◌%◌, ◌<◌, ◌≤◌, ◌^◌, ◌⊎◌, inl, inr, Bool, true, false, cond, List, [], ◌∷◌, length, take, drop, Ok, Err, refl, arith, sym, ap, ◌∙◌, subst}
-use Rattle.std.specs.Prelude.{Result, nat_lt, nat_le, ◌==◌, if◌then◌else◌, min}
+use Rattle.std.proofs.Common.{◌≡◌, ℕ, zero, suc, ◌+◌, ◌-◌, ◌*◌, ◌%◌, ◌<◌, ◌≤◌, ◌^◌, Bool, true, false, cond, List, [], ◌∷◌, drop, Ok, Err, refl, arith, sym, ap, ◌∙◌}
+use Rattle.std.specs.Prelude.{Result, nat_lt, nat_le, min}
 use Rattle.std.proofs.lemmas.Bool.Decides.{nat_tests}
-use Rattle.std.proofs.lemmas.Nat.{pow-add, pow_pos}
+use Rattle.std.proofs.lemmas.Nat.{pow-add}
 use Rattle.std.proofs.Math.Nat.{mul-le-mul_left, one-le-pow}
 use Rattle.varint_zigzag.specs.declared.fault.VarFault.{VarFault}
 use Rattle.varint_zigzag.specs.declared.fault.VarFault.TheVariants.{Short, Bad}
@@ -12,7 +12,6 @@ use Rattle.protocol_traits.specs.Follow.{spent}
 use Rattle.stream_messages.specs.declared.scan.Wire.{Wire}
 use Rattle.stream_messages.specs.declared.parts.Next.{Next}
 use Rattle.stream_messages.specs.declared.parts.Next.TheVariants as next
-use Rattle.stream_messages.specs.declared.parts.Part.{Part}
 use Rattle.stream_messages.specs.declared.parts.Part.TheVariants as part
 use Rattle.stream_messages.specs.declared.parts.CompactPart.TheVariants as compact
 use Rattle.stream_messages.specs.declared.parts.CompactSized.{CompactSized}

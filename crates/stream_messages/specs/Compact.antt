@@ -1,5 +1,5 @@
 -- What one byte of a message leads to in the Compact protocol: the part that follows, or that an item ended, and the open levels.
-use Rattle.std.specs.Prelude.{ℕ, ℤ, pos, ◌+◌, ◌+ℤ◌, ◌-◌, ◌*◌, ◌/◌, ◌%◌, ◌^◌, min, List, [], ◌∷◌, Option, Some, None, Bool, true, false, nat_lt, nat_le, ◌==◌, ◌&&◌, if◌then◌else◌}
+use Rattle.std.specs.Prelude.{ℕ, ℤ, ◌+◌, ◌-◌, ◌*◌, ◌/◌, ◌%◌, ◌^◌, min, List, Option, Some, None, Bool, nat_lt, nat_le, ◌==◌, if◌then◌else◌}
 use Rattle.varint_zigzag.specs.Zigzag.{unfolded}
 use Rattle.thrift_value.specs.declared.kind.Kind.{Kind}
 use Rattle.thrift_value.specs.declared.kind.Kind.TheVariants as kinds

@@ -1,6 +1,6 @@
 -- What a front of a stream is, as the protocol's own reader finds it: a message and nothing more, the beginning of one, or
 -- neither. The laws of the protocols say what these are in the words of their grammars.
-use Rattle.std.specs.Prelude.{◌≡◌, ◌⊎◌, ℕ, pos, ◌+◌, List, [], ◌∷◌, length, drop, Ok, Err, Bool, true, false}
+use Rattle.std.specs.Prelude.{◌≡◌, ◌⊎◌, ℕ, pos, List, [], ◌∷◌, length, drop, Ok, Err, Bool, false}
 use Rattle.thrift_value.specs.Items.{Item}
 use Rattle.protocol_traits.specs.declared.fault.Fault.{Fault}
 use Rattle.protocol_traits.specs.declared.fault.Reason.TheVariants as reasons

@@ -1,11 +1,10 @@
 -- The open levels where an item ends.
-use Rattle.std.specs.Prelude.{ℕ, pos, List, [], ◌∷◌, length, Option, Some, None, Bool, true, false, nat_le, ◌==◌, ◌&&◌, if◌then◌else◌}
+use Rattle.std.specs.Prelude.{pos, List, [], ◌∷◌, length, Option, Some, None, Bool, true, false, nat_le, ◌==◌, ◌&&◌, if◌then◌else◌}
 use Rattle.thrift_value.specs.declared.kind.Kind.{Kind}
 use Rattle.thrift_value.specs.declared.kind.Kind.TheVariants as kinds
 use Rattle.protocol_traits.specs.declared.nest.Slot.{Slot}
 use Rattle.protocol_traits.specs.declared.nest.Slot.TheVariants as slots
 use Rattle.protocol_traits.specs.Follow.{spent}
-use Rattle.protocol_traits.specs.Stack.{rest_of}
 use Rattle.stream_messages.specs.declared.parts.Next.{Next}
 use Rattle.stream_messages.specs.declared.parts.Next.TheVariants as next
 use Rattle.stream_messages.specs.declared.levels.Settled.{Settled}

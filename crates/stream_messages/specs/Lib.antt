@@ -6,3 +6,4 @@ pub mod Compact
 pub mod Scanning
 pub mod Feeding
 pub mod Fronts
+pub mod Messages

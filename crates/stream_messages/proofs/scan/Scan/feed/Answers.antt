@@ -1,4 +1,4 @@
-use Rattle.std.proofs.Common.{ℕ, List, ◌++◌, take, arith, subst, sym, refl, append-nil}
+use Rattle.std.proofs.Common.{◌++◌, take, subst, sym, refl, append-nil}
 use Rattle.stream_messages.specs.Fronts.{whole, cut, bad}
 use Rattle.stream_messages.specs.Feeding.{HasRead}
 use Rattle.stream_messages.proofs.Pieces.{ends_at, full_at, goes_on}
@@ -27,4 +27,4 @@ pub loop-at-preserved : goal.loop-at-preserved
 loop-at-preserved c = λ front read.
     let i = c.loop-at.invariant front read in
     let o = c.in-More.ensures (front ++ take c.loop-at.at c.args.piece.now) i.0 in
-    goes_on _ _ _ front c.args.piece.now c.loop-at.at c.loop-at-test.true i.1 i.2 o.0 o.1 o.2
+    goes_on _ front c.args.piece.now c.loop-at.at _ _ _ _ c.loop-at-test.true i.1 i.2 o.0 o.1 o.2

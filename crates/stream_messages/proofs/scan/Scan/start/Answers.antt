@@ -3,4 +3,4 @@ use Rattle.stream_messages.proofs.Taking.{begun}
 use Rattle.stream_messages.proofs.scan.Scan.start.Goals as goal
 
 pub returns-clause-read : goal.returns-clause-read
-returns-clause-read c = begun _ _ c.requires (omega arith)
+returns-clause-read c = rw (c.first_part.ensures, c.new.ensures) (begun _ _ c.requires (omega arith))
