@@ -19,15 +19,15 @@ use Rattle.binary_protocol.specs.Heads.{head_at}
 use Rattle.binary_protocol.specs.Scan.{Scan}
 use Rattle.binary_protocol.specs.Reading.{State, rest, scan_at, moved, reads, headed, begun, reads_head, reads_end}
 use Rattle.binary_laws.specs.Reads.{Reads, IsRead, header_of_message}
-use Rattle.binary_laws.specs.Refused.{Refuses, IsRefused}
+use Rattle.binary_laws.specs.Refused.{IsRefused}
 use Rattle.binary_laws.specs.Faults.{IsWhole, StandsAt, FaultAt}
 use Rattle.binary_laws.proofs.Spelled.{onward, headed_state, spelled_read}
 use Rattle.binary_laws.proofs.Sound.{moved_read, begun_read, no_levels}
 use Rattle.binary_laws.proofs.Faults.{judged, stands_there}
 use Rattle.binary_laws.proofs.Alone.{refuses}
 use Rattle.stream_messages.specs.declared.scan.Wire.TheVariants as wires
-use Rattle.stream_messages.specs.Fronts.{Found, whole, cut, bad, item_at, Leads, IsFault, Stops, IsBody, IsFront}
-use Rattle.unframed_laws.proofs.Ends.{Halts, same_end, same_read, stops_halt, one_found}
+use Rattle.stream_messages.specs.Fronts.{Found, whole, cut, bad, item_at, Leads, IsFault, Stops, IsFront}
+use Rattle.unframed_laws.proofs.Ends.{same_end, same_read, stops_halt, one_found}
 
 -- read item after item, from one state to another
 record Led (s : State) (items : List Item) (last : State) (flag : Bool) : Type 0 where
@@ -175,6 +175,7 @@ past bytes f header items last are refused t o n p found other (inr (head, size,
         let all : length last.frame ≡ length bytes = ap length o.frame in
         let less : f.place < length bytes = h.0 in
         absurd (omega arith)
+
     by_found : (found : Found) → (found ≡ bad → ⊥) → (end : List Slot) (flag : Bool) (left : List ℕ) → end ≡ [] → rest last ≡ left → Stops wires.Binary found end flag left → FaultAt bytes f → ⊥
     by_found whole other end flag left n r h at = short_of (subst (λ x. StandsAt x bytes f.place) t at) (r ∙ h.1)
     by_found cut other end flag left n r h at = h.0 n
@@ -218,6 +219,7 @@ whole_spells bytes are h = by_case (judged bytes are)
     by_sort f r (inl t) = absurd (cut_is_whole (one_found wires.Binary cut whole bytes (refused_front bytes f cut (is_cut_fault f t) (λ x. absurd (cc)) r) h))
     by_sort f r (inr (inl t)) = absurd (trailed bytes f whole (λ e. bad_is_whole (sym e)) are r t h)
     by_sort f r (inr (inr n)) = absurd (bad_is_whole (one_found wires.Binary bad whole bytes (refused_front bytes f bad (is_bad_fault f n.0) n.1 r) h))
+
     by_case : IsWhole bytes ⊎ ((f : Fault) × IsRefused bytes f × FaultAt bytes f) → IsWhole bytes
     by_case (inl w) = w
     by_case (inr (f, r, at)) = by_sort f r (sort_of f)
@@ -229,6 +231,7 @@ cut_stands bytes are h = by_case (judged bytes are)
     by_sort f r at (inl t) = let s = subst (λ x. StandsAt x bytes f.place) t at in subst (λ p. StandsAt reasons.Truncated bytes p) s.0 s
     by_sort f r at (inr (inl t)) = absurd (trailed bytes f cut (λ e. bad_is_cut (sym e)) are r t h)
     by_sort f r at (inr (inr n)) = absurd (bad_is_cut (one_found wires.Binary bad cut bytes (refused_front bytes f bad (is_bad_fault f n.0) n.1 r) h))
+
     by_case : IsWhole bytes ⊎ ((f : Fault) × IsRefused bytes f × FaultAt bytes f) → StandsAt reasons.Truncated bytes (length bytes)
     by_case (inl w) = absurd (cut_is_whole (one_found wires.Binary cut whole bytes h (is_whole bytes w)))
     by_case (inr (f, r, at)) = by_sort f r at (sort_of f)
@@ -249,6 +252,7 @@ bad_stands bytes are shorter h = by_case (judged bytes are)
         let s = subst (λ x. StandsAt x bytes f.place) t at in
         absurd (cut_is_whole (one_found wires.Binary cut whole (take f.place bytes) (shorter f.place s.0) (is_whole (take f.place bytes) s.2)))
     by_sort f r at (inr (inr n)) = (f, at, n.0, n.1)
+
     by_case : IsWhole bytes ⊎ ((f : Fault) × IsRefused bytes f × FaultAt bytes f) → (f : Fault) × FaultAt bytes f × (f.reason ≡ reasons.Truncated → ⊥) × (f.reason ≡ reasons.Trailing → ⊥)
     by_case (inl w) = absurd (bad_is_whole (one_found wires.Binary bad whole bytes h (is_whole bytes w)))
     by_case (inr (f, r, at)) = by_sort f r at (sort_of f)

@@ -1,5 +1,5 @@
 -- Where the reading of a body ends, it ends in one way.
-use Rattle.std.proofs.Common.{◌≡◌, ◌⊎◌, inl, inr, ℕ, pos, Bool, true, false, List, [], ◌∷◌, length, drop, Ok, Err, refl, sym, ap, ◌∙◌, subst}
+use Rattle.std.proofs.Common.{◌≡◌, ◌⊎◌, inl, inr, ℕ, pos, Bool, false, List, [], ◌∷◌, drop, Ok, Err, refl, sym, ap, ◌∙◌, subst}
 use Rattle.thrift_value.specs.Items.{Item}
 use Rattle.protocol_traits.specs.declared.fault.Fault.{Fault}
 use Rattle.protocol_traits.specs.declared.fault.Reason.TheVariants as reasons
@@ -10,7 +10,7 @@ use Rattle.protocol_traits.specs.Heads.{Header}
 use Rattle.protocol_traits.specs.Steps.{Step}
 use Rattle.stream_messages.specs.declared.scan.Wire.{Wire}
 use Rattle.stream_messages.specs.declared.scan.Wire.TheVariants as wires
-use Rattle.stream_messages.specs.Fronts.{Found, whole, cut, bad, head_at, item_at, told_by, Leads, IsFault, Stops, IsBody, IsFront}
+use Rattle.stream_messages.specs.Fronts.{Found, whole, cut, bad, item_at, told_by, Leads, IsFault, Stops, IsBody, IsFront}
 
 -- nothing is read here
 abbrev pub Halts : Wire → List Slot → Bool → List ℕ → Type 0
