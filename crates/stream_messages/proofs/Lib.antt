@@ -9,3 +9,4 @@ pub mod CompactItems
 pub mod Reading
 pub mod Taking
 pub mod Pieces
+pub mod Cutting

@@ -7,8 +7,10 @@
 mod binary;
 mod codes;
 mod compact;
+mod laws;
 mod levels;
 mod parts;
 mod scan;
 
+pub use laws::a_stream_is_cut;
 pub use scan::{Cut, Scan, Wire};

@@ -3,7 +3,7 @@
 //! Each law is the contract of a function that does nothing. The code rests on none of them.
 #![tactic(auto)]
 
-ghost use Rattle.std.specs.Prelude.{◌≡◌, ◌⊎◌, ◌<◌, ◌↔◌, List, ℕ, length, take};
+ghost use Rattle.std.specs.Prelude.{◌≡◌, ◌<◌, List, ℕ, length, take};
 ghost use Rattle.gate_base.specs.Bytes.{AreBytes};
 ghost use Rattle.protocol_traits.specs.declared.fault.Fault.{Fault};
 ghost use Rattle.protocol_traits.specs.declared.fault.Reason.TheVariants as reasons;
@@ -12,6 +12,7 @@ ghost use Rattle.compact_laws.specs.Faults.{IsWhole as IsWholeCompact, StandsAt 
 ghost use Rattle.stream_messages.specs.declared.scan.Wire.TheVariants as wires;
 ghost use Rattle.stream_messages.specs.declared.scan.Wire.{Wire};
 ghost use Rattle.stream_messages.specs.Fronts.{Found, whole, cut, bad, IsFront};
+ghost use Rattle.stream_messages.specs.Messages.{Tail, Messages};
 
 /// Of a front of a stream at most one thing is found, in either protocol.
 pub fn one_thing_is_found()
@@ -44,4 +45,10 @@ pub fn a_compact_front_is_found_by_the_grammar()
         → (f : Fault) × FaultAtCompact front f × (f.reason ≡ reasons.Truncated → ⊥) × (f.reason ≡ reasons.Trailing → ⊥) }
     ensures is_bad { (front : List ℕ) (f : Fault) → AreBytes front → FaultAtCompact front f → (f.reason ≡ reasons.Truncated → ⊥) → (f.reason ≡ reasons.Trailing → ⊥)
         → IsFront wires.Compact bad front }
+{}
+
+/// A stream is cut into whole messages and a tail in one way at most.
+pub fn a_stream_is_cut_in_one_way()
+    ensures { (wire : Wire) (limit : ℕ) (stream : List ℕ) (messages others : List (List ℕ)) (tail other : Tail) → Messages wire limit stream messages tail
+        → Messages wire limit stream others other → (messages ≡ others) × (tail ≡ other) }
 {}
