@@ -1,0 +1,12 @@
+pub mod Bodies
+pub mod Settling
+pub mod Seen
+pub mod Runs
+pub mod BinaryItems
+pub mod BinaryHead
+pub mod Varints
+pub mod CompactItems
+pub mod Reading
+pub mod Taking
+pub mod Pieces
+pub mod Cutting

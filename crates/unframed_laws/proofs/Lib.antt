@@ -1,0 +1,4 @@
+pub mod Ends
+pub mod BinaryFronts
+pub mod CompactFronts
+pub mod Cuts

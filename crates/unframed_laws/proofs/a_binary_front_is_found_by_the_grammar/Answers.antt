@@ -1,0 +1,5 @@
+use Rattle.unframed_laws.proofs.BinaryFronts as fronts
+use Rattle.unframed_laws.proofs.a_binary_front_is_found_by_the_grammar.Goals as goal
+
+pub returns : goal.returns
+returns c = record { whole = fronts.whole_spells; is_whole = fronts.is_whole; cut = fronts.cut_stands; is_cut = fronts.is_cut; bad = fronts.bad_stands; is_bad = fronts.is_bad }

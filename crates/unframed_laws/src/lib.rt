@@ -1,0 +1,54 @@
+//! Laws of unframed messages: what `stream_messages` finds of a front of a stream is what the grammars of the protocols say of it.
+//!
+//! Each law is the contract of a function that does nothing. The code rests on none of them.
+#![tactic(auto)]
+
+ghost use Rattle.std.specs.Prelude.{◌≡◌, ◌<◌, List, ℕ, length, take};
+ghost use Rattle.gate_base.specs.Bytes.{AreBytes};
+ghost use Rattle.protocol_traits.specs.declared.fault.Fault.{Fault};
+ghost use Rattle.protocol_traits.specs.declared.fault.Reason.TheVariants as reasons;
+ghost use Rattle.binary_laws.specs.Faults.{IsWhole, StandsAt, FaultAt};
+ghost use Rattle.compact_laws.specs.Faults.{IsWhole as IsWholeCompact, StandsAt as StandsAtCompact, FaultAt as FaultAtCompact};
+ghost use Rattle.stream_messages.specs.declared.scan.Wire.TheVariants as wires;
+ghost use Rattle.stream_messages.specs.declared.scan.Wire.{Wire};
+ghost use Rattle.stream_messages.specs.Fronts.{Found, whole, cut, bad, IsFront};
+ghost use Rattle.stream_messages.specs.Messages.{Tail, Messages};
+
+/// Of a front of a stream at most one thing is found, in either protocol.
+pub fn one_thing_is_found()
+    ensures { (wire : Wire) (found other : Found) (front : List ℕ) → IsFront wire found front → IsFront wire other front → found ≡ other }
+{}
+
+/// In the Binary protocol a front is found whole exactly where it spells a message of depth at most 256, and cut exactly where it begins
+/// a message, spells none, and calls for no value that 256 levels lie around. Where each shorter front is found cut, it is found bad
+/// exactly where it has another fault than that something trails: it begins no message, or it calls at its end for such a value.
+pub fn a_binary_front_is_found_by_the_grammar()
+    ensures whole { (front : List ℕ) → AreBytes front → IsFront wires.Binary whole front → IsWhole front }
+    ensures is_whole { (front : List ℕ) → IsWhole front → IsFront wires.Binary whole front }
+    ensures cut { (front : List ℕ) → AreBytes front → IsFront wires.Binary cut front → StandsAt reasons.Truncated front (length front) }
+    ensures is_cut { (front : List ℕ) → AreBytes front → StandsAt reasons.Truncated front (length front) → IsFront wires.Binary cut front }
+    ensures bad { (front : List ℕ) → AreBytes front → ((k : ℕ) → k < length front → IsFront wires.Binary cut (take k front)) → IsFront wires.Binary bad front
+        → (f : Fault) × FaultAt front f × (f.reason ≡ reasons.Truncated → ⊥) × (f.reason ≡ reasons.Trailing → ⊥) }
+    ensures is_bad { (front : List ℕ) (f : Fault) → AreBytes front → FaultAt front f → (f.reason ≡ reasons.Truncated → ⊥) → (f.reason ≡ reasons.Trailing → ⊥)
+        → IsFront wires.Binary bad front }
+{}
+
+/// In the Compact protocol a front is found whole exactly where it spells a message of depth at most 256, and cut exactly where it begins
+/// a message, spells none, and calls for no value that 256 levels lie around. Where each shorter front is found cut, it is found bad
+/// exactly where it has another fault than that something trails: it begins no message, or it calls at its end for such a value.
+pub fn a_compact_front_is_found_by_the_grammar()
+    ensures whole { (front : List ℕ) → AreBytes front → IsFront wires.Compact whole front → IsWholeCompact front }
+    ensures is_whole { (front : List ℕ) → IsWholeCompact front → IsFront wires.Compact whole front }
+    ensures cut { (front : List ℕ) → AreBytes front → IsFront wires.Compact cut front → StandsAtCompact reasons.Truncated front (length front) }
+    ensures is_cut { (front : List ℕ) → AreBytes front → StandsAtCompact reasons.Truncated front (length front) → IsFront wires.Compact cut front }
+    ensures bad { (front : List ℕ) → AreBytes front → ((k : ℕ) → k < length front → IsFront wires.Compact cut (take k front)) → IsFront wires.Compact bad front
+        → (f : Fault) × FaultAtCompact front f × (f.reason ≡ reasons.Truncated → ⊥) × (f.reason ≡ reasons.Trailing → ⊥) }
+    ensures is_bad { (front : List ℕ) (f : Fault) → AreBytes front → FaultAtCompact front f → (f.reason ≡ reasons.Truncated → ⊥) → (f.reason ≡ reasons.Trailing → ⊥)
+        → IsFront wires.Compact bad front }
+{}
+
+/// A stream is cut into whole messages and a tail in one way at most.
+pub fn a_stream_is_cut_in_one_way()
+    ensures { (wire : Wire) (limit : ℕ) (stream : List ℕ) (messages others : List (List ℕ)) (tail other : Tail) → Messages wire limit stream messages tail
+        → Messages wire limit stream others other → (messages ≡ others) × (tail ≡ other) }
+{}
