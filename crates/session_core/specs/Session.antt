@@ -1,6 +1,7 @@
 -- A session as its callers see it.
-use Rattle.std.specs.Prelude.{ℕ, ◌+◌, ◌-◌, List, ◌++◌, length, Bool, true, ◌||◌, if◌then◌else◌, Option}
+use Rattle.std.specs.Prelude.{ℕ, ◌+◌, ◌-◌, ◌≤◌, List, ◌++◌, length, Bool, true, ◌||◌, if◌then◌else◌, Option}
 use Rattle.session_core.specs.Standing.{Standing, History}
+use Rattle.session_core.specs.Ends.{held_of, most_held}
 use Rattle.session_core.specs.declared.outcome.Outcome.{Outcome}
 use Rattle.gate_hub.specs.declared.hub.Side.{Side}
 use Rattle.gate_hub.specs.declared.hub.Side.TheVariants as side
@@ -30,3 +31,7 @@ and_ended side.Upstream h = record h { upstream_ended = true }
 abbrev pub room_of : ℕ → Standing → Bool → Side → ℕ
 room_of limit s over side.Client = if s.client_ended || over then 0 else limit + 4 - length s.client
 room_of limit s over side.Upstream = if s.upstream_ended || over then 0 else limit + 4 - length s.upstream
+
+-- the session holds no more than it may
+abbrev pub HoldsWithin : {J : Type 0} → Seen J → Type 0
+HoldsWithin s = held_of s.limit s.standing s.outcome ≤ most_held s.limit s.most

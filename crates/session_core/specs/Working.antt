@@ -1,5 +1,5 @@
 -- The state of a session in the program, and what its calls do.
-use Rattle.std.specs.Prelude.{◌≡◌, ℕ, ◌+◌, ◌*◌, ◌^◌, ◌<◌, ◌≤◌, List, Bool, true, false, ◌&&◌, if◌then◌else◌, Option, Some, None, IfSome}
+use Rattle.std.specs.Prelude.{◌≡◌, ℕ, ◌+◌, ◌*◌, ◌^◌, ◌<◌, ◌≤◌, List, length, Bool, true, false, ◌&&◌, if◌then◌else◌, Option, Some, None, IfSome}
 use Rattle.session_core.specs.declared.outcome.Halt.TheVariants as halt
 use Rattle.framed_transport.specs.Frames.{IsCut}
 use Rattle.framed_transport.specs.Front.{Whole, front}
@@ -32,7 +32,7 @@ standing s = record {
   answered = s.answered;
 }
 
--- its rooms serve for frames of the limit and so many calls
+-- its rooms serve for frames of the limit and so many calls, and nothing in it passes its room
 pub record IsReady (limit most : ℕ) (s : State) : Type 0 where
   pub client : s.client.limit ≡ limit
   pub upstream : s.upstream.limit ≡ limit
@@ -42,6 +42,11 @@ pub record IsReady (limit most : ℕ) (s : State) : Type 0 where
   pub calls : s.calls.capacity ≡ most
   pub some : 0 < most
   pub few : most ≤ 65536
+  pub client_within : length s.client.held ≤ limit + 4
+  pub upstream_within : length s.upstream.held ≤ limit + 4
+  pub to_client_within : length s.to_client.bytes ≤ s.to_client.room
+  pub to_upstream_within : length s.to_upstream.bytes ≤ s.to_upstream.room
+  pub calls_within : length s.calls.items ≤ most
 
 -- its rooms serve for its own limit and number of calls
 abbrev pub IsSound : State → Type 0

@@ -3,7 +3,7 @@ ghost use Rattle.std.specs.Prelude.{◌≡◌, ◌+◌, ◌*◌, ◌-◌, ◌^�
 ghost use Rattle.session_core.specs.Standing.{Standing, History, begun, nothing};
 ghost use Rattle.session_core.specs.Fits.{Fits};
 ghost use Rattle.session_core.specs.Ends.{IsAtRest, TakesNoMore, held_of, is_own};
-ghost use Rattle.session_core.specs.Session.{Seen, due_to, and_sent, and_ended, room_of};
+ghost use Rattle.session_core.specs.Session.{Seen, HoldsWithin, due_to, and_sent, and_ended, room_of};
 
 use crate::judge::Judge;
 use crate::outcome::Outcome;
@@ -55,6 +55,7 @@ impl<J: Judge> Session<J> {
         ensures fits { IfOk result (λ s. Fits (J.rules judge) limit most nothing s.standing) }
         ensures rest { IfOk result (λ s. IsAtRest (J.rules judge) limit most s.standing s.outcome) }
         ensures going { IfOk result (λ s. s.outcome ≡ None) }
+        ensures holds { IfOk result (λ s. HoldsWithin s) }
     {
         let state = State::open(alloc, limit, most)?;
         Ok(Session { judge, state })
@@ -67,6 +68,7 @@ impl<J: Judge> Session<J> {
     pub fn take_client(&mut self, bytes: &[u8]) -> usize
         ensures same { (self.new.judge ≡ self.old.judge) × (self.new.limit ≡ self.old.limit) × (self.new.most ≡ self.old.most) }
         ensures rest { IsAtRest (J.rules self.old.judge) self.old.limit self.old.most self.new.standing self.new.outcome }
+        ensures holds { HoldsWithin self.new }
         ensures count { result ≤ length bytes.now }
         ensures fits { (h : History) → Fits (J.rules self.old.judge) self.old.limit self.old.most h self.old.standing →
             Fits (J.rules self.old.judge) self.old.limit self.old.most (record h { from_client = h.from_client ++ take result bytes.now }) self.new.standing }
@@ -85,6 +87,7 @@ impl<J: Judge> Session<J> {
     pub fn take_upstream(&mut self, bytes: &[u8]) -> usize
         ensures same { (self.new.judge ≡ self.old.judge) × (self.new.limit ≡ self.old.limit) × (self.new.most ≡ self.old.most) }
         ensures rest { IsAtRest (J.rules self.old.judge) self.old.limit self.old.most self.new.standing self.new.outcome }
+        ensures holds { HoldsWithin self.new }
         ensures count { result ≤ length bytes.now }
         ensures fits { (h : History) → Fits (J.rules self.old.judge) self.old.limit self.old.most h self.old.standing →
             Fits (J.rules self.old.judge) self.old.limit self.old.most (record h { from_upstream = h.from_upstream ++ take result bytes.now }) self.new.standing }
@@ -113,6 +116,7 @@ impl<J: Judge> Session<J> {
         requires due { n ≤ length (due_to side self.old.standing) }
         ensures same { (self.new.judge ≡ self.old.judge) × (self.new.limit ≡ self.old.limit) × (self.new.most ≡ self.old.most) }
         ensures rest { IsAtRest (J.rules self.old.judge) self.old.limit self.old.most self.new.standing self.new.outcome }
+        ensures holds { HoldsWithin self.new }
         ensures fits { (h : History) → Fits (J.rules self.old.judge) self.old.limit self.old.most h self.old.standing →
             Fits (J.rules self.old.judge) self.old.limit self.old.most (and_sent side h (take n (due_to side self.old.standing))) self.new.standing }
     {
@@ -126,6 +130,7 @@ impl<J: Judge> Session<J> {
     pub fn end(&mut self, side: Side)
         ensures same { (self.new.judge ≡ self.old.judge) × (self.new.limit ≡ self.old.limit) × (self.new.most ≡ self.old.most) }
         ensures rest { IsAtRest (J.rules self.old.judge) self.old.limit self.old.most self.new.standing self.new.outcome }
+        ensures holds { HoldsWithin self.new }
         ensures fits { (h : History) → Fits (J.rules self.old.judge) self.old.limit self.old.most h self.old.standing →
             Fits (J.rules self.old.judge) self.old.limit self.old.most (and_ended side h) self.new.standing }
     {
@@ -149,6 +154,7 @@ impl<J: Judge> Session<J> {
     pub fn outcome(&self) -> Option<Outcome>
         ensures told { result ≡ self.now.outcome }
         ensures own { IfSome result (λ outcome. is_own outcome ≡ true) }
+        ensures holds { HoldsWithin self.now }
     {
         self.state.outcome
     }
