@@ -1,15 +1,28 @@
 -- A session as its callers see it.
-use Rattle.std.specs.Prelude.{ℕ, ◌+◌, ◌-◌, ◌≤◌, List, ◌++◌, length, Bool, true, ◌||◌, if◌then◌else◌, Option}
+use Rattle.std.specs.Prelude.{ℕ, ◌+◌, ◌*◌, ◌-◌, ◌≤◌, List, ◌++◌, length, Bool, true, ◌||◌, if◌then◌else◌, Option}
 use Rattle.session_core.specs.Standing.{Standing, History}
 use Rattle.session_core.specs.Ends.{held_of, most_held}
 use Rattle.session_core.specs.declared.outcome.Outcome.{Outcome}
 use Rattle.gate_hub.specs.declared.hub.Side.{Side}
 use Rattle.gate_hub.specs.declared.hub.Side.TheVariants as side
 
+-- the rooms of a session: for the bytes held of each side, for those due to each, and for the open calls
+pub record Rooms : Type 0 where
+  pub client : ℕ
+  pub upstream : ℕ
+  pub to_client : ℕ
+  pub to_upstream : ℕ
+  pub calls : ℕ
+
+-- the rooms for frames of at most so many bytes, and so many open calls
+abbrev pub rooms_for : ℕ → ℕ → Rooms
+rooms_for limit most = record { client = limit + 4; upstream = limit + 4; to_client = 24 * limit + 260; to_upstream = 24 * limit + 260; calls = most }
+
 pub record Seen (J : Type 0) : Type 0 where
   pub judge : J
   pub limit : ℕ
   pub most : ℕ
+  pub rooms : Rooms
   pub standing : Standing
   pub outcome : Option Outcome
 

@@ -8,6 +8,7 @@ use Rattle.session_core.specs.Standing.{Standing, History}
 use Rattle.session_core.specs.Fits.{Fits}
 use Rattle.session_core.specs.Steps.{Move, Waits, Halts, Takes, of_upstream, of_client, is_none, by_upstream, by_client}
 use Rattle.session_core.specs.Ends.{IsAtRest}
+use Rattle.session_core.specs.Session.{Rooms}
 use Rattle.session_core.specs.declared.outcome.Outcome.{Outcome}
 use Rattle.session_core.specs.declared.state.State.{State}
 use Rattle.session_core.specs.declared.state.Turn.{Turn}
@@ -30,6 +31,16 @@ standing s = record {
   upstream_ended = s.upstream_ended;
   taken = s.taken;
   answered = s.answered;
+}
+
+-- the rooms that it has
+abbrev pub rooms_in : State → Rooms
+rooms_in s = record {
+  client = s.client.limit + 4;
+  upstream = s.upstream.limit + 4;
+  to_client = s.to_client.room;
+  to_upstream = s.to_upstream.room;
+  calls = s.calls.capacity;
 }
 
 -- its rooms serve for frames of the limit and so many calls, and nothing in it passes its room

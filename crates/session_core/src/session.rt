@@ -3,7 +3,7 @@ ghost use Rattle.std.specs.Prelude.{◌≡◌, ◌+◌, ◌*◌, ◌-◌, ◌^�
 ghost use Rattle.session_core.specs.Standing.{Standing, History, begun, nothing};
 ghost use Rattle.session_core.specs.Fits.{Fits};
 ghost use Rattle.session_core.specs.Ends.{IsAtRest, TakesNoMore, held_of, is_own};
-ghost use Rattle.session_core.specs.Session.{Seen, HoldsWithin, due_to, and_sent, and_ended, room_of};
+ghost use Rattle.session_core.specs.Session.{Seen, HoldsWithin, rooms_for, due_to, and_sent, and_ended, room_of};
 
 use crate::judge::Judge;
 use crate::outcome::Outcome;
@@ -29,9 +29,9 @@ impl<J: Judge> Model for Session<J> {
 
     ghost Value = { Seen J };
 
-    ghost use Rattle.session_core.specs.Working.{standing, IsReady, IsSettled, Knows};
+    ghost use Rattle.session_core.specs.Working.{standing, rooms_in, IsReady, IsSettled, Knows};
 
-    ghost view = { λ s. record { judge = s.judge; limit = s.state.client.limit; most = s.state.calls.capacity; standing = standing s.state; outcome = s.state.outcome } };
+    ghost view = { λ s. record { judge = s.judge; limit = s.state.client.limit; most = s.state.calls.capacity; rooms = rooms_in s.state; standing = standing s.state; outcome = s.state.outcome } };
 
     ghost invariant = { λ s. IsReady s.state.client.limit s.state.calls.capacity s.state × (s.state.client.limit ≤ J.longest s.judge) × IsSettled (J.rules s.judge) s.state.client.limit s.state.calls.capacity s.state × Knows (J.rules s.judge) s.state };
 }
@@ -55,6 +55,7 @@ impl<J: Judge> Session<J> {
         ensures fits { IfOk result (λ s. Fits (J.rules judge) limit most nothing s.standing) }
         ensures rest { IfOk result (λ s. IsAtRest (J.rules judge) limit most s.standing s.outcome) }
         ensures going { IfOk result (λ s. s.outcome ≡ None) }
+        ensures rooms { IfOk result (λ s. s.rooms ≡ rooms_for limit most) }
         ensures holds { IfOk result (λ s. HoldsWithin s) }
     {
         let state = State::open(alloc, limit, most)?;
@@ -68,6 +69,7 @@ impl<J: Judge> Session<J> {
     pub fn take_client(&mut self, bytes: &[u8]) -> usize
         ensures same { (self.new.judge ≡ self.old.judge) × (self.new.limit ≡ self.old.limit) × (self.new.most ≡ self.old.most) }
         ensures rest { IsAtRest (J.rules self.old.judge) self.old.limit self.old.most self.new.standing self.new.outcome }
+        ensures rooms { self.new.rooms ≡ self.old.rooms }
         ensures holds { HoldsWithin self.new }
         ensures count { result ≤ length bytes.now }
         ensures fits { (h : History) → Fits (J.rules self.old.judge) self.old.limit self.old.most h self.old.standing →
@@ -87,6 +89,7 @@ impl<J: Judge> Session<J> {
     pub fn take_upstream(&mut self, bytes: &[u8]) -> usize
         ensures same { (self.new.judge ≡ self.old.judge) × (self.new.limit ≡ self.old.limit) × (self.new.most ≡ self.old.most) }
         ensures rest { IsAtRest (J.rules self.old.judge) self.old.limit self.old.most self.new.standing self.new.outcome }
+        ensures rooms { self.new.rooms ≡ self.old.rooms }
         ensures holds { HoldsWithin self.new }
         ensures count { result ≤ length bytes.now }
         ensures fits { (h : History) → Fits (J.rules self.old.judge) self.old.limit self.old.most h self.old.standing →
@@ -116,6 +119,7 @@ impl<J: Judge> Session<J> {
         requires due { n ≤ length (due_to side self.old.standing) }
         ensures same { (self.new.judge ≡ self.old.judge) × (self.new.limit ≡ self.old.limit) × (self.new.most ≡ self.old.most) }
         ensures rest { IsAtRest (J.rules self.old.judge) self.old.limit self.old.most self.new.standing self.new.outcome }
+        ensures rooms { self.new.rooms ≡ self.old.rooms }
         ensures holds { HoldsWithin self.new }
         ensures fits { (h : History) → Fits (J.rules self.old.judge) self.old.limit self.old.most h self.old.standing →
             Fits (J.rules self.old.judge) self.old.limit self.old.most (and_sent side h (take n (due_to side self.old.standing))) self.new.standing }
@@ -130,6 +134,7 @@ impl<J: Judge> Session<J> {
     pub fn end(&mut self, side: Side)
         ensures same { (self.new.judge ≡ self.old.judge) × (self.new.limit ≡ self.old.limit) × (self.new.most ≡ self.old.most) }
         ensures rest { IsAtRest (J.rules self.old.judge) self.old.limit self.old.most self.new.standing self.new.outcome }
+        ensures rooms { self.new.rooms ≡ self.old.rooms }
         ensures holds { HoldsWithin self.new }
         ensures fits { (h : History) → Fits (J.rules self.old.judge) self.old.limit self.old.most h self.old.standing →
             Fits (J.rules self.old.judge) self.old.limit self.old.most (and_ended side h) self.new.standing }
