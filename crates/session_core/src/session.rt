@@ -107,6 +107,7 @@ impl<J: Judge> Session<J> {
         ensures bytes { result.now ≡ due_to side self.now.standing }
         ensures within { length (due_to side self.now.standing) ≤ 24 * self.now.limit + 260 }
         ensures over { is_some self.now.outcome ≡ true → due_to side self.now.standing ≡ [] }
+        ensures holds { HoldsWithin self.now }
     {
         match side {
             Side::Client => self.state.to_client(),
@@ -147,7 +148,8 @@ impl<J: Judge> Session<J> {
 
     /// How many more bytes of a side can be taken.
     pub fn room(&self, side: Side) -> usize
-        ensures { result ≡ room_of self.now.limit self.now.standing (is_some self.now.outcome) side }
+        ensures room { result ≡ room_of self.now.limit self.now.standing (is_some self.now.outcome) side }
+        ensures holds { HoldsWithin self.now }
     {
         match side {
             Side::Client => self.state.client_room(),
