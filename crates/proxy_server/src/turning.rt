@@ -28,7 +28,7 @@ const MOST_MOVES: u32 = 16;
 /// It goes in rounds: a write to the client, one to the upstream, a read of the upstream and one of the client, each of
 /// at most 4,096 bytes. A write is left out where nothing is due, a read where there is no room or the side has ended,
 /// and either once it answered in this turn that it isn't ready. A call that fails is the last, and ends the turn with
-/// `Outcome::LinkFault`. It takes no memory.
+/// `Outcome::LinkFault`. It takes no memory: the session keeps its rooms, and holds no more than it may, before and after.
 pub fn turn<H: Hub, J: Judge>(session: &mut Session<J>, hub: &mut H, k: u64) -> Turn
     ensures turned { Goes (H.tells hub.old) (H.tells hub.new) (Matches J J.rules session.old) (Matches J J.rules session.new) k
         (λ made s t. (session.old.outcome ≡ None → Begins k (wanted no_waits session.old) made) ×

@@ -8,12 +8,14 @@ ghost use Rattle.session_core.specs.Session.{Seen, HoldsWithin, rooms_for, due_t
 use crate::judge::Judge;
 use crate::outcome::Outcome;
 use crate::state::State;
-use gate_hub::Side;
 use gate_base::OutOfMemory;
+use gate_hub::Side;
 use std::alloc::Global;
 use std::marker::Model;
 
-/// A session. All its memory is taken by `open`.
+/// A session. All its memory is taken by `open`: no later call changes a room, asks for memory or can answer that it wants
+/// some, and after each call the session holds no more than 52 bytes for each byte of the limit, 16 for each call that may
+/// be open, and 4,096.
 ///
 /// It fits what came and went: what was sent and is due is what the frames that were taken give, and no frame that can
 /// be taken is left. Once it has an outcome it takes nothing, and nothing is due.
