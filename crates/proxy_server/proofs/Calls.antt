@@ -20,7 +20,7 @@ use Rattle.gate_hub.specs.declared.hub.HubNext.TheVariants as event
 use Rattle.gate_hub.specs.declared.hub.LinkPut.TheVariants as puts
 use Rattle.session_core.specs.Rules.{Rules}
 use Rattle.session_core.specs.Standing.{Standing, History}
-use Rattle.session_core.specs.Session.{Seen, due_to}
+use Rattle.session_core.specs.Session.{Seen, HoldsWithin, due_to}
 use Rattle.session_core.specs.Fits.{Fits}
 use Rattle.session_core.specs.Steps.{outcome_of}
 use Rattle.session_core.specs.Ends.{is_own}
@@ -61,8 +61,8 @@ keeps_on told told' P Q R p by = λ m tells is.
 same_count : {J : Type 0} → (begun : Meaning) (set : Setting) (spent : ℕ) (held : List (Entry J)) (past : List Closing) (at : ℕ) (e : Entry J) (m : Meaning) → IsAtWork begun set spent (length held) past m → IsAtWork begun set spent (length (put held at e)) past m
 same_count begun set spent held past at e m w = subst (λ n. IsAtWork begun set spent n past m) (sym (length-set held at e)) w
 
-pub turned_settled : (J : Type 0) (rules : J → Rules) (set : Setting) (begun : Meaning) (spent : ℕ) (held : List (Entry J)) (past : List Closing) (at : ℕ) (e e' : Entry J) (told told' : Meaning → Type 0) → slice_get held at ≡ Some e → e'.number ≡ e.number → IsSame J e.session e'.session → Goes told told' (Matches J rules e.session) (Matches J rules e'.session) e.number (TurnDoes J rules e.number e'.session turn.Settled) → Keeps told told' (IsBusy J rules set begun spent at held past) (Waits J rules set begun spent (put held at e') past)
-turned_settled J rules set begun spent held past at e e' told told' was number same goes = λ m tells b.
+pub turned_settled : (J : Type 0) (rules : J → Rules) (set : Setting) (begun : Meaning) (spent : ℕ) (held : List (Entry J)) (past : List Closing) (at : ℕ) (e e' : Entry J) (told told' : Meaning → Type 0) → slice_get held at ≡ Some e → e'.number ≡ e.number → IsSame J e.session e'.session → HoldsWithin e'.session → Goes told told' (Matches J rules e.session) (Matches J rules e'.session) e.number (TurnDoes J rules e.number e'.session turn.Settled) → Keeps told told' (IsBusy J rules set begun spent at held past) (Waits J rules set begun spent (put held at e') past)
+turned_settled J rules set begun spent held past at e e' told told' was number same holds goes = λ m tells b.
     let s = b.stands in
     let h = s.each at e was in
     let g = goes m tells (h.announced, s.is_open at e was (omega arith)) h.matches in
@@ -70,15 +70,15 @@ turned_settled J rules set begun spent held past at e e' told told' was number s
       g.0,
       g.1,
       record {
-        stands = is_quiet J rules set (put held at e') past at _ 0 g.0 (turns_on J rules set held past at e e' _ m g.0 was number same s g.2 does.0 g.3)
+        stands = is_quiet J rules set (put held at e') past at _ 0 g.0 (turns_on J rules set held past at e e' _ m g.0 was number same holds s g.2 does.0 g.3)
             (λ d got. at_place J held at e e' d (λ u t. IsSettled J rules u t) g.0 was number does.2 got)
             (λ d got. at_place J held at e e' d (λ u t. (x : Side) → HasFailed x t → ⊥) g.0 was number (λ x f. b.unfailed e was x (was_failed _ _ does.1 x f)) got);
         work = same_count begun set spent held past at e' g.0 (turned_work begun set spent (length held) past e.number _ m g.0 b.work h.announced does.0 g.3);
       },
     )
 
-pub turned_more : (J : Type 0) (rules : J → Rules) (set : Setting) (begun : Meaning) (spent : ℕ) (held : List (Entry J)) (past : List Closing) (at : ℕ) (e e' : Entry J) (told told' : Meaning → Type 0) → slice_get held at ≡ Some e → e'.number ≡ e.number → IsSame J e.session e'.session → Goes told told' (Matches J rules e.session) (Matches J rules e'.session) e.number (TurnDoes J rules e.number e'.session turn.More) → Keeps told told' (IsBusy J rules set begun spent at held past) (IsBusy J rules set begun (spent + 1) at (put held at e') past)
-turned_more J rules set begun spent held past at e e' told told' was number same goes = λ m tells b.
+pub turned_more : (J : Type 0) (rules : J → Rules) (set : Setting) (begun : Meaning) (spent : ℕ) (held : List (Entry J)) (past : List Closing) (at : ℕ) (e e' : Entry J) (told told' : Meaning → Type 0) → slice_get held at ≡ Some e → e'.number ≡ e.number → IsSame J e.session e'.session → HoldsWithin e'.session → Goes told told' (Matches J rules e.session) (Matches J rules e'.session) e.number (TurnDoes J rules e.number e'.session turn.More) → Keeps told told' (IsBusy J rules set begun spent at held past) (IsBusy J rules set begun (spent + 1) at (put held at e') past)
+turned_more J rules set begun spent held past at e e' told told' was number same holds goes = λ m tells b.
     let s = b.stands in
     let h = s.each at e was in
     let g = goes m tells (h.announced, s.is_open at e was (omega arith)) h.matches in
@@ -86,7 +86,7 @@ turned_more J rules set begun spent held past at e e' told told' was number same
       g.0,
       g.1,
       record {
-        stands = turns_on J rules set held past at e e' _ m g.0 was number same s g.2 does.0 g.3;
+        stands = turns_on J rules set held past at e e' _ m g.0 was number same holds s g.2 does.0 g.3;
         going = λ d got. at_place J held at e e' d (λ u t. u.outcome ≡ None) g.0 was number does.3 got;
         unfailed = λ d got. at_place J held at e e' d (λ u t. (x : Side) → HasFailed x t → ⊥) g.0 was number (λ x f. b.unfailed e was x (was_failed _ _ does.1 x f)) got;
         work = same_count begun set (spent + 1) held past at e' g.0 (long_work begun set spent (length held) past e.number _ m g.0 b.work h.announced does.0 does.2 g.3);
@@ -144,13 +144,13 @@ broke_so k ending o calls calls' made s t e (ByLink y is last f others) x fault 
     same_side a b q = ap (λ z. side_or z a) q
 broke_so k ending o calls calls' made s t e (BySession is own calm) x fault = absurd (true≢false (sym own ∙ ap is_own fault))
 
-pub turned_ended : (J : Type 0) (rules : J → Rules) (set : Setting) (begun : Meaning) (spent : ℕ) (held : List (Entry J)) (past : List Closing) (at : ℕ) (e e' : Entry J) (o : Outcome) (told told' : Meaning → Type 0) → slice_get held at ≡ Some e → e'.number ≡ e.number → IsSame J e.session e'.session → Goes told told' (Matches J rules e.session) (Matches J rules e'.session) e.number (TurnDoes J rules e.number e'.session (turn.Ended o)) → Keeps told told' (IsBusy J rules set begun spent at held past) (HasEndedAt J rules set begun spent at o (put held at e') past)
-turned_ended J rules set begun spent held past at e e' o told told' was number same goes = λ m tells b.
+pub turned_ended : (J : Type 0) (rules : J → Rules) (set : Setting) (begun : Meaning) (spent : ℕ) (held : List (Entry J)) (past : List Closing) (at : ℕ) (e e' : Entry J) (o : Outcome) (told told' : Meaning → Type 0) → slice_get held at ≡ Some e → e'.number ≡ e.number → IsSame J e.session e'.session → HoldsWithin e'.session → Goes told told' (Matches J rules e.session) (Matches J rules e'.session) e.number (TurnDoes J rules e.number e'.session (turn.Ended o)) → Keeps told told' (IsBusy J rules set begun spent at held past) (HasEndedAt J rules set begun spent at o (put held at e') past)
+turned_ended J rules set begun spent held past at e e' o told told' was number same holds goes = λ m tells b.
     let s = b.stands in
     let h = s.each at e was in
     let g = goes m tells (h.announced, s.is_open at e was (omega arith)) h.matches in
     let does = g.3.session in
-    let stands = turns_on J rules set held past at e e' _ m g.0 was number same s g.2 does.0 g.3 in (
+    let stands = turns_on J rules set held past at e e' _ m g.0 was number same holds s g.2 does.0 g.3 in (
       g.0,
       g.1,
       record {
@@ -401,7 +401,7 @@ leaves_next J rules set begun spent held past at busy k last calls e told told' 
               started = change.started;
               more = _;
               calls = change.calls;
-              is_held = subst (λ u. IsHeld J rules set e.session u) (sym after) (record { announced = h.announced; judged = h.judged; limited = h.limited; calls = h.calls; matches = h.matches });
+              is_held = subst (λ u. IsHeld J rules set e.session u) (sym after) (record { announced = h.announced; judged = h.judged; limited = h.limited; calls = h.calls; matches = h.matches; rooms = h.rooms; holds = h.holds });
               closed = λ _. ap (λ (u : Told). u.closed) after;
               is_open = λ over. absurd (omega (arith, over));
               gone_before = λ i off under. omega (arith, off, under);

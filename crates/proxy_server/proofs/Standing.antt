@@ -10,7 +10,7 @@ use Rattle.gate_hub.specs.declared.hub.Side.TheVariants as side
 use Rattle.gate_hub.specs.declared.hub.HubNext.TheVariants as event
 use Rattle.session_core.specs.Rules.{Rules}
 use Rattle.session_core.specs.Standing.{nothing}
-use Rattle.session_core.specs.Session.{Seen}
+use Rattle.session_core.specs.Session.{Seen, HoldsWithin, rooms_for}
 use Rattle.session_core.specs.declared.outcome.Outcome.{Outcome}
 use Rattle.session_core.specs.declared.outcome.Outcome.TheVariants as outcome
 use Rattle.proxy_server.specs.Matching.{history_of, Matches, IsSame}
@@ -335,8 +335,8 @@ refuses J rules set begun spent held past k o m n a why change = record {
     by j announced (inr other) = known j (s.covers j (ap (λ (u : Told). u.announced) (sym (change.others j other)) ∙ announced))
 
 -- or is opened
-opens : (J : Type 0) (rules : J → Rules) (set : Setting) (begun : Meaning) (spent : ℕ) (held : List (Entry J)) (past : List Closing) (e : Entry J) (m : Meaning) → Awaits J rules set begun spent e.number held past m → rules e.session.judge ≡ set.rules → e.session.limit ≡ set.limit → e.session.most ≡ set.most → Matches J rules e.session nothing → Stands J rules set no_more (held ++ e ∷ []) past (length held) 0 m
-opens J rules set begun spent held past e m a judged limited calls matches = record {
+opens : (J : Type 0) (rules : J → Rules) (set : Setting) (begun : Meaning) (spent : ℕ) (held : List (Entry J)) (past : List Closing) (e : Entry J) (m : Meaning) → Awaits J rules set begun spent e.number held past m → rules e.session.judge ≡ set.rules → e.session.limit ≡ set.limit → e.session.most ≡ set.most → Matches J rules e.session nothing → e.session.rooms ≡ rooms_for set.limit set.most → HoldsWithin e.session → Stands J rules set no_more (held ++ e ∷ []) past (length held) 0 m
+opens J rules set begun spent held past e m a judged limited calls matches rooms holds = record {
   started = s.started;
   rising = rises;
   each = λ i d p. cases (λ i d. IsHeld J rules set d.session (m.session d.number)) is_held s.each i d p;
@@ -355,7 +355,7 @@ opens J rules set begun spent held past e m a judged limited calls matches = rec
     s = a.stands
 
     is_held : IsHeld J rules set e.session (m.session e.number)
-    is_held = subst (λ u. IsHeld J rules set e.session u) (sym a.new) (record { announced = refl; judged = judged; limited = limited; calls = calls; matches = matches })
+    is_held = subst (λ u. IsHeld J rules set e.session u) (sym a.new) (record { announced = refl; judged = judged; limited = limited; calls = calls; matches = matches; rooms = rooms; holds = holds })
 
     cases : (P : ℕ → Entry J → Type 0) → P (length held) e → ((i : ℕ) (d : Entry J) → slice_get held i ≡ Some d → P i d) → (i : ℕ) (d : Entry J) → slice_get (held ++ e ∷ []) i ≡ Some d → P i d
     cases P new others i d p = by (behind_cases held e d i p)
@@ -444,7 +444,7 @@ names J rules set begun spent held past k m n waits open_at comes = known (s.cov
                   started = comes.started;
                   more = _;
                   calls = comes.calls;
-                  is_held = subst (λ u. IsHeld J rules set e.session u) (sym after) (record { announced = h.announced; judged = h.judged; limited = h.limited; calls = h.calls; matches = h.matches });
+                  is_held = subst (λ u. IsHeld J rules set e.session u) (sym after) (record { announced = h.announced; judged = h.judged; limited = h.limited; calls = h.calls; matches = h.matches; rooms = h.rooms; holds = h.holds });
                   closed = λ under. absurd (omega (arith, under));
                   is_open = λ _. ap (λ (u : Told). u.closed) after ∙ s.is_open i e p (omega arith);
                   gone_before = λ j _ under. under;
@@ -465,9 +465,9 @@ names J rules set begun spent held past k m n waits open_at comes = known (s.cov
     known (inr (IsEndedOne i c p q)) = absurd (two_numbers m c.0 k (s.ended i c p).closed open_at.1 q)
 
 -- a session that was just opened is turned
-pub opens_busy : (J : Type 0) (rules : J → Rules) (set : Setting) (begun : Meaning) (spent : ℕ) (held : List (Entry J)) (past : List Closing) (e : Entry J) (m : Meaning) → Awaits J rules set begun spent e.number held past m → rules e.session.judge ≡ set.rules → e.session.limit ≡ set.limit → e.session.most ≡ set.most → Matches J rules e.session nothing → e.session.outcome ≡ None → length held < set.sessions → IsBusy J rules set begun spent (length held) (held ++ e ∷ []) past m
-opens_busy J rules set begun spent held past e m a judged limited calls matches going few = record {
-  stands = opens J rules set begun spent held past e m a judged limited calls matches;
+pub opens_busy : (J : Type 0) (rules : J → Rules) (set : Setting) (begun : Meaning) (spent : ℕ) (held : List (Entry J)) (past : List Closing) (e : Entry J) (m : Meaning) → Awaits J rules set begun spent e.number held past m → rules e.session.judge ≡ set.rules → e.session.limit ≡ set.limit → e.session.most ≡ set.most → Matches J rules e.session nothing → e.session.rooms ≡ rooms_for set.limit set.most → HoldsWithin e.session → e.session.outcome ≡ None → length held < set.sessions → IsBusy J rules set begun spent (length held) (held ++ e ∷ []) past m
+opens_busy J rules set begun spent held past e m a judged limited calls matches rooms holds going few = record {
+  stands = opens J rules set begun spent held past e m a judged limited calls matches rooms holds;
   going = λ d got. subst (λ (f : Entry J). f.session.outcome ≡ None) (some_same (slice_get (held ++ e ∷ []) (length held)) e d (get_last held e) got) going;
   unfailed = λ d got. subst (λ (f : Entry J). (x : Side) → HasFailed x (m.session f.number) → ⊥) (some_same (slice_get (held ++ e ∷ []) (length held)) e d (get_last held e) got) (subst (λ u. (x : Side) → HasFailed x u → ⊥) (sym a.new) new_unfailed);
   work = held_work begun set spent (length held) (length (held ++ e ∷ [])) past m a.work (omega (arith, length-append held (e ∷ []), few));
@@ -475,8 +475,8 @@ opens_busy J rules set begun spent held past e m a judged limited calls matches 
 
 -- ---- turns
 
-pub turns_on : (J : Type 0) (rules : J → Rules) (set : Setting) (held : List (Entry J)) (past : List Closing) (at : ℕ) (e e' : Entry J) (T : List HubCall → Told → Told → Type 0) (m n : Meaning) → slice_get held at ≡ Some e → e'.number ≡ e.number → IsSame J e.session e'.session → Stands J rules set no_more held past at 0 m → Matches J rules e'.session (history_of (n.session e.number)) → AllGrow (m.session e.number) (n.session e.number) → Moves e.number T m n → Stands J rules set no_more (put held at e') past at 0 n
-turns_on J rules set held past at e e' T m n was number same s matches grows change =
+pub turns_on : (J : Type 0) (rules : J → Rules) (set : Setting) (held : List (Entry J)) (past : List Closing) (at : ℕ) (e e' : Entry J) (T : List HubCall → Told → Told → Type 0) (m n : Meaning) → slice_get held at ≡ Some e → e'.number ≡ e.number → IsSame J e.session e'.session → HoldsWithin e'.session → Stands J rules set no_more held past at 0 m → Matches J rules e'.session (history_of (n.session e.number)) → AllGrow (m.session e.number) (n.session e.number) → Moves e.number T m n → Stands J rules set no_more (put held at e') past at 0 n
+turns_on J rules set held past at e e' T m n was number same holds s matches grows change =
     let h = s.each at e was in
     changes J rules set held past at e e' at at 0 0 m n s (record {
       was = was;
@@ -492,6 +492,8 @@ turns_on J rules set held past at e e' T m n was number same s matches grows cha
         limited = same.limit ∙ h.limited;
         calls = same.most ∙ h.calls;
         matches = matches;
+        rooms = same.rooms ∙ h.rooms;
+        holds = holds;
       };
       closed = λ under. absurd (omega (arith, under));
       is_open = λ _. grows.closed ∙ s.is_open at e was (omega arith);

@@ -30,8 +30,9 @@ pub record Matches (J : Type 0) (rules : J → Rules) (session : Seen J) (h : Hi
   pub fits : Fits (rules session.judge) session.limit session.most h session.standing
   pub rest : IsAtRest (rules session.judge) session.limit session.most session.standing session.outcome
 
--- the same judge, limit and number of calls
+-- the same judge, limit, number of calls and rooms
 pub record IsSame (J : Type 0) (a b : Seen J) : Type 0 where
   pub judge : b.judge ≡ a.judge
   pub limit : b.limit ≡ a.limit
   pub most : b.most ≡ a.most
+  pub rooms : b.rooms ≡ a.rooms

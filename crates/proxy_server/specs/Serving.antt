@@ -13,7 +13,7 @@ use Rattle.session_core.specs.Rules.{Rules}
 use Rattle.session_core.specs.Standing.{Standing, nothing}
 use Rattle.session_core.specs.Fits.{Fits}
 use Rattle.session_core.specs.Steps.{outcome_of}
-use Rattle.session_core.specs.Session.{Seen}
+use Rattle.session_core.specs.Session.{Seen, HoldsWithin, rooms_for}
 use Rattle.session_core.specs.declared.outcome.Outcome.{Outcome}
 use Rattle.session_core.specs.declared.outcome.Outcome.TheVariants as outcome
 use Rattle.proxy_server.specs.Lines.{line_text}
@@ -39,13 +39,16 @@ pub record Entry (J : Type 0) : Type 0 where
 abbrev pub Closing : Type 0
 Closing = ℕ × Outcome
 
--- an open session is one of the server's setting, and matches what the hub tells of it
+-- an open session is one of the server's setting, matches what the hub tells of it, has the rooms that it took when it was opened,
+-- and holds no more than it may
 pub record IsHeld (J : Type 0) (rules : J → Rules) (set : Setting) (session : Seen J) (t : Told) : Type 0 where
   pub announced : t.announced ≡ true
   pub judged : rules session.judge ≡ set.rules
   pub limited : session.limit ≡ set.limit
   pub calls : session.most ≡ set.most
   pub matches : Matches J rules session (history_of t)
+  pub rooms : session.rooms ≡ rooms_for set.limit set.most
+  pub holds : HoldsWithin session
 
 -- why a session has this outcome: it was not opened, and nothing was received or sent; the last call of a kind on this side
 -- failed, and none on the other; or no such call failed, and it is the outcome of a session that fits what came and went

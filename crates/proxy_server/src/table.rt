@@ -3,6 +3,7 @@ ghost use Rattle.std.specs.Prelude.{◌≡◌, ◌⊎◌, ◌<◌, ◌≤◌, le
 ghost use Rattle.gate_base.specs.Causes.{Rose};
 ghost use Rattle.gate_hub.specs.Hubs.{Later};
 ghost use Rattle.session_core.specs.Standing.{nothing};
+ghost use Rattle.session_core.specs.Session.{HoldsWithin, rooms_for};
 ghost use Rattle.proxy_server.specs.Matching.{Matches, IsSame};
 ghost use Rattle.proxy_server.specs.Turning.{Goes, TurnDoes, EndsAs};
 ghost use Rattle.proxy_server.specs.Serving.{Entry, IsRising};
@@ -12,8 +13,8 @@ use crate::judges::Judges;
 use crate::server::Limits;
 use crate::turn_end::Turn;
 use crate::turning::turn;
-use gate_hub::{Hub, Side};
 use gate_base::OutOfMemory;
+use gate_hub::{Hub, Side};
 use session_core::{Judge, Outcome, Session};
 use std::alloc::Global;
 use std::marker::Model;
@@ -53,6 +54,7 @@ impl<J: Judge> OpenSession<J> {
         ensures number { self.new.number ≡ self.old.number }
         ensures ending { EndsAs self.new.session.outcome result }
         ensures same { IsSame J self.old.session self.new.session }
+        ensures holds { HoldsWithin self.new.session }
         ensures later { Later (H.counts hub.old) (H.counts hub.new) }
         ensures cause { (side : Side) → result ≡ Turn.Ended (Outcome.LinkFault side) →
             Rose ((H.counts hub.old).link_faults self.old.number side) ((H.counts hub.new).link_faults self.old.number side) }
@@ -71,6 +73,8 @@ pub fn open_session<J: Judge, P: Judges<J>>(
     ensures given { IfOk result (λ s. (J.rules s.judge ≡ P.rules judges.now) × (s.limit ≡ limits.frame) × (s.most ≡ limits.calls)) }
     ensures matches { IfOk result (λ s. Matches J J.rules s nothing) }
     ensures going { IfOk result (λ s. s.outcome ≡ None) }
+    ensures rooms { IfOk result (λ s. s.rooms ≡ rooms_for limits.frame limits.calls) }
+    ensures holds { IfOk result (λ s. HoldsWithin s) }
 {
     let judge = judges.open(alloc)?;
     Session::open(alloc, judge, limits.frame, limits.calls)

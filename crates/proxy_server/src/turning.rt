@@ -3,7 +3,7 @@ ghost use Rattle.std.specs.Prelude.{◌≡◌, ◌<◌, ◌≤◌, ◌⊎◌, []
 ghost use Rattle.gate_base.specs.Causes.{Rose};
 ghost use Rattle.gate_hub.specs.Hubs.{Later};
 ghost use Rattle.session_core.specs.Standing.{History};
-ghost use Rattle.session_core.specs.Session.{due_to, room_of, and_sent, and_ended};
+ghost use Rattle.session_core.specs.Session.{HoldsWithin, due_to, room_of, and_sent, and_ended};
 ghost use Rattle.proxy_server.specs.Calling.{piece_length};
 ghost use Rattle.proxy_server.specs.Matching.{Matches, IsSame, and_received};
 ghost use Rattle.proxy_server.specs.Turning.{Goes, IsQuiet, TurnDoes, Begins, CallDoes, EndsAs, KeepsMarks, no_waits, wanted, wanted_write, wanted_read, most_behind, write_waits, read_waits};
@@ -28,13 +28,14 @@ const MOST_MOVES: u32 = 16;
 /// It goes in rounds: a write to the client, one to the upstream, a read of the upstream and one of the client, each of
 /// at most 4,096 bytes. A write is left out where nothing is due, a read where there is no room or the side has ended,
 /// and either once it answered in this turn that it isn't ready. A call that fails is the last, and ends the turn with
-/// `Outcome::LinkFault`. It takes no memory.
+/// `Outcome::LinkFault`. It takes no memory: the session keeps its rooms, and holds no more than it may, before and after.
 pub fn turn<H: Hub, J: Judge>(session: &mut Session<J>, hub: &mut H, k: u64) -> Turn
     ensures turned { Goes (H.tells hub.old) (H.tells hub.new) (Matches J J.rules session.old) (Matches J J.rules session.new) k
         (λ made s t. (session.old.outcome ≡ None → Begins k (wanted no_waits session.old) made) ×
         TurnDoes J J.rules k session.new result made s t) }
     ensures ending { EndsAs session.new.outcome result }
     ensures same { IsSame J session.old session.new }
+    ensures holds { HoldsWithin session.old × HoldsWithin session.new }
     ensures later { Later (H.counts hub.old) (H.counts hub.new) }
     ensures cause { (side : Side) → result ≡ Turn.Ended (Outcome.LinkFault side) →
         Rose ((H.counts hub.old).link_faults k side) ((H.counts hub.new).link_faults k side) }
@@ -76,6 +77,7 @@ fn round<H: Hub, J: Judge>(
         (CallDoes k (wanted waits.old session.old) result waits.old waits.new) }
     ensures idle { wanted waits.old session.old ≡ None → (session.new ≡ session.old) × (waits.new ≡ waits.old) }
     ensures same { IsSame J session.old session.new }
+    ensures holds { HoldsWithin session.new }
     ensures later { Later (H.counts hub.old) (H.counts hub.new) }
     ensures cause { IfErr result (λ x. Rose ((H.counts hub.old).link_faults k x) ((H.counts hub.new).link_faults k x)) }
     ensures quiet { result ≡ Ok 0 →
@@ -115,6 +117,7 @@ fn write<H: Hub, J: Judge>(
         (CallDoes k (wanted_write side waits.old session.old.standing) result waits.old waits.new) }
     ensures idle { wanted_write side waits.old session.old.standing ≡ None → (session.new ≡ session.old) × (waits.new ≡ waits.old) }
     ensures same { IsSame J session.old session.new }
+    ensures holds { HoldsWithin session.new }
     ensures later { Later (H.counts hub.old) (H.counts hub.new) }
     ensures cause { IfErr result (λ x. Rose ((H.counts hub.old).link_faults k x) ((H.counts hub.new).link_faults k x)) }
     ensures quiet { result ≡ Ok 0 →
@@ -156,6 +159,7 @@ fn read<H: Hub, J: Judge>(
     ensures idle { wanted_read (length piece.old) side waits.old session.old ≡ None →
         (session.new ≡ session.old) × (waits.new ≡ waits.old) }
     ensures same { IsSame J session.old session.new }
+    ensures holds { HoldsWithin session.new }
     ensures later { Later (H.counts hub.old) (H.counts hub.new) }
     ensures cause { IfErr result (λ x. Rose ((H.counts hub.old).link_faults k x) ((H.counts hub.new).link_faults k x)) }
     ensures quiet { result ≡ Ok 0 →
@@ -190,6 +194,7 @@ fn give<J: Judge>(session: &mut Session<J>, side: Side, bytes: &[u8])
     requires room { length bytes.now ≤ room_of session.old.limit session.old.standing (is_some session.old.outcome) side }
     ensures matches { (h : History) → Matches J J.rules session.old h → Matches J J.rules session.new (and_received side h bytes.now) }
     ensures same { IsSame J session.old session.new }
+    ensures holds { HoldsWithin session.new }
 {
     match side {
         Side::Client => session.take_client(bytes),
@@ -203,6 +208,7 @@ fn pass_on<J: Judge>(session: &mut Session<J>, side: Side, count: usize)
     ensures matches { (h : History) → Matches J J.rules session.old h →
         Matches J J.rules session.new (and_sent side h (take count (due_to side session.old.standing))) }
     ensures same { IsSame J session.old session.new }
+    ensures holds { HoldsWithin session.new }
 {
     session.sent(side, count);
 }
@@ -211,6 +217,7 @@ fn pass_on<J: Judge>(session: &mut Session<J>, side: Side, count: usize)
 fn finish<J: Judge>(session: &mut Session<J>, side: Side)
     ensures matches { (h : History) → Matches J J.rules session.old h → Matches J J.rules session.new (and_ended side h) }
     ensures same { IsSame J session.old session.new }
+    ensures holds { HoldsWithin session.new }
 {
     session.end(side);
 }

@@ -1,14 +1,28 @@
 -- A session as its callers see it.
-use Rattle.std.specs.Prelude.{ℕ, ◌+◌, ◌-◌, List, ◌++◌, length, Bool, true, ◌||◌, if◌then◌else◌, Option}
+use Rattle.std.specs.Prelude.{ℕ, ◌+◌, ◌*◌, ◌-◌, ◌≤◌, List, ◌++◌, length, Bool, true, ◌||◌, if◌then◌else◌, Option}
 use Rattle.session_core.specs.Standing.{Standing, History}
+use Rattle.session_core.specs.Ends.{held_of, most_held}
 use Rattle.session_core.specs.declared.outcome.Outcome.{Outcome}
 use Rattle.gate_hub.specs.declared.hub.Side.{Side}
 use Rattle.gate_hub.specs.declared.hub.Side.TheVariants as side
+
+-- the rooms of a session: for the bytes held of each side, for those due to each, and for the open calls
+pub record Rooms : Type 0 where
+  pub client : ℕ
+  pub upstream : ℕ
+  pub to_client : ℕ
+  pub to_upstream : ℕ
+  pub calls : ℕ
+
+-- the rooms for frames of at most so many bytes, and so many open calls
+abbrev pub rooms_for : ℕ → ℕ → Rooms
+rooms_for limit most = record { client = limit + 4; upstream = limit + 4; to_client = 24 * limit + 260; to_upstream = 24 * limit + 260; calls = most }
 
 pub record Seen (J : Type 0) : Type 0 where
   pub judge : J
   pub limit : ℕ
   pub most : ℕ
+  pub rooms : Rooms
   pub standing : Standing
   pub outcome : Option Outcome
 
@@ -30,3 +44,7 @@ and_ended side.Upstream h = record h { upstream_ended = true }
 abbrev pub room_of : ℕ → Standing → Bool → Side → ℕ
 room_of limit s over side.Client = if s.client_ended || over then 0 else limit + 4 - length s.client
 room_of limit s over side.Upstream = if s.upstream_ended || over then 0 else limit + 4 - length s.upstream
+
+-- the session holds no more than it may
+abbrev pub HoldsWithin : {J : Type 0} → Seen J → Type 0
+HoldsWithin s = held_of s.limit s.standing s.outcome ≤ most_held s.limit s.most

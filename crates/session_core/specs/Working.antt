@@ -1,5 +1,5 @@
 -- The state of a session in the program, and what its calls do.
-use Rattle.std.specs.Prelude.{◌≡◌, ℕ, ◌+◌, ◌*◌, ◌^◌, ◌<◌, ◌≤◌, List, Bool, true, false, ◌&&◌, if◌then◌else◌, Option, Some, None, IfSome}
+use Rattle.std.specs.Prelude.{◌≡◌, ℕ, ◌+◌, ◌*◌, ◌^◌, ◌<◌, ◌≤◌, List, length, Bool, true, false, ◌&&◌, if◌then◌else◌, Option, Some, None, IfSome}
 use Rattle.session_core.specs.declared.outcome.Halt.TheVariants as halt
 use Rattle.framed_transport.specs.Frames.{IsCut}
 use Rattle.framed_transport.specs.Front.{Whole, front}
@@ -8,6 +8,7 @@ use Rattle.session_core.specs.Standing.{Standing, History}
 use Rattle.session_core.specs.Fits.{Fits}
 use Rattle.session_core.specs.Steps.{Move, Waits, Halts, Takes, of_upstream, of_client, is_none, by_upstream, by_client}
 use Rattle.session_core.specs.Ends.{IsAtRest}
+use Rattle.session_core.specs.Session.{Rooms}
 use Rattle.session_core.specs.declared.outcome.Outcome.{Outcome}
 use Rattle.session_core.specs.declared.state.State.{State}
 use Rattle.session_core.specs.declared.state.Turn.{Turn}
@@ -32,7 +33,17 @@ standing s = record {
   answered = s.answered;
 }
 
--- its rooms serve for frames of the limit and so many calls
+-- the rooms that it has
+abbrev pub rooms_in : State → Rooms
+rooms_in s = record {
+  client = s.client.limit + 4;
+  upstream = s.upstream.limit + 4;
+  to_client = s.to_client.room;
+  to_upstream = s.to_upstream.room;
+  calls = s.calls.capacity;
+}
+
+-- its rooms serve for frames of the limit and so many calls, and nothing in it passes its room
 pub record IsReady (limit most : ℕ) (s : State) : Type 0 where
   pub client : s.client.limit ≡ limit
   pub upstream : s.upstream.limit ≡ limit
@@ -42,6 +53,11 @@ pub record IsReady (limit most : ℕ) (s : State) : Type 0 where
   pub calls : s.calls.capacity ≡ most
   pub some : 0 < most
   pub few : most ≤ 65536
+  pub client_within : length s.client.held ≤ limit + 4
+  pub upstream_within : length s.upstream.held ≤ limit + 4
+  pub to_client_within : length s.to_client.bytes ≤ s.to_client.room
+  pub to_upstream_within : length s.to_upstream.bytes ≤ s.to_upstream.room
+  pub calls_within : length s.calls.items ≤ most
 
 -- its rooms serve for its own limit and number of calls
 abbrev pub IsSound : State → Type 0

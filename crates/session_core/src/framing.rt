@@ -16,6 +16,7 @@ pub fn judge_client<J: Judge>(judge: &mut J, frame: &[u8], out: &mut Out) -> Cli
     ensures same { judge.new ≡ judge.old }
     ensures verdict { result ≡ (J.rules judge.old).judged frame.now }
     ensures out { out.new ≡ record { bytes = framed ((J.rules judge.old).output frame.now); room = out.old.room } }
+    ensures within { length out.new.bytes ≤ out.new.room }
 {
     let at = begin(out);
     let judged = judge.client(frame, out);
@@ -32,6 +33,7 @@ pub fn answer_call<J: Judge>(judge: &mut J, frame: &[u8], cause: Cause, out: &mu
     requires small { out.old.room < 2 ^ 31 }
     ensures same { judge.new ≡ judge.old }
     ensures out { out.new ≡ record { bytes = framed ((J.rules judge.old).answer frame.now); room = out.old.room } }
+    ensures within { length out.new.bytes ≤ out.new.room }
 {
     let at = begin(out);
     judge.answer(frame, cause, out);
@@ -52,6 +54,7 @@ pub fn judge_upstream<J: Judge>(
     ensures same { judge.new ≡ judge.old }
     ensures verdict { result ≡ (J.rules judge.old).replied call frame.now }
     ensures out { out.new ≡ record { bytes = framed ((J.rules judge.old).reply call frame.now); room = out.old.room } }
+    ensures within { length out.new.bytes ≤ out.new.room }
 {
     let at = begin(out);
     let judged = judge.upstream(call, frame, out);

@@ -3,17 +3,19 @@ ghost use Rattle.std.specs.Prelude.{◌≡◌, ◌+◌, ◌*◌, ◌-◌, ◌^�
 ghost use Rattle.session_core.specs.Standing.{Standing, History, begun, nothing};
 ghost use Rattle.session_core.specs.Fits.{Fits};
 ghost use Rattle.session_core.specs.Ends.{IsAtRest, TakesNoMore, held_of, is_own};
-ghost use Rattle.session_core.specs.Session.{Seen, due_to, and_sent, and_ended, room_of};
+ghost use Rattle.session_core.specs.Session.{Seen, HoldsWithin, rooms_for, due_to, and_sent, and_ended, room_of};
 
 use crate::judge::Judge;
 use crate::outcome::Outcome;
 use crate::state::State;
-use gate_hub::Side;
 use gate_base::OutOfMemory;
+use gate_hub::Side;
 use std::alloc::Global;
 use std::marker::Model;
 
-/// A session. All its memory is taken by `open`.
+/// A session. All its memory is taken by `open`: no later call changes a room, asks for memory or can answer that it wants
+/// some, and after each call the session holds no more than 52 bytes for each byte of the limit, 16 for each call that may
+/// be open, and 4,096.
 ///
 /// It fits what came and went: what was sent and is due is what the frames that were taken give, and no frame that can
 /// be taken is left. Once it has an outcome it takes nothing, and nothing is due.
@@ -29,9 +31,9 @@ impl<J: Judge> Model for Session<J> {
 
     ghost Value = { Seen J };
 
-    ghost use Rattle.session_core.specs.Working.{standing, IsReady, IsSettled, Knows};
+    ghost use Rattle.session_core.specs.Working.{standing, rooms_in, IsReady, IsSettled, Knows};
 
-    ghost view = { λ s. record { judge = s.judge; limit = s.state.client.limit; most = s.state.calls.capacity; standing = standing s.state; outcome = s.state.outcome } };
+    ghost view = { λ s. record { judge = s.judge; limit = s.state.client.limit; most = s.state.calls.capacity; rooms = rooms_in s.state; standing = standing s.state; outcome = s.state.outcome } };
 
     ghost invariant = { λ s. IsReady s.state.client.limit s.state.calls.capacity s.state × (s.state.client.limit ≤ J.longest s.judge) × IsSettled (J.rules s.judge) s.state.client.limit s.state.calls.capacity s.state × Knows (J.rules s.judge) s.state };
 }
@@ -55,6 +57,8 @@ impl<J: Judge> Session<J> {
         ensures fits { IfOk result (λ s. Fits (J.rules judge) limit most nothing s.standing) }
         ensures rest { IfOk result (λ s. IsAtRest (J.rules judge) limit most s.standing s.outcome) }
         ensures going { IfOk result (λ s. s.outcome ≡ None) }
+        ensures rooms { IfOk result (λ s. s.rooms ≡ rooms_for limit most) }
+        ensures holds { IfOk result (λ s. HoldsWithin s) }
     {
         let state = State::open(alloc, limit, most)?;
         Ok(Session { judge, state })
@@ -67,6 +71,8 @@ impl<J: Judge> Session<J> {
     pub fn take_client(&mut self, bytes: &[u8]) -> usize
         ensures same { (self.new.judge ≡ self.old.judge) × (self.new.limit ≡ self.old.limit) × (self.new.most ≡ self.old.most) }
         ensures rest { IsAtRest (J.rules self.old.judge) self.old.limit self.old.most self.new.standing self.new.outcome }
+        ensures rooms { self.new.rooms ≡ self.old.rooms }
+        ensures holds { HoldsWithin self.new }
         ensures count { result ≤ length bytes.now }
         ensures fits { (h : History) → Fits (J.rules self.old.judge) self.old.limit self.old.most h self.old.standing →
             Fits (J.rules self.old.judge) self.old.limit self.old.most (record h { from_client = h.from_client ++ take result bytes.now }) self.new.standing }
@@ -85,6 +91,8 @@ impl<J: Judge> Session<J> {
     pub fn take_upstream(&mut self, bytes: &[u8]) -> usize
         ensures same { (self.new.judge ≡ self.old.judge) × (self.new.limit ≡ self.old.limit) × (self.new.most ≡ self.old.most) }
         ensures rest { IsAtRest (J.rules self.old.judge) self.old.limit self.old.most self.new.standing self.new.outcome }
+        ensures rooms { self.new.rooms ≡ self.old.rooms }
+        ensures holds { HoldsWithin self.new }
         ensures count { result ≤ length bytes.now }
         ensures fits { (h : History) → Fits (J.rules self.old.judge) self.old.limit self.old.most h self.old.standing →
             Fits (J.rules self.old.judge) self.old.limit self.old.most (record h { from_upstream = h.from_upstream ++ take result bytes.now }) self.new.standing }
@@ -101,6 +109,7 @@ impl<J: Judge> Session<J> {
         ensures bytes { result.now ≡ due_to side self.now.standing }
         ensures within { length (due_to side self.now.standing) ≤ 24 * self.now.limit + 260 }
         ensures over { is_some self.now.outcome ≡ true → due_to side self.now.standing ≡ [] }
+        ensures holds { HoldsWithin self.now }
     {
         match side {
             Side::Client => self.state.to_client(),
@@ -113,6 +122,8 @@ impl<J: Judge> Session<J> {
         requires due { n ≤ length (due_to side self.old.standing) }
         ensures same { (self.new.judge ≡ self.old.judge) × (self.new.limit ≡ self.old.limit) × (self.new.most ≡ self.old.most) }
         ensures rest { IsAtRest (J.rules self.old.judge) self.old.limit self.old.most self.new.standing self.new.outcome }
+        ensures rooms { self.new.rooms ≡ self.old.rooms }
+        ensures holds { HoldsWithin self.new }
         ensures fits { (h : History) → Fits (J.rules self.old.judge) self.old.limit self.old.most h self.old.standing →
             Fits (J.rules self.old.judge) self.old.limit self.old.most (and_sent side h (take n (due_to side self.old.standing))) self.new.standing }
     {
@@ -126,6 +137,8 @@ impl<J: Judge> Session<J> {
     pub fn end(&mut self, side: Side)
         ensures same { (self.new.judge ≡ self.old.judge) × (self.new.limit ≡ self.old.limit) × (self.new.most ≡ self.old.most) }
         ensures rest { IsAtRest (J.rules self.old.judge) self.old.limit self.old.most self.new.standing self.new.outcome }
+        ensures rooms { self.new.rooms ≡ self.old.rooms }
+        ensures holds { HoldsWithin self.new }
         ensures fits { (h : History) → Fits (J.rules self.old.judge) self.old.limit self.old.most h self.old.standing →
             Fits (J.rules self.old.judge) self.old.limit self.old.most (and_ended side h) self.new.standing }
     {
@@ -137,7 +150,8 @@ impl<J: Judge> Session<J> {
 
     /// How many more bytes of a side can be taken.
     pub fn room(&self, side: Side) -> usize
-        ensures { result ≡ room_of self.now.limit self.now.standing (is_some self.now.outcome) side }
+        ensures room { result ≡ room_of self.now.limit self.now.standing (is_some self.now.outcome) side }
+        ensures holds { HoldsWithin self.now }
     {
         match side {
             Side::Client => self.state.client_room(),
@@ -149,6 +163,7 @@ impl<J: Judge> Session<J> {
     pub fn outcome(&self) -> Option<Outcome>
         ensures told { result ≡ self.now.outcome }
         ensures own { IfSome result (λ outcome. is_own outcome ≡ true) }
+        ensures holds { HoldsWithin self.now }
     {
         self.state.outcome
     }

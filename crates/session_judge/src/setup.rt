@@ -3,6 +3,7 @@ ghost use Rattle.std.specs.Prelude.{◌≡◌, ◌^◌, ◌<◌, ◌≤◌, IfOk
 ghost use Rattle.session_core.specs.Standing.{nothing};
 ghost use Rattle.session_core.specs.Fits.{Fits};
 ghost use Rattle.session_core.specs.Ends.{IsAtRest};
+ghost use Rattle.session_core.specs.Session.{HoldsWithin, rooms_for};
 ghost use Rattle.session_judge.specs.Rules.{rules_of};
 ghost use Rattle.session_judge.specs.Setups.{setting_of};
 
@@ -41,6 +42,8 @@ pub fn open<'s>(alloc: Global, setup: &Setup<'s>) -> Result<Session<PairJudge<'s
     ensures given { IfOk result (λ s. (s.judge ≡ setting_of setup.now) × (s.limit ≡ setup.now.limit) × (s.most ≡ setup.now.calls)) }
     ensures fits { IfOk result (λ s. Fits (rules_of (setting_of setup.now)) setup.now.limit setup.now.calls nothing s.standing) }
     ensures rest { IfOk result (λ s. IsAtRest (rules_of (setting_of setup.now)) setup.now.limit setup.now.calls s.standing s.outcome) }
+    ensures rooms { IfOk result (λ s. s.rooms ≡ rooms_for setup.now.limit setup.now.calls) }
+    ensures holds { IfOk result (λ s. HoldsWithin s) }
 {
     let judge = PairJudge::open(alloc, setup)?;
     Session::open(alloc, judge, setup.limit, setup.calls)

@@ -20,7 +20,7 @@ returns-then-room-eq0-clause-goes g c =
       | then-room-eq0-via-else-room-eq0+then-read v ↦ inr (sym v.read.ensures ∙ v.if-read.true)
     ] in
     leaves_out (g.H.Hub.tells c.args.hub.now) (Matches _ g.J.Judge.rules s) c.args.k (wanted_read (length into) x w s) w
-    (read_left_out x w s into c.room.result c.min-room.result c.room.ensures c.min-room.ensures c.requires.some why)
+    (read_left_out x w s into c.room.result c.min-room.result c.room.ensures.room c.min-room.ensures c.requires.some why)
 
 pub returns-in-Bytes-clause-goes : goal.returns-in-Bytes-clause-goes
 returns-in-Bytes-clause-goes g c =
@@ -35,7 +35,7 @@ returns-in-Bytes-clause-goes g c =
     let into = c.read-2.new.into in
     let asked = length (take c.min-room.result piece) in
     let some = c.in-Bytes.ensures.within in
-    let wants = read_wants x w s piece c.room.result c.min-room.result c.room.ensures c.min-room.ensures c.if-room-eq0.false (sym c.if-read.ensures) c.requires.few in
+    let wants = read_wants x w s piece c.room.result c.min-room.result c.room.ensures.room c.min-room.ensures c.if-room-eq0.false (sym c.if-read.ensures) c.requires.few in
     let call = Read k x asked (got.Bytes n) in
     let first = wanted_read (length piece) x w s in
     goes_by _ _ matches matches' k call _ _ (refl, wants.1) c.in-Bytes.ensures.leads
@@ -52,7 +52,7 @@ returns-in-End-clause-goes g c =
     let matches = Matches _ g.J.Judge.rules s in
     let matches' = Matches _ g.J.Judge.rules c.finish.new.session in
     let asked = length (take c.min-room.result piece) in
-    let wants = read_wants x w s piece c.room.result c.min-room.result c.room.ensures c.min-room.ensures c.if-room-eq0.false (sym c.if-read.ensures) c.requires.few in
+    let wants = read_wants x w s piece c.room.result c.min-room.result c.room.ensures.room c.min-room.ensures c.if-room-eq0.false (sym c.if-read.ensures) c.requires.few in
     let call = Read k x asked got.End in
     let first = wanted_read (length piece) x w s in
     goes_by _ _ matches matches' k call _ _ (refl, wants.1) c.in-End.ensures.leads
@@ -67,7 +67,7 @@ returns-in-NotReady-clause-goes g c =
     let piece = c.args.piece.now in
     let matches = Matches _ g.J.Judge.rules s in
     let asked = length (take c.min-room.result piece) in
-    let wants = read_wants x w s piece c.room.result c.min-room.result c.room.ensures c.min-room.ensures c.if-room-eq0.false (sym c.if-read.ensures) c.requires.few in
+    let wants = read_wants x w s piece c.room.result c.min-room.result c.room.ensures.room c.min-room.ensures c.if-room-eq0.false (sym c.if-read.ensures) c.requires.few in
     let call = Read k x asked got.NotReady in
     let first = wanted_read (length piece) x w s in
     goes_by _ _ matches matches k call _ _ (refl, wants.1) c.in-NotReady.ensures.leads
@@ -82,7 +82,7 @@ returns-in-Failed-clause-goes g c =
     let piece = c.args.piece.now in
     let matches = Matches _ g.J.Judge.rules s in
     let asked = length (take c.min-room.result piece) in
-    let wants = read_wants x w s piece c.room.result c.min-room.result c.room.ensures c.min-room.ensures c.if-room-eq0.false (sym c.if-read.ensures) c.requires.few in
+    let wants = read_wants x w s piece c.room.result c.min-room.result c.room.ensures.room c.min-room.ensures c.if-room-eq0.false (sym c.if-read.ensures) c.requires.few in
     let call = Read k x asked got.Failed in
     let first = wanted_read (length piece) x w s in
     goes_by _ _ matches matches k call _ _ (refl, wants.1) c.in-Failed.ensures.leads

@@ -1,7 +1,7 @@
 use Rattle.std.proofs.Common.{rules, ◌≡◌, ◌+◌, ◌<◌, ◌⊎◌, ◌++◌, inl, inr, List, ℕ, Option, None, Some, Ok, arith, refl, ap, sym, ◌∙◌, subst}
 use Rattle.gate_hub.specs.Meaning.{HubCall}
 use Rattle.proxy_server.specs.Calling.{Wanted}
-use Rattle.session_core.specs.Session.{Seen}
+use Rattle.session_core.specs.Session.{Seen, HoldsWithin}
 use Rattle.proxy_server.specs.Matching.{Matches}
 use Rattle.proxy_server.specs.Turning.{Begins, Runs, Breaks, Goes, wanted, no_waits, or_else, Settles, GoesOn, BreaksOff, Ends, ByLink, BySession}
 use Rattle.proxy_server.specs.declared.waiting.Waits.{Waits}
@@ -41,13 +41,19 @@ begins_moved : {J : Type 0} → (k : ℕ) (s0 s : Seen J) (w : Waits) (moved : �
 begins_moved k s0 s w moved first made (inl e) some p = absurd (omega (arith, e.0, some))
 begins_moved k s0 s w moved first made (inr e) some p = subst (λ (f : Option Wanted). Begins k f made) e p
 
+-- what the first session of the turn holds
+held_at : {J : Type 0} → (s0 s : Seen J) → (s ≡ s0) ⊎ HoldsWithin s0 → HoldsWithin s → HoldsWithin s0
+held_at s0 s (inl e) holds = subst (λ t. HoldsWithin t) e holds
+held_at s0 s (inr before) holds = before
+
 pub loop-moved-init : goal.loop-moved-init
 loop-moved-init g c =
     let s = c.args.session.now in
     record {
       goes = (None, goes_nowhere (g.H.Hub.tells c.args.hub.now) (Matches _ g.J.Judge.rules s) c.args.k (Runs c.args.k None 0 no_waits no_waits) (runs_not c.args.k no_waits), inl (refl, refl, refl, refl));
       idle = λ _. (refl, refl);
-      same = record { judge = refl; limit = refl; most = refl };
+      same = record { judge = refl; limit = refl; most = refl; rooms = refl };
+      before = inl refl;
       bounded = omega arith;
       piece = search rules;
       later = later_not _;
@@ -139,6 +145,7 @@ loop-moved-preserved g c =
           let after = c.round.ensures.idle now in
           (after.0 ∙ before.0, after.1 ∙ before.1);
       same = same_on _ _ _ _ i.same c.round.ensures.same;
+      before = inr (held_at s0 s i.before c.in_default.ensures.holds);
       bounded = omega (arith, c.loop-moved-test.true, c.in-Ok.ensures.few);
       piece = c.round.ensures.piece ∙ i.piece;
       later = later_on _ _ _ i.later c.round.ensures.later;
@@ -173,3 +180,18 @@ returns-in-None-clause-turned g c =
       (p.grows, p.none_failed, omega (arith, p.amount_is, c.loop-moved-test.false), sym c.in-None.ensures.told),
     ))
     i.goes.1
+
+pub returns-in-Some-clause-holds : goal.returns-in-Some-clause-holds
+returns-in-Some-clause-holds g c = (held_at c.args.session.now c.loop-moved.session c.loop-moved.invariant.before c.in-Some.ensures.holds, c.in-Some.ensures.holds)
+
+pub returns-in-Err-clause-holds : goal.returns-in-Err-clause-holds
+returns-in-Err-clause-holds g c = (held_at c.args.session.now c.loop-moved.session c.loop-moved.invariant.before c.in_default.ensures.holds, c.in-Err.ensures.holds)
+
+pub returns-in-Ok-eq0-clause-holds : goal.returns-in-Ok-eq0-clause-holds
+returns-in-Ok-eq0-clause-holds g c = (held_at c.args.session.now c.loop-moved.session c.loop-moved.invariant.before c.in_default.ensures.holds, c.in-Ok-eq0.ensures.holds)
+
+pub returns-in-Some-outcome-clause-holds : goal.returns-in-Some-outcome-clause-holds
+returns-in-Some-outcome-clause-holds g c = (held_at c.args.session.now c.loop-moved.session c.loop-moved.invariant.before c.in-Some-outcome.ensures.holds, c.in-Some-outcome.ensures.holds)
+
+pub returns-in-None-clause-holds : goal.returns-in-None-clause-holds
+returns-in-None-clause-holds g c = (held_at c.args.session.now c.loop-moved.session c.loop-moved.invariant.before c.in-None.ensures.holds, c.in-None.ensures.holds)

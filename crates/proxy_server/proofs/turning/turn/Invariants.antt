@@ -1,5 +1,6 @@
 use Rattle.std.proofs.Common.{◌≡◌, ◌-◌, ◌<◌, ◌⊎◌, None, length, Option}
 use Rattle.gate_hub.specs.Hubs.{Later}
+use Rattle.session_core.specs.Session.{HoldsWithin}
 use Rattle.proxy_server.specs.Calling.{Wanted, piece_length}
 use Rattle.proxy_server.specs.Matching.{Matches, IsSame}
 use Rattle.proxy_server.specs.Turning.{Goes, Runs, no_waits, wanted}
@@ -16,6 +17,7 @@ invariant-loop-moved g l =
           × (((l.moved ≡ 0) × (first ≡ None) × (l.session ≡ l.fn.session) × (l.waits ≡ no_waits)) ⊎ (first ≡ want));
       idle : want ≡ None → (l.session ≡ l.fn.session) × (l.waits ≡ no_waits);
       same : IsSame _ l.fn.session l.session;
+      before : (l.session ≡ l.fn.session) ⊎ HoldsWithin l.fn.session;
       bounded : l.moved < 20;
       piece : length l.piece ≡ piece_length;
       later : Later (hub.counts l.fn.hub) (hub.counts l.hub);

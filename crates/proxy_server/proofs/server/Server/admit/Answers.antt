@@ -28,7 +28,7 @@ returns-in-Some-clause-goes g c =
     (λ m a. subst (λ n. IsBusy _ judge_rules set begun n at held' past m) (sym c.hold.ensures.same.2)
     (subst (λ xs. IsBusy _ judge_rules set begun spent at xs past m) (sym some.1)
     (subst (λ j. IsBusy _ judge_rules set begun spent j (held ++ e ∷ []) past m) (sym some.0)
-    (opens_busy _ judge_rules set begun spent held past e m a given.0 given.1 given.2 c.in-Ok.ensures.matches c.in-Ok.ensures.going (omega (arith, count, c.if-len-self.false)))))))
+    (opens_busy _ judge_rules set begun spent held past e m a given.0 given.1 given.2 c.in-Ok.ensures.matches c.in-Ok.ensures.rooms c.in-Ok.ensures.holds c.in-Ok.ensures.going (omega (arith, count, c.if-len-self.false)))))))
     (c.settle.ensures.goes set)
 
 pub returns-then-len-self-clause-goes : goal.returns-then-len-self-clause-goes

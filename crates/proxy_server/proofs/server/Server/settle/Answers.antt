@@ -25,7 +25,7 @@ returns-in-Settled-clause-goes g c =
     let was = slice_get_read held (length held) at e refl i.within c.index_mut.ensures.value in
     λ set. goes_quietly _ rules set (moment c.args.hub.now c.args.output.now) (moment c.turn.new.hub c.turns.output) (λ begun. IsBusy _ rules set begun old.spent at old.sessions.items) spent (put held at c.turn.new.self) _ (unwritten (written c.args.output.now) (written c.turns.output) (ap written i.output))
     (λ begun past. keeps_then (tells c.args.hub.now) (tells c.turns.hub) (tells c.turn.new.hub) (IsBusy _ rules set begun old.spent at old.sessions.items past) (IsBusy _ rules set begun spent at held past) (Waits _ rules set begun spent (put held at c.turn.new.self) past) (i.keeps set begun past)
-    (turned_settled _ rules set begun spent held past at e c.turn.new.self (tells c.turns.hub) (tells c.turn.new.hub) was c.turn.ensures.number c.turn.ensures.same c.in-Settled.ensures.turned))
+    (turned_settled _ rules set begun spent held past at e c.turn.new.self (tells c.turns.hub) (tells c.turn.new.hub) was c.turn.ensures.number c.turn.ensures.same c.turn.ensures.holds c.in-Settled.ensures.turned))
 
 pub returns-in-Ended-clause-goes : goal.returns-in-Ended-clause-goes
 returns-in-Ended-clause-goes g c =
@@ -50,7 +50,7 @@ returns-in-Ended-clause-goes g c =
       counted = f.counted;
       keeps = λ begun past. keeps_then (tells c.args.hub.now) (tells c.turn.new.hub) (tells c.finish.new.hub) (IsBusy _ rules set begun old.spent at old.sessions.items past) (HasEndedAt _ rules set begun spent at o (put held at c.turn.new.self) past) (EndedTo _ rules c.finish.result set begun c.finish.new.self.spent c.finish.new.self.sessions.items (past ++ f.more))
           (keeps_then (tells c.args.hub.now) (tells c.turns.hub) (tells c.turn.new.hub) (IsBusy _ rules set begun old.spent at old.sessions.items past) (IsBusy _ rules set begun spent at held past) (HasEndedAt _ rules set begun spent at o (put held at c.turn.new.self) past) (i.keeps set begun past)
-          (turned_ended _ rules set begun spent held past at e c.turn.new.self o (tells c.turns.hub) (tells c.turn.new.hub) was c.turn.ensures.number c.turn.ensures.same c.in-Ended.ensures.turned))
+          (turned_ended _ rules set begun spent held past at e c.turn.new.self o (tells c.turns.hub) (tells c.turn.new.hub) was c.turn.ensures.number c.turn.ensures.same c.turn.ensures.holds c.in-Ended.ensures.turned))
           (f.keeps begun past);
     }
 
@@ -97,6 +97,6 @@ turns-preserved g c =
       spent = omega (arith, i.spent);
       budget = omega (arith, c.turns-test.true);
       keeps = λ set begun past. keeps_then (tells c.args.hub.now) (tells c.turns.hub) (tells c.turn.new.hub) (IsBusy _ rules set begun old.spent at old.sessions.items past) (IsBusy _ rules set begun spent at held past) (IsBusy _ rules set begun (spent + 1) at (put held at c.turn.new.self) past) (i.keeps set begun past)
-          (turned_more _ rules set begun spent held past at e c.turn.new.self (tells c.turns.hub) (tells c.turn.new.hub) was c.turn.ensures.number c.turn.ensures.same c.in-More.ensures.turned);
+          (turned_more _ rules set begun spent held past at e c.turn.new.self (tells c.turns.hub) (tells c.turn.new.hub) was c.turn.ensures.number c.turn.ensures.same c.turn.ensures.holds c.in-More.ensures.turned);
       later = later_on _ _ _ i.later c.turn.ensures.later;
     }
