@@ -27,8 +27,8 @@ ghost use Rattle.gate_run.specs.declared.start.Start.{Start};
 ghost use Rattle.gate_run.specs.Terms.{Terms, terms};
 ghost use Rattle.gate_run.specs.Writing.{Tells};
 
-use gate_idl::files_give_one_answer;
 use gate_hub::Hub;
+use gate_idl::files_give_one_answer;
 
 /// A stream is converted or shown to its end where it is fewer than 2^63 - 1 bytes of whole frames that all pass, no
 /// stream failed and there was memory.

@@ -5,8 +5,8 @@ ghost use Rattle.gate_run.specs.Outcome.{streams};
 ghost use Rattle.gate_run.specs.Starting.{HasCause, Halts, IsRead, IsBuiltIn, IsDeclared, IsStart, IsToldBy, IsService, IsNoService};
 
 use crate::status::{Ending, end_with, say, usage};
-use gate_idl::{Refusal, Stop, open};
 use gate_base::{OutOfMemory, Text};
+use gate_idl::{Refusal, Stop, open};
 use gate_io::{Files, Sink};
 use gate_words::Declared;
 use std::alloc::Global;

@@ -5,9 +5,9 @@ use crate::outside::none;
 use crate::serving::{
     ANSWERS, CALC, CALLS, NAMED, NAMED_ANSWERS, NAMED_PASSED, PASSED, THREE_REPLIES,
 };
-use gate_idl::open as open_idl;
 use gate_base::OutOfMemory;
 use gate_hub::Side;
+use gate_idl::open as open_idl;
 use gate_memory::MemFiles;
 use protocol_traits::Proto;
 use session_core::{Halt, Judge, Outcome, Session};

@@ -7,8 +7,8 @@ ghost use Rattle.idl_schema.specs.Numbers.{option_tree};
 ghost use Rattle.idl_schema.specs.Indexes.{files_of};
 ghost use Rattle.idl_schema.specs.Types.{ty_in};
 
-use crate::parts::{add_parts, next_part};
 use crate::index::SchemaIndex;
+use crate::parts::{add_parts, next_part};
 use gate_base::{OutOfMemory, Text};
 use idl_document::{Asked, FieldDecl, TypeExpr};
 use idl_rules::{count_on, field_id};

@@ -8,10 +8,10 @@ ghost use Rattle.idl_schema.specs.Shares.{base_of, base_by, is_place, prefix_of,
 ghost use Rattle.idl_schema.specs.Types.{base_ty, plain_ty, target_of, target, target_at, target_by, ty_resolution, ty_by, ty_in, followed};
 
 use crate::numbers::{First, numbers_of, sum};
-use crate::types::{Resolution, Expression, TypeOrAlias};
+use crate::types::{Expression, Resolution, TypeOrAlias};
 use gate_base::{OutOfMemory, Text};
-use idl_names::{Names, Scope, Spot, base_name, definition_at};
 use idl_document::{BaseWord, Definition, Name, Seq, TypeExpr, TypeForm};
+use idl_names::{Names, Scope, Spot, base_name, definition_at};
 use idl_typedefs::{ResolvedAlias, Typedefs};
 use std::alloc::Global;
 use type_tables::{EnumId, ServiceId, StructId, Ty, TyId};
@@ -32,7 +32,10 @@ impl<'s, 'd> SchemaIndex<'s, 'd> {
     /// Numbers the definitions of these files, and follows their typedefs.
     ///
     /// `OutOfMemory`: the memory for it was not found.
-    pub(crate) fn new(alloc: Global, names: &'s Names<'d>) -> Result<SchemaIndex<'s, 'd>, OutOfMemory>
+    pub(crate) fn new(
+        alloc: Global,
+        names: &'s Names<'d>,
+    ) -> Result<SchemaIndex<'s, 'd>, OutOfMemory>
         ensures { IfOk result (λ s. files_of s ≡ file_trees names.now.files.now) }
     {
         let numbers = numbers_of(alloc, names.files)?;

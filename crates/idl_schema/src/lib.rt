@@ -6,12 +6,12 @@
 #![tactic(auto)]
 
 mod fields;
+mod index;
 mod laws;
 mod making;
 mod methods;
 mod numbers;
 mod parts;
-mod index;
 mod types;
 
 pub use laws::typedefs_are_followed;

@@ -13,13 +13,13 @@ ghost use Rattle.idl_schema.specs.Shares.{share, shares, files_shares, with_shar
 ghost use Rattle.idl_schema.specs.Indexes.{files_of};
 
 use crate::fields::add_fields;
+use crate::index::SchemaIndex;
 use crate::methods::{add_methods, add_struct, add_structs};
 use crate::numbers::small;
 use crate::parts::add_parts;
-use crate::index::SchemaIndex;
 use gate_base::{OutOfMemory, Text};
-use idl_names::{Documents, FileDoc, Names};
 use idl_document::{Definition, Function, Kin, Member, Name};
+use idl_names::{Documents, FileDoc, Names};
 use idl_rules::{member_value, number_after};
 use std::alloc::Global;
 use type_tables::{FieldList, Form, Schema, SchemaBuilder};

@@ -8,8 +8,8 @@ ghost use Rattle.idl_schema.specs.Indexes.{files_of};
 ghost use Rattle.idl_schema.specs.Types.{ty_in};
 
 use crate::fields::{add_fields, add_success};
-use crate::numbers::sum;
 use crate::index::SchemaIndex;
+use crate::numbers::sum;
 use gate_base::{OutOfMemory, Text};
 use idl_document::Function;
 use std::alloc::Global;

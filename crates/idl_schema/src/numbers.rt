@@ -5,8 +5,8 @@ ghost use Rattle.idl_names.specs.Files.{file_trees};
 ghost use Rattle.idl_schema.specs.Numbers.{parts, fields_parts, returns_parts, method_parts, methods_parts, after, after_all, numbers_in, numbers_of, start, option_tree};
 
 use gate_base::OutOfMemory;
-use idl_names::FileDoc;
 use idl_document::{Definition, FieldDecl, Function, Seq, TypeExpr, TypeForm};
+use idl_names::FileDoc;
 use std::alloc::Global;
 
 /// The first numbers that a definition takes.

@@ -5,8 +5,8 @@ ghost use Rattle.type_tables.specs.Declarations.{with_type, with_fields};
 ghost use Rattle.idl_schema.specs.Indexes.{files_of};
 ghost use Rattle.idl_schema.specs.Types.{with_parts, with_pair, with_element, ty_in};
 
-use crate::numbers::{parts, small, sum};
 use crate::index::SchemaIndex;
+use crate::numbers::{parts, small, sum};
 use gate_base::OutOfMemory;
 use idl_document::{TypeExpr, TypeForm};
 use type_tables::{SchemaBuilder, Ty};
