@@ -5,9 +5,10 @@
 //
 // A frame is read from standard input into memory, its fields are transferred one by one without a schema, as
 // `skip` goes through them, and the message is written behind its length. The protocols are templates over
-// TMemoryBuffer, so the library inlines what it can.
+// TMemoryBuffer, so the library inlines what it can; TJSONProtocol is none. Each string is text.
 #include <thrift/protocol/TBinaryProtocol.h>
 #include <thrift/protocol/TCompactProtocol.h>
+#include <thrift/protocol/TJSONProtocol.h>
 #include <thrift/transport/TBufferTransports.h>
 
 #include <arpa/inet.h>
@@ -20,6 +21,7 @@
 
 using apache::thrift::protocol::TBinaryProtocolT;
 using apache::thrift::protocol::TCompactProtocolT;
+using Json = apache::thrift::protocol::TJSONProtocol;
 using apache::thrift::protocol::TMessageType;
 using apache::thrift::protocol::TType;
 using apache::thrift::transport::TMemoryBuffer;
@@ -71,7 +73,7 @@ static void transfer(In& in, Out& out, TType kind) {
     case protocol::T_I32: { int32_t v; in.readI32(v); out.writeI32(v); break; }
     case protocol::T_I64: { int64_t v; in.readI64(v); out.writeI64(v); break; }
     case protocol::T_DOUBLE: { double v; in.readDouble(v); out.writeDouble(v); break; }
-    case protocol::T_STRING: { static std::string v; in.readBinary(v); out.writeBinary(v); break; }
+    case protocol::T_STRING: { static std::string v; in.readString(v); out.writeString(v); break; }
     case protocol::T_STRUCT: transfer_fields(in, out); break;
     case protocol::T_MAP: transfer_map(in, out); break;
     case protocol::T_SET: {
@@ -153,6 +155,8 @@ int main(int count, char** words) {
   if (from == "binary" && to == "compact") return recode<Binary, Compact>();
   if (from == "compact" && to == "binary") return recode<Compact, Binary>();
   if (from == "compact" && to == "compact") return recode<Compact, Compact>();
-  fprintf(stderr, "usage: apache_recode binary|compact binary|compact\n");
+  if (from == "binary" && to == "json") return recode<Binary, Json>();
+  if (from == "json" && to == "binary") return recode<Json, Binary>();
+  fprintf(stderr, "usage: apache_recode binary|compact binary|compact, or binary json, or json binary\n");
   return 2;
 }

@@ -5,6 +5,7 @@ use Rattle.std.specs.Int.{w16, w32, from_be_bytes, cast_signed}
 use Rattle.std.proofs.lemmas.Bool.Decides.{nat_tests}
 use Rattle.std.proofs.lemmas.List.{drop-drop}
 use Rattle.thrift_value.specs.declared.kind.Kind.{Kind}
+use Rattle.thrift_value.specs.declared.kind.MessageType.{MessageType}
 use Rattle.thrift_value.specs.declared.kind.Kind.TheVariants as kinds
 use Rattle.thrift_value.specs.Items.{Item, field, stop, bool_value, text, struct_begin, empty_map, end, uuid_value}
 use Rattle.protocol_traits.specs.declared.forms.Container.{Container}
@@ -26,7 +27,7 @@ use Rattle.protocol_traits.specs.Stack.{first_of}
 use Rattle.protocol_traits.specs.Steps.{Step, told}
 use Rattle.binary_protocol.specs.declared.scan.Called.TheVariants as calls
 use Rattle.binary_protocol.specs.Codes.{kind_of_code}
-use Rattle.binary_protocol.specs.Heads.{head_at, name_place}
+use Rattle.binary_protocol.specs.Heads.{head_at, name_place, seq_at, strict_at, type_at, version_at}
 use Rattle.binary_protocol.specs.Scan.{Scan, fault, unsigned_at, nests, called_for, item_in, value_in, value_at, field_of, field_at, string_at, text_at, uuid_at, shifted, size_at, zero_at, elements_at, set_at, list_at, map_of, map_at, is_bad_kind}
 use Rattle.binary_protocol.specs.Reading.{State, rest, begun, headed, reads, reads_head, reads_end}
 use Rattle.binary_protocol.specs.Laws.{head_was_read, reads_ok}
@@ -389,3 +390,24 @@ pub front_read : (frame : List ℕ) (header : Header) (taken : ℕ) → Ok (head
     → (new : State) × (reads_head (begun frame) ≡ Ok (header, new)) × (new.place ≡ taken)
 unfolding reads_head
 front_read frame header taken e = (record { frame = frame; place = 0 + taken; value = 0 + name_place frame; nest = slots.Fields (pos 0) ∷ [] }, rw (← e) refl, omega arith)
+
+-- ---- the header, part by part
+
+pub version_found : (bytes : List ℕ) (mtype : MessageType) → 4 ≤ length bytes → slice_index bytes 0 ≡ 128 → slice_index bytes 1 ≡ 1 → type_at (drop 3 bytes) ≡ Ok (mtype, 1) → version_at bytes ≡ Ok (mtype, 4)
+unfolding version_at
+version_found bytes mtype long first second known =
+    let two : nat_lt (length bytes) 2 ≡ false = grind (arith, nat_tests) in
+    let four : nat_lt (length bytes) 4 ≡ false = grind (arith, nat_tests) in
+    rw (first, second, two, four, known) refl
+
+pub head_found : (bytes : List ℕ) (mtype : MessageType) (size : ℕ) (seq : ℤ) → 4 ≤ length bytes → slice_index bytes 0 ≡ 128 → version_at bytes ≡ Ok (mtype, 4)
+    → string_at (drop 4 bytes) ≡ Ok (take size (drop 4 (drop 4 bytes)), size + 4) → seq_at (drop (8 + size) bytes) ≡ Ok (seq, 4)
+    → head_at bytes ≡ Ok (record { name = take (8 + size - 8) (drop 8 bytes); mtype = mtype; seq = seq }, 8 + size + 4)
+unfolding head_at strict_at
+head_found bytes mtype size seq long first version string sequence =
+    let full : nat_lt (length bytes) 1 ≡ false = grind (arith, nat_tests) in
+    let place : 4 + (size + 4) ≡ 8 + size = omega arith in
+    let all : 8 + size - 8 ≡ size = omega arith in
+    let same : take size (drop 4 (drop 4 bytes)) ≡ take (8 + size - 8) (drop 8 bytes) = rw all (ap (take size) (drop_more 4 4 bytes)) in
+    let named : List ℕ → Header = λ text. record { name = text; mtype = mtype; seq = seq } in
+    rw (full, first, version, string, place, sequence) (ap (λ (text : List ℕ). Ok (named text, 8 + size + 4)) same)

@@ -1,15 +1,16 @@
 //! One item at the front of some bytes, by value. None says nothing of the bytes.
-ghost use Rattle.std.specs.Prelude.{◌≡◌, ◌≤◌, ◌+◌, ◌^◌, ◌<◌, drop, take, length, IfSome};
+ghost use Rattle.std.specs.Prelude.{◌≡◌, ◌≤◌, ◌+◌, ◌^◌, ◌<◌, drop, take, length, slice_index, Ok, IfSome};
 ghost use Rattle.std.specs.Int.{w64, to_be_bytes};
 ghost use Rattle.thrift_value.specs.declared.kind.Kind.{Kind};
 ghost use Rattle.thrift_value.specs.Items.{bool_value, i8_value, i16_value, i32_value, i64_value, double_value};
 ghost use Rattle.protocol_traits.specs.Forms.{lead_item, pairs_item};
 ghost use Rattle.binary_protocol.specs.Scan.{field_at, bool_at, i8_at, i16_at, i32_at, i64_at, double_at, size_at, string_at, elements_at, map_at, is_bad_kind};
+ghost use Rattle.binary_protocol.specs.Heads.{head_at, header_scan, seq_at, type_at, version_at};
 ghost use Rattle.binary_protocol.specs.Forms.{Finds, IsGood, lead_of};
 
-use crate::codes::kind_of_code;
-use protocol_traits::Lead;
-use thrift_value::Kind;
+use crate::codes::{kind_of_code, type_of_code};
+use protocol_traits::{Head, Lead};
+use thrift_value::{Kind, MessageType};
 
 /// A field's kind and id or the end of the struct, and the number of bytes.
 #[inline(always)]
@@ -50,6 +51,58 @@ fn lead_of(code: u8) -> (Lead, usize)
         16 => (Lead::Uuid, 3),
         _ => (Lead::Bad, 3),
     }
+}
+
+/// A header of the strict form, and the number of its bytes.
+#[inline(always)]
+pub fn head_front(bytes: &[u8]) -> Option<(Head<'_>, usize)>
+    ensures { IfSome result (λ x. head_at bytes.now ≡ Ok (header_scan x)) }
+{
+    let mtype = version_front(bytes)?;
+    let size = length_front(&bytes[4..])?;
+    let behind = 8 + size;
+    let seq = seq_front(&bytes[behind..])?;
+    let name = &bytes[8..behind];
+    Some((Head { name, mtype, seq }, behind + 4))
+}
+
+/// The version, the unused byte and the type of the strict form, in four bytes.
+#[inline(always)]
+fn version_front(bytes: &[u8]) -> Option<MessageType>
+    ensures found { IfSome result (λ t. version_at bytes.now ≡ Ok (t, 4)) }
+    ensures strict { IfSome result (λ t. slice_index bytes.now 0 ≡ 128) }
+    ensures long { IfSome result (λ t. 4 ≤ length bytes.now) }
+{
+    if bytes.len() < 4 || bytes[0] != 0x80 || bytes[1] != 1 {
+        return None;
+    }
+    let mtype = type_front(&bytes[3..])?;
+    Some(mtype)
+}
+
+/// A message type, in one byte.
+#[inline(always)]
+#[tactic(auto, unfolding(crate::specs::Heads::type_at))]
+fn type_front(bytes: &[u8]) -> Option<MessageType>
+    ensures { IfSome result (λ t. type_at bytes.now ≡ Ok (t, 1)) }
+{
+    if bytes.is_empty() {
+        return None;
+    }
+    let mtype = type_of_code(bytes[0])?;
+    Some(mtype)
+}
+
+/// A sequence number, in four bytes.
+#[inline(always)]
+#[tactic(auto, unfolding(crate::specs::Heads::seq_at))]
+fn seq_front(bytes: &[u8]) -> Option<i32>
+    ensures { IfSome result (λ n. Finds bytes.now (seq_at bytes.now) n 4) }
+{
+    if bytes.len() < 4 {
+        return None;
+    }
+    Some(i32::from_be_bytes([bytes[0], bytes[1], bytes[2], bytes[3]]))
 }
 
 /// A bool, in one byte.
@@ -181,13 +234,15 @@ pub fn pairs_front(bytes: &[u8]) -> Option<(Kind, Kind, u32)>
         return None;
     }
     let size = size_front(&bytes[2..])?;
-    match (kind_of_code(bytes[0]), kind_of_code(bytes[1])) {
-        (Some(key), Some(value)) => Some((key, value, size)),
-        _ => blank_front(bytes, size),
+    if size == 0 {
+        return blank_front(bytes, size);
     }
+    let key = kind_of_code(bytes[0])?;
+    let value = kind_of_code(bytes[1])?;
+    Some((key, value, size))
 }
 
-/// An empty map where a kind is 0.
+/// An empty map. Its kinds mean nothing, but each is 0 or a kind's.
 #[inline(always)]
 fn blank_front(bytes: &[u8], size: u32) -> Option<(Kind, Kind, u32)>
     requires long { 6 ≤ length bytes.now }

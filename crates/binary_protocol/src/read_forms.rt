@@ -15,13 +15,15 @@ ghost use Rattle.binary_protocol.specs.Reading.{State, begun, reads_head};
 ghost use Rattle.binary_protocol.specs.Forms.{stands_at, next_read, whole_ends};
 
 use crate::forms::{
-    bool_front, double_front, elements_front, i8_front, i16_front, i32_front, i64_front,
-    lead_front, length_front, pairs_front,
+    bool_front, double_front, elements_front, head_front, i8_front, i16_front, i32_front,
+    i64_front, lead_front, length_front, pairs_front,
 };
-use crate::head::head_at;
 use crate::reader::BinaryRead;
 use protocol_traits::{Container, FormRead, Head, Hint, Lead, Opening, Pairs, Span, Stand, UUID};
 use thrift_value::Kind;
+
+/// The end of a struct. A frame whose last byte is another one has no whole message, so the quick way leaves it at once.
+const STOP: u8 = 0;
 
 impl<'f> FormRead for BinaryRead<'f> {
     ghost stands_at = { stands_at };
@@ -44,10 +46,11 @@ impl<'f> FormRead for BinaryRead<'f> {
         ensures sized { IfSome result (λ x. length x.0.name.now < 2 ^ 31) }
         ensures place { IfSome result (λ x. (length x.0.name.now ≤ x.1) × (x.1 ≤ length frame.now)) }
     {
-        match head_at(frame) {
-            Ok((head, taken)) => Some((head, taken)),
-            Err(_) => None,
+        if frame.is_empty() || frame[frame.len() - 1] != STOP {
+            return None;
         }
+        let (head, taken) = head_front(frame)?;
+        Some((head, taken))
     }
 
     #[inline(always)]

@@ -13,7 +13,7 @@ use crate::scan::next_id;
 use crate::values::kind_of;
 use protocol_traits::{Lead, Pairs};
 use thrift_value::Kind;
-use varint_zigzag::{read_u16_at, read_u32_at, read_u64_at, unzigzag32, unzigzag64};
+use varint_zigzag::{read_size_at, read_u16_at, read_u32_at, read_u64_at, unzigzag32, unzigzag64};
 
 /// A field's kind and id or the end of the struct, behind a field with this id.
 #[inline(always)]
@@ -157,7 +157,7 @@ pub fn size_from(frame: &[u8], at: usize) -> Option<(u32, usize)>
     ensures found { IfSome result (λ x. Finds frame.now at size_at x.0 x.1) }
     ensures small { IfSome result (λ x. x.0 < 2 ^ 31) }
 {
-    let (size, behind) = read_u32_at(frame, at)?;
+    let (size, behind) = read_size_at(frame, at)?;
     if size >= 1 << 31 {
         return None;
     }

@@ -24,6 +24,9 @@ use crate::scan::{flag_of, front_at};
 use protocol_traits::{Container, FormRead, Head, Hint, Lead, Opening, Pairs, Span, Stand, UUID};
 use thrift_value::Kind;
 
+/// The end of a struct. A frame whose last byte is another one has no whole message, so the quick way leaves it at once.
+const STOP: u8 = 0;
+
 impl<'f> FormRead for CompactRead<'f> {
     ghost stands_at = { stands_at };
 
@@ -45,6 +48,9 @@ impl<'f> FormRead for CompactRead<'f> {
         ensures sized { IfSome result (λ x. length x.0.name.now < 2 ^ 31) }
         ensures place { IfSome result (λ x. (length x.0.name.now ≤ x.1) × (x.1 ≤ length frame.now)) }
     {
+        if frame.is_empty() || frame[frame.len() - 1] != STOP {
+            return None;
+        }
         let ((mtype, seq), at) = match front_at(frame) {
             Ok(found) => found,
             Err(_) => return None,

@@ -11,7 +11,7 @@ use cell_writes::{lay, lay_part};
 use gate_io::Out;
 use protocol_traits::{Container, FormWrite, Head, Hint, Mark, Opening, Stand, UUID};
 use thrift_value::Kind;
-use varint_zigzag::{put_u32, put_u64, zigzag32, zigzag64};
+use varint_zigzag::{put_size, put_u32, put_u64, zigzag32, zigzag64};
 
 #[tactic(auto, unfolding(crate::specs::Plain::spelling, crate::specs::Plain::string_spelling))]
 impl FormWrite for CompactWrite {
@@ -119,7 +119,7 @@ impl FormWrite for CompactWrite {
         begin: usize,
         end: usize,
     ) -> Option<usize> {
-        let to = put_u32(cells, to, (end - begin) as u32);
+        let to = put_size(cells, to, (end - begin) as u32);
         Some(lay_part(cells, to, frame, begin, end))
     }
 
@@ -149,7 +149,7 @@ impl FormWrite for CompactWrite {
         value: Kind,
         size: u32,
     ) -> Option<usize> {
-        let to = put_u32(cells, to, size);
+        let to = put_size(cells, to, size);
         Some(lay(cells, to, &[16 * code_of(key) + code_of(value)]))
     }
 

@@ -8,4 +8,5 @@ pub mod Laws
 pub mod Writing
 pub mod Weights
 pub mod WriteForms
+pub mod ReadForms
 pub mod Grammar

@@ -35,7 +35,7 @@ stands_at w opening nest = (w.nest ≡ nest) × (w.opening ≡ own opening)
 pub starts_at : stands_at begun openings.Body (slots.Fields (pos 0) ∷ [])
 starts_at = (refl, refl)
 
-same_after : (item : Item) → own_after item ≡ own (opening_after item)
+pub same_after : (item : Item) → own_after item ≡ own (opening_after item)
 same_after (field id kind) = refl
 same_after stop = refl
 same_after (bool_value b) = refl

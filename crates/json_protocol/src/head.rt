@@ -1,13 +1,16 @@
 //! The header and the end of a message.
-ghost use Rattle.std.specs.Prelude.{◌≡◌, ℕ, ◌+◌, ◌≤◌, ◌≤ℤ◌, length, drop, pos, IfOk};
+ghost use Rattle.std.specs.Prelude.{◌≡◌, ℕ, ◌+◌, ◌≤◌, ◌≤ℤ◌, length, drop, pos, IfOk, IfSome};
 ghost use Rattle.protocol_traits.specs.Steps.{seen};
 ghost use Rattle.json_protocol.specs.Scan.{IsWithin, Keeps, further, shifted, string_scan};
 ghost use Rattle.json_protocol.specs.Words.{int_in, text_in};
+ghost use Rattle.protocol_traits.specs.Heads.{header_of};
+ghost use Rattle.json_protocol.specs.ReadForms.{HeadFound};
 ghost use Rattle.json_protocol.specs.Head.{type_of, front_at, back_at, head_at, head_scan, end_scan};
 
 use crate::room::Room;
 use crate::scan::{fault, gap_from, mark_from};
 use crate::word::int_in;
+use json_text::plain_text;
 use protocol_traits::{Fault, Head, Reason};
 use thrift_value::MessageType;
 
@@ -104,6 +107,27 @@ pub fn head_at<'f>(
     let (name, taken) = name_from(bytes, start, room)?;
     let ((mtype, seq), taken) = back_at(bytes, taken)?;
     Ok(((Head { name, mtype, seq }, start), taken))
+}
+
+/// The header, where its name has no escape and a byte stands behind it.
+pub fn front_of(frame: &[u8]) -> Option<(Head<'_>, usize)>
+    ensures { IfSome result (λ x. HeadFound frame.now (header_of x.0) x.1) }
+{
+    let start = match front_at(frame) {
+        Ok((_, start)) => start,
+        Err(_) => return None,
+    };
+    let stop = plain_text(frame, start)?;
+    match back_at(frame, stop + 1) {
+        Ok(((mtype, seq), behind)) => {
+            if behind == frame.len() {
+                return None;
+            }
+            let name = &frame[start + 1..stop];
+            Some((Head { name, mtype, seq }, behind))
+        }
+        Err(_) => None,
+    }
 }
 
 /// The closing bracket, and only whitespace behind it.

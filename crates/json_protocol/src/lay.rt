@@ -103,15 +103,31 @@ pub fn flag_word(key: bool, value: bool) -> &'static [u8]
     }
 }
 
-/// Lays two pieces.
+/// Lays marks. How many there are is often not known when the code is built, so they are stored byte by byte.
 #[inline(always)]
-pub fn lay_both(cells: &mut [u8], to: usize, first: &[u8], second: &[u8]) -> usize
-    requires { to + (length first.now + length second.now) ≤ length cells.old }
-    ensures laid { take result cells.new ≡ take to cells.old ++ (first.now ++ second.now) }
-    ensures place { result ≡ to + (length first.now + length second.now) }
+pub fn lay_marks(cells: &mut [u8], to: usize, marks: &[u8]) -> usize
+    requires few { length marks.now ≤ 2 }
+    requires room { to + length marks.now ≤ length cells.old }
+    ensures laid { take result cells.new ≡ take to cells.old ++ marks.now }
+    ensures place { result ≡ to + length marks.now }
 {
-    let to = lay(cells, to, first);
-    lay(cells, to, second)
+    match *marks {
+        [] => to,
+        [only] => lay(cells, to, &[only]),
+        [first, second, ..] => lay(cells, to, &[first, second]),
+    }
+}
+
+/// Lays marks and what stands behind them.
+#[inline(always)]
+pub fn lay_both(cells: &mut [u8], to: usize, marks: &[u8], word: &[u8]) -> usize
+    requires few { length marks.now ≤ 2 }
+    requires room { to + (length marks.now + length word.now) ≤ length cells.old }
+    ensures laid { take result cells.new ≡ take to cells.old ++ (marks.now ++ word.now) }
+    ensures place { result ≡ to + (length marks.now + length word.now) }
+{
+    let to = lay_marks(cells, to, marks);
+    lay(cells, to, word)
 }
 
 /// Lays an integer in quotes.
@@ -148,7 +164,7 @@ pub fn lay_whole(cells: &mut [u8], to: usize, stand: Stand, value: i64) -> usize
     ensures laid { take result cells.new ≡ take to cells.old ++ (stand_lead stand ++ number (stand_key stand) (signed_decimal value)) }
     ensures short { result ≤ to + (length (signed_decimal value) + 4) }
 {
-    let to = lay(cells, to, stand_lead(stand));
+    let to = lay_marks(cells, to, stand_lead(stand));
     lay_number(cells, to, stand_key(stand), value)
 }
 
@@ -170,6 +186,6 @@ pub fn lay_field(cells: &mut [u8], to: usize, opening: Opening, id: i64, kind: K
     ensures laid { take result cells.new ≡ take to cells.old ++ (field_marks opening ++ field_spelling id kind) }
     ensures short { result ≤ to + (length (signed_decimal id) + 11) }
 {
-    let to = lay(cells, to, field_marks(opening));
+    let to = lay_marks(cells, to, field_marks(opening));
     lay_head(cells, to, id, kind)
 }

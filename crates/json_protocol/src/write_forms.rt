@@ -1,19 +1,20 @@
 //! The writer's quick forms: one item laid into the cells, by value.
 ghost use Rattle.std.specs.Prelude.{◌≡◌, ℤ, pos, ◌+◌, ◌*◌, ◌≤◌, ◌∷◌, [], ◌++◌, true, length, take};
 ghost use Rattle.std.specs.Fmt.{signed_decimal};
+ghost use Rattle.json_text.specs.Blob.{blob_spelling};
 ghost use Rattle.json_text.specs.Plain.{text_spelling};
 ghost use Rattle.json_protocol.specs.Writing.{flag, kinds_spelling, sequence_spelling, stop_spelling};
 ghost use Rattle.json_protocol.specs.WriteForms.{stands_at, starts_at, goes_on, stand_lead};
 
 use crate::lay::{
-    container_end, flag_word, lay_both, lay_field, lay_whole, quoted_name, stand_key, stand_lead,
-    stop_marks,
+    container_end, flag_word, lay_both, lay_field, lay_marks, lay_whole, quoted_name, stand_key,
+    stand_lead, stop_marks,
 };
 use crate::put::put_head;
 use crate::writer::{JsonWrite, is_text, is_uuid};
 use cell_writes::lay;
 use gate_io::Out;
-use json_text::{lay_int, lay_text};
+use json_text::{is_plain_ascii, lay_blob, lay_int, lay_text};
 use protocol_traits::{Container, FormWrite, Head, Hint, Mark, Opening, Stand};
 use thrift_value::Kind;
 
@@ -129,11 +130,14 @@ impl FormWrite for JsonWrite {
         begin: usize,
         end: usize,
     ) -> Option<usize> {
-        let text = &frame[begin..end];
-        if !matches!(hint, Hint::Text) || !is_text(text) {
-            return None;
+        let bytes = &frame[begin..end];
+        match hint {
+            Hint::Text if is_plain_ascii(bytes) || is_text(bytes) => {
+                Some(lay_string(cells, to, stand, bytes))
+            }
+            Hint::Blob => Some(lay_base64(cells, to, stand, bytes)),
+            Hint::Text | Hint::Unknown => None,
         }
-        Some(lay_string(cells, to, stand, text))
     }
 
     #[inline(always)]
@@ -153,7 +157,7 @@ impl FormWrite for JsonWrite {
         if is_uuid(kind) {
             return None;
         }
-        let to = lay(cells, to, stand_lead(stand));
+        let to = lay_marks(cells, to, stand_lead(stand));
         Some(lay_sequence(cells, to, kind, size))
     }
 
@@ -209,8 +213,18 @@ fn lay_string(cells: &mut [u8], to: usize, stand: Stand, text: &[u8]) -> usize
     ensures laid { take result cells.new ≡ take to cells.old ++ (stand_lead stand ++ text_spelling text.now) }
     ensures short { result ≤ to + (6 * length text.now + 5) }
 {
-    let to = lay(cells, to, stand_lead(stand));
+    let to = lay_marks(cells, to, stand_lead(stand));
     lay_text(cells, to, text)
+}
+
+/// Lays a base64 string with the marks before it.
+fn lay_base64(cells: &mut [u8], to: usize, stand: Stand, bytes: &[u8]) -> usize
+    requires { to + (6 * length bytes.now + 5) ≤ length cells.old }
+    ensures laid { take result cells.new ≡ take to cells.old ++ (stand_lead stand ++ blob_spelling bytes.now) }
+    ensures short { result ≤ to + (6 * length bytes.now + 5) }
+{
+    let to = lay_marks(cells, to, stand_lead(stand));
+    lay_blob(cells, to, bytes)
 }
 
 /// Lays the kind and the number of the elements of a list or a set.
@@ -232,7 +246,7 @@ fn lay_kinds(cells: &mut [u8], to: usize, stand: Stand, key: Kind, value: Kind) 
     ensures laid { take result cells.new ≡ take to cells.old ++ (stand_lead stand ++ kinds_spelling key value) }
     ensures short { result ≤ to + 15 }
 {
-    let to = lay(cells, to, stand_lead(stand));
+    let to = lay_marks(cells, to, stand_lead(stand));
     let to = lay_both(cells, to, b"[", quoted_name(key));
     let to = lay_both(cells, to, b",", quoted_name(value));
     lay(cells, to, b",")

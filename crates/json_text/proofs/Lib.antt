@@ -8,3 +8,7 @@ pub mod Lanes
 pub mod Runs
 pub mod Numbers
 pub mod Laid
+pub mod PlainInts
+pub mod PlainTexts
+pub mod DigitCounts
+pub mod LaidBlob

@@ -38,7 +38,7 @@ pub text_long : (bytes : List ℕ) → length (text_spelling bytes) ≤ 6 * leng
 unfolding text_spelling
 text_long bytes = let e = length-append (pieces_spelling bytes) (34 ∷ []) in let p = pieces_long bytes in omega arith
 
-symbols_long : (bytes : List ℕ) → length (symbols_of bytes) ≡ (4 * length bytes + 2) / 3
+pub symbols_long : (bytes : List ℕ) → length (symbols_of bytes) ≡ (4 * length bytes + 2) / 3
 unfolding symbols_of
 symbols_long bytes = length-append _ [] ∙ omega (arith, length-encode_symbols standard_no_pad.encode_table bytes)
 

@@ -8,3 +8,4 @@ pub mod Laws
 pub mod Blob
 pub mod Lengths
 pub mod Grammar
+pub mod Places

@@ -1,14 +1,15 @@
 //! Base64 strings, as they are written.
-ghost use Rattle.std.specs.Prelude.{◌≡◌, ◌+◌, ◌≤◌, ◌++◌, length, take};
+ghost use Rattle.std.specs.Prelude.{◌≡◌, ◌+◌, ◌*◌, ◌/◌, ◌≤◌, ◌++◌, length, take};
 ghost use Rattle.json_text.specs.Blob.{symbols_of, blob_spelling};
 
 use base64::engine::general_purpose::STANDARD_NO_PAD;
+use cell_writes::lay;
 use gate_io::Out;
 
-/// The symbols of up to 768 bytes, at the front of the buffer.
+/// The symbols of some bytes, at the front of the buffer.
 #[tactic(auto, unfolding(crate::specs::Blob::symbols_of))]
 fn encode(bytes: &[u8], buffer: &mut [u8]) -> usize
-    requires { (length bytes.now ≤ 768) × (1024 ≤ length buffer.old) }
+    requires { (4 * length bytes.now + 2) / 3 ≤ length buffer.old }
     ensures symbols { take result buffer.new ≡ symbols_of bytes.now }
     ensures bound { result ≤ length buffer.new }
     ensures kept { length buffer.new ≡ length buffer.old }
@@ -34,4 +35,15 @@ pub fn write_blob(bytes: &[u8], out: &mut Out)
         from = stop;
     }
     out.push(b"\"");
+}
+
+/// Lays the bytes as a base64 string without padding into the cells from a place on, and gives the place behind it.
+pub fn lay_blob(cells: &mut [u8], into: usize, bytes: &[u8]) -> usize
+    requires { into + length (blob_spelling bytes.now) ≤ length cells.old }
+    ensures laid { take result cells.new ≡ take into cells.old ++ blob_spelling bytes.now }
+    ensures place { result ≡ into + length (blob_spelling bytes.now) }
+{
+    let to = lay(cells, into, b"\"");
+    let behind = to + encode(bytes, &mut cells[to..]);
+    lay(cells, behind, b"\"")
 }

@@ -1,22 +1,49 @@
 //! The plain spelling laid into cells from a place on.
 ghost use Rattle.std.specs.Prelude.{◌≡◌, ◌+◌, ◌≤◌, ◌++◌, length, take};
-ghost use Rattle.std.specs.Fmt.{signed_decimal};
+ghost use Rattle.std.specs.Fmt.{decimal, signed_decimal};
 ghost use Rattle.json_text.specs.Plain.{byte_spelling, text_spelling};
 
 use crate::run::plain_end;
 use crate::write::hex;
 use cell_writes::{SLACK, lay, lay_part};
-use itoa::Buffer;
+use itoa::write_digits;
 
 /// Lays an integer, at most twenty bytes, into the cells from a place on, and gives the place behind it.
+#[inline(always)]
 pub fn lay_int(cells: &mut [u8], to: usize, value: i64) -> usize
     requires { to + 20 ≤ length cells.old }
     ensures laid { take result cells.new ≡ take to cells.old ++ signed_decimal value }
     ensures place { result ≡ to + length (signed_decimal value) }
     ensures short { result ≤ to + 20 }
 {
-    let mut buffer = Buffer::new();
-    lay(cells, to, buffer.format(value).as_bytes())
+    if value < 0 {
+        let digits = lay(cells, to, b"-");
+        return lay_digits(cells, digits, value.unsigned_abs());
+    }
+    lay_digits(cells, to, value.unsigned_abs())
+}
+
+/// Lays the digits of a number.
+#[inline(always)]
+fn lay_digits(cells: &mut [u8], to: usize, value: u64) -> usize
+    requires { to + length (decimal value) ≤ length cells.old }
+    ensures laid { take result cells.new ≡ take to cells.old ++ decimal value }
+    ensures place { result ≡ to + length (decimal value) }
+{
+    let behind = to + digit_count(value);
+    write_digits(value, cells, behind);
+    behind
+}
+
+/// How many digits a number has.
+#[inline(always)]
+fn digit_count(value: u64) -> usize
+    ensures { result ≡ length (decimal value) }
+{
+    if value == 0 {
+        return 1;
+    }
+    value.ilog10() as usize + 1
 }
 
 /// Lays one byte of a text.

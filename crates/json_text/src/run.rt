@@ -57,7 +57,7 @@ pub fn skip_white(bytes: &[u8], at: usize) -> usize
 
 /// A set bit for each byte at which plain text stops.
 #[inline(always)]
-fn stops(block: u8x32) -> u64
+pub(crate) fn stops(block: u8x32) -> u64
     ensures { result ≡ mask_l (map is_stop block) }
 {
     (block.simd_eq(u8x32::splat(b'"'))

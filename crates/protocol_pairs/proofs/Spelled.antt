@@ -9,8 +9,8 @@ use Rattle.protocol_traits.specs.declared.fault.Reason.TheVariants as reasons
 use Rattle.protocol_traits.specs.declared.fault.Bar.{Bar}
 use Rattle.protocol_traits.specs.declared.fault.Bar.TheVariants as bars
 use Rattle.translate_core.specs.declared.verdict.Cause.{Cause}
-use Rattle.translate_core.specs.declared.verdict.Cause.TheVariants.{Grammar, Barred}
-use Rattle.translate_core.specs.Texts.{reason_text, bar_text, cause_text}
+use Rattle.translate_core.specs.declared.verdict.Cause.TheVariants.{Grammar, Barred, NoRoute}
+use Rattle.translate_core.specs.Texts.{reason_text, bar_text, no_route_text, cause_text}
 
 small : List ℕ → Bool
 small [] = true
@@ -53,9 +53,14 @@ utf8_bar bars.UnknownString = ascii _ refl
 utf8_bar bars.NotUtf8 = ascii _ refl
 utf8_bar bars.Uuid = ascii _ refl
 
+utf8_no_route : is_utf8 no_route_text ≡ true
+unfolding small no_route_text
+utf8_no_route = ascii _ refl
+
 pub utf8_cause : (cause : Cause) → is_utf8 (cause_text cause) ≡ true
 utf8_cause (Grammar fault) = utf8_reason fault.reason
 utf8_cause (Barred place bar) = utf8_bar bar
+utf8_cause NoRoute = utf8_no_route
 
 pub utf8_none : is_utf8 [] ≡ true
 utf8_none = is_utf8-from_IsUtf8 [] IsUtf8-nil

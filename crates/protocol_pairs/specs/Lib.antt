@@ -1,2 +1,3 @@
 -- The verdict on a frame for two protocols.
 pub mod Pairs
+pub mod Methods

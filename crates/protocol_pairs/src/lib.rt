@@ -5,7 +5,9 @@
 #![tactic(auto)]
 
 mod answers;
+mod methods;
 mod pairs;
 
 pub use answers::{answer, head_type};
+pub use methods::{served, translate_method};
 pub use pairs::translate;

@@ -37,14 +37,14 @@ pub fn translate(
     ensures short { length out.new.bytes ≤ length out.old.bytes + (24 * length frame.now + 256) }
 {
     match from {
-        Proto::Binary => translate_forms::<BinaryRead>(schema, route, to, frame, room, out),
-        Proto::Compact => translate_forms::<CompactRead>(schema, route, to, frame, room, out),
+        Proto::Binary => translate_to::<BinaryRead>(schema, route, to, frame, room, out),
+        Proto::Compact => translate_to::<CompactRead>(schema, route, to, frame, room, out),
         Proto::Json => translate_to::<JsonRead>(schema, route, to, frame, room, out),
     }
 }
 
-/// The same for a reader that has forms: to a writer that has them too by the quick way.
-fn translate_forms<'f, R: WireRead<'f> + FormRead>(
+/// The same for the reader of the frame's protocol.
+fn translate_to<'f, R: WireRead<'f> + FormRead>(
     schema: &Schema,
     route: Route,
     to: Proto,
@@ -69,36 +69,8 @@ fn translate_forms<'f, R: WireRead<'f> + FormRead>(
         Proto::Compact => {
             translate_core::translate_quickly::<R, CompactWrite>(schema, route, frame, room, out)
         }
-        Proto::Json => translate_core::translate::<R, JsonWrite>(schema, route, frame, room, out),
-    }
-}
-
-/// The same for the reader of the frame's protocol.
-fn translate_to<'f, R: WireRead<'f>>(
-    schema: &Schema,
-    route: Route,
-    to: Proto,
-    frame: &'f [u8],
-    room: &'f mut [u8],
-    out: &mut Out,
-) -> Verdict
-    requires known { IsKnownRoute schema.now route }
-    requires room { length frame.now ≤ length room.old }
-    requires size { length frame.now < 2 ^ 31 }
-    requires fits { length out.old.bytes + (24 * length frame.now + 256) ≤ out.old.room }
-    ensures exact { IsJudged result out.old.bytes out.new.bytes
-        (judged_to (source_of R.begun R.reads_head R.reads R.reads_end R.value_place R.ahead) schema.now route to frame.now) }
-    ensures left { IsLeft result out.old.bytes out.new.bytes }
-    ensures room { out.new.room ≡ out.old.room }
-    ensures short { length out.new.bytes ≤ length out.old.bytes + (24 * length frame.now + 256) }
-{
-    match to {
-        Proto::Binary => {
-            translate_core::translate::<R, BinaryWrite>(schema, route, frame, room, out)
+        Proto::Json => {
+            translate_core::translate_quickly::<R, JsonWrite>(schema, route, frame, room, out)
         }
-        Proto::Compact => {
-            translate_core::translate::<R, CompactWrite>(schema, route, frame, room, out)
-        }
-        Proto::Json => translate_core::translate::<R, JsonWrite>(schema, route, frame, room, out),
     }
 }

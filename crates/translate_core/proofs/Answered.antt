@@ -4,7 +4,7 @@ use Rattle.protocol_traits.specs.declared.fault.Fault.{Fault}
 use Rattle.protocol_traits.specs.Heads.{Header}
 use Rattle.translate_core.specs.declared.verdict.Cause.{Cause}
 use Rattle.translate_core.specs.Body.{Source, Target}
-use Rattle.translate_core.specs.Texts.{cause_text}
+use Rattle.translate_core.specs.Texts.{cause_text, failure_type}
 use Rattle.translate_core.specs.Answers.{answer_of, answer_to}
 
 module _ {S T : Type 0} (source : Source S) (target : Target T) (frame : List ℕ) (cause : Cause) where
@@ -12,6 +12,6 @@ module _ {S T : Type 0} (source : Source S) (target : Target T) (frame : List �
   unfolding answer_of
   answer_err f e = rw e refl
 
-  pub answer_ok : (header : Header) (new : S) → source.reads_head (source.begun frame) ≡ Ok (header, new) → answer_of source target frame cause ≡ answer_to source target (cause_text cause) (Ok (header, new))
+  pub answer_ok : (header : Header) (new : S) → source.reads_head (source.begun frame) ≡ Ok (header, new) → answer_of source target frame cause ≡ answer_to source target (cause_text cause) (failure_type cause) (Ok (header, new))
   unfolding answer_of
   answer_ok header new e = rw e refl

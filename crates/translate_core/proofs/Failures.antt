@@ -1,5 +1,5 @@
 -- The items of an answer stand where each schema declares them.
-use Rattle.std.proofs.Common.{◌≡◌, ℕ, List, [], ◌∷◌, Some, take, refl, ap}
+use Rattle.std.proofs.Common.{◌≡◌, ℕ, ℤ, List, [], ◌∷◌, Some, take, refl, ap}
 use Rattle.std.specs.Prelude.{slice_get}
 use Rattle.type_tables.specs.declared.tables.StructDecl.{StructDecl}
 use Rattle.type_tables.specs.Declarations.{Declarations}
@@ -12,5 +12,5 @@ first_of_one : (structs : List StructDecl) → take 1 structs ≡ failure_struct
 first_of_one [] e = absurd (cc)
 first_of_one (t ∷ ts) e = let same : t ≡ failure_struct = cc in ap Some same
 
-pub declared_failure : (d : Declarations) (message : List ℕ) → IsBuilt d → failure_items message ≡ marked (start d (Some failure)) (plain_items message)
-declared_failure d message built = rw (first_of_one d.structs built.failure) refl
+pub declared_failure : (d : Declarations) (message : List ℕ) (kind : ℤ) → IsBuilt d → failure_items message kind ≡ marked (start d (Some failure)) (plain_items message kind)
+declared_failure d message kind built = rw (first_of_one d.structs built.failure) refl

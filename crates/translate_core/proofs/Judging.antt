@@ -44,7 +44,7 @@ out_left (Refused info cause) barred old head added bytes e =
 out_left (Unread f) barred old head added bytes e =
     append-nil _ ∙ rw (written barred old head added bytes e, take-append_seam) refl
 
-passes_at_end : {S : Type 0} (info : HeadInfo) (r : Step S (Unit {0})) → told r ≡ Ok tt → at_end info None r ≡ Passed info
+pub passes_at_end : {S : Type 0} (info : HeadInfo) (r : Step S (Unit {0})) → told r ≡ Ok tt → at_end info None r ≡ Passed info
 passes_at_end info (Ok x) e = refl
 passes_at_end info (Err f) e = absurd (cc)
 

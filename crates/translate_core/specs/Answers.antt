@@ -1,6 +1,6 @@
 -- The answer to a message that is refused: an Exception message whose body is a TApplicationException (Thrift remote
 -- procedure call specification, "Response struct").
-use Rattle.std.specs.Prelude.{◌≡◌, ℕ, pos, List, [], ◌∷◌, ◌++◌, Option, None, is_some, Ok, Err, if◌then◌else◌}
+use Rattle.std.specs.Prelude.{◌≡◌, ℕ, ℤ, pos, List, [], ◌∷◌, ◌++◌, Option, None, is_some, Ok, Err, if◌then◌else◌}
 use Rattle.thrift_value.specs.declared.kind.Kind.TheVariants as kinds
 use Rattle.thrift_value.specs.declared.kind.MessageType.{MessageType}
 use Rattle.thrift_value.specs.declared.kind.MessageType.TheVariants as types
@@ -15,17 +15,17 @@ use Rattle.type_walk.specs.Positions.{Position, mark_of, after}
 use Rattle.multiplex_names.specs.Names.{split_of}
 use Rattle.translate_core.specs.declared.verdict.Cause.{Cause}
 use Rattle.translate_core.specs.Body.{Source, Target}
-use Rattle.translate_core.specs.Texts.{cause_text}
+use Rattle.translate_core.specs.Texts.{cause_text, failure_type}
 
 abbrev pub mark : Hint → Mark
 mark hint = record { hint = hint; key = kinds.I8; value = kinds.I8 }
 
 -- The body, each item with what its position is known to be: field 1, the string `message`, and field 2, the i32
--- `type`, which is 7, a protocol error.
-abbrev pub failure_items : List ℕ → List (Item × Mark)
-failure_items message =
+-- `type`.
+abbrev pub failure_items : List ℕ → ℤ → List (Item × Mark)
+failure_items message kind =
     (field (pos 1) kinds.Str, mark hints.Unknown) ∷ (text message, mark hints.Text)
-    ∷ (field (pos 2) kinds.I32, mark hints.Unknown) ∷ (i32_value (pos 7), mark hints.Unknown)
+    ∷ (field (pos 2) kinds.I32, mark hints.Unknown) ∷ (i32_value kind, mark hints.Unknown)
     ∷ (stop, mark hints.Unknown) ∷ []
 
 -- the same items, each with what an IDL declares of its position
@@ -33,8 +33,8 @@ abbrev pub marked : Position → List Item → List (Item × Mark)
 marked position [] = []
 marked position (item ∷ items) = (item, mark_of position item) ∷ marked (after position item) items
 
-abbrev pub plain_items : List ℕ → List Item
-plain_items message = field (pos 1) kinds.Str ∷ text message ∷ field (pos 2) kinds.I32 ∷ i32_value (pos 7) ∷ stop ∷ []
+abbrev pub plain_items : List ℕ → ℤ → List Item
+plain_items message kind = field (pos 1) kinds.Str ∷ text message ∷ field (pos 2) kinds.I32 ∷ i32_value kind ∷ stop ∷ []
 
 -- a writer can spell each of these items
 abbrev pub TakesAll : (Item → Mark → Option Bar) → List (Item × Mark) → Type 0
@@ -63,10 +63,10 @@ abbrev pub answer_header : (List ℕ → Option Bar) → Header → Header
 answer_header name_bar h = record { name = spellable name_bar (method_name h.mtype h.name); mtype = types.Exception; seq = h.seq }
 
 module _ {S T : Type 0} (source : Source S) (target : Target T) where
-  abbrev pub answer_to : List ℕ → Step S Header → List ℕ
-  answer_to message (Ok x) = target.plain_head (answer_header target.name_bar x.0) ++ spelled target.plain target.after target.begun (failure_items message)
-  answer_to message (Err f) = []
+  abbrev pub answer_to : List ℕ → ℤ → Step S Header → List ℕ
+  answer_to message kind (Ok x) = target.plain_head (answer_header target.name_bar x.0) ++ spelled target.plain target.after target.begun (failure_items message kind)
+  answer_to message kind (Err f) = []
 
   -- what answers a frame for this cause, or nothing where its header isn't whole
   unfoldable pub answer_of : List ℕ → Cause → List ℕ
-  answer_of frame cause = answer_to (cause_text cause) (source.reads_head (source.begun frame))
+  answer_of frame cause = answer_to (cause_text cause) (failure_type cause) (source.reads_head (source.begun frame))

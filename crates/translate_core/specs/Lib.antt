@@ -6,3 +6,4 @@ pub mod Judged
 pub mod Texts
 pub mod Answers
 pub mod Quick
+pub mod Methods

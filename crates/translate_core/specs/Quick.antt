@@ -98,6 +98,12 @@ module _ {S T : Type 0} (source : Source S) (target : Target T) (reader_at : S �
       → ((hint : Hint) → Steps source.reads reader_at frame at opening (slots.Fields last ∷ up) hint lead behind)
       → Takes frame (spot at opening (slots.Fields last ∷ up) (standing d (in_struct ty ∷ outer))) (spot read openings.Old (slots.Fields id ∷ up) (standing d (in_struct ty ∷ outer))) old to new written
 
+  -- so many elements of a list or set are taken, and its end is not, where it is the innermost of so many levels
+  abbrev pub TakesRun : Declarations → Level → ℕ → List ℕ → ℕ → Kind → ℕ → List ℕ → ℕ → List ℕ → ℕ → ℕ → Type 0
+  TakesRun d level depth frame at kind size old to new read written =
+      (opening : Opening) (up : List Slot) (outer : List Level) → length up + 1 ≡ depth
+      → (now : Opening) × Takes frame (spot at opening (slots.Elements kind size ∷ up) (standing d (level ∷ outer))) (spot read now (slots.Elements kind 0 ∷ up) (standing d (level ∷ outer))) old to new written
+
   -- the elements of a list or set are taken to its end, where it is the innermost of so many levels
   abbrev pub TakesElements : Declarations → Level → ℕ → List ℕ → ℕ → Kind → ℕ → List ℕ → ℕ → List ℕ → ℕ → ℕ → Type 0
   TakesElements d level depth frame at kind size old to new read written =

@@ -1,11 +1,11 @@
 //! The answer to a message that is refused.
 ghost use Rattle.std.specs.Prelude.{◌≡◌, ℕ, ℤ, ◌+◌, ◌*◌, ◌≤◌, ◌^◌, ◌<◌, List, ◌++◌, [], length, None};
-ghost use Rattle.thrift_value.specs.Items.{item_of};
+ghost use Rattle.thrift_value.specs.Items.{item_of, i32_value};
 ghost use Rattle.protocol_traits.specs.Follow.{depth_after};
 ghost use Rattle.protocol_traits.specs.Heads.{header_of};
 ghost use Rattle.protocol_traits.specs.Room.{head_weight, weight, IsSized};
 ghost use Rattle.translate_core.specs.Body.{source_of, target_of};
-ghost use Rattle.translate_core.specs.Texts.{cause_text};
+ghost use Rattle.translate_core.specs.Texts.{cause_text, failure_type};
 ghost use Rattle.translate_core.specs.Answers.{mark, failure_items, TakesAll, method_name, spellable, spelled, answer_header, answer_of};
 
 use crate::verdict::Cause;
@@ -14,7 +14,10 @@ use multiplex_names::split;
 use protocol_traits::{Head, Hint, Mark, WireRead, WireWrite};
 use thrift_value::{Event, Kind, MessageType};
 
-/// The type of a failure that lies in what was sent, PROTOCOL_ERROR.
+/// The type of a failure that lies in the method's name, UNKNOWN_METHOD of a TApplicationException.
+const UNKNOWN_METHOD: i32 = 1;
+
+/// The type of a failure that lies in what was sent, PROTOCOL_ERROR of a TApplicationException.
 const PROTOCOL_ERROR: i32 = 7;
 
 /// Appends the answer to a frame that is refused for this cause: an Exception message with its sequence number and its
@@ -31,7 +34,7 @@ pub fn answer<'f, R: WireRead<'f>, W: WireWrite>(
     requires size { length frame.now < 2 ^ 31 }
     requires fits { length out.old.bytes + (24 * length frame.now + 256) ≤ out.old.room }
     requires nameless { W.name_bar [] ≡ None }
-    requires spellable { TakesAll W.bar (failure_items (cause_text cause.now)) }
+    requires spellable { TakesAll W.bar (failure_items (cause_text cause.now) (failure_type cause.now)) }
     ensures out { out.new ≡ record out.old {
       bytes = out.old.bytes ++ answer_of (source_of R.begun R.reads_head R.reads R.reads_end R.value_place R.ahead)
           (target_of W.begun W.name_bar W.plain_head W.bar W.plain W.after) frame.now cause.now;
@@ -43,7 +46,7 @@ pub fn answer<'f, R: WireRead<'f>, W: WireWrite>(
         Ok(head) => {
             let mut writer = W::over();
             put_head(&mut writer, &head, out);
-            put_failure(&mut writer, cause.text(), out);
+            put_failure(&mut writer, cause.text(), cause, out);
         }
         Err(_) => {}
     }
@@ -74,7 +77,7 @@ fn method_name<'a>(head: &Head<'a>) -> &'a [u8]
 }
 
 /// This name, or the empty one where it can't be written.
-fn spellable<W: WireWrite>(name: &[u8]) -> &[u8]
+pub(crate) fn spellable<W: WireWrite>(name: &[u8]) -> &[u8]
     requires nameless { W.name_bar [] ≡ None }
     ensures name { result.now ≡ spellable W.name_bar name.now }
     ensures taken { W.name_bar result.now ≡ None }
@@ -96,20 +99,40 @@ fn exception(name: &[u8], seq: i32) -> Head<'_>
     }
 }
 
-/// Writes the body that tells of a failure.
-fn put_failure<W: WireWrite>(writer: &mut W, message: &[u8], out: &mut Out)
+/// Writes the body that tells of a failure, by its message and its cause's type.
+fn put_failure<W: WireWrite>(writer: &mut W, message: &[u8], cause: &Cause, out: &mut Out)
     requires open { W.depth writer.old ≡ 1 }
     requires short { length message.now ≤ 17 }
-    requires spellable { TakesAll W.bar (failure_items message.now) }
+    requires spellable { TakesAll W.bar (failure_items message.now (failure_type cause.now)) }
     requires room { length out.old.bytes + 159 ≤ out.old.room }
-    ensures out { out.new ≡ record out.old { bytes = out.old.bytes ++ spelled W.plain W.after writer.old (failure_items message.now) } }
+    ensures out { out.new ≡ record out.old { bytes = out.old.bytes ++ spelled W.plain W.after writer.old (failure_items message.now (failure_type cause.now)) } }
     ensures short { length out.new.bytes ≤ length out.old.bytes + 159 }
 {
     put_known(writer, &Event::Field(1, Kind::Str), Hint::Unknown, out);
     put_known(writer, &Event::Str(message), Hint::Text, out);
     put_known(writer, &Event::Field(2, Kind::I32), Hint::Unknown, out);
-    put_known(writer, &Event::I32(PROTOCOL_ERROR), Hint::Unknown, out);
+    put_type(writer, cause, out);
     put_known(writer, &Event::Stop, Hint::Unknown, out);
+}
+
+/// Writes the type that a cause has.
+fn put_type<W: WireWrite>(writer: &mut W, cause: &Cause, out: &mut Out)
+    requires taken { W.bar (i32_value (failure_type cause.now)) (mark Hint.Unknown) ≡ None }
+    requires open { 0 < W.depth writer.old }
+    requires shallow { W.depth writer.old ≤ 256 }
+    requires room { length out.old.bytes + 15 ≤ out.old.room }
+    ensures state { writer.new ≡ W.after writer.old (i32_value (failure_type cause.now)) (mark Hint.Unknown) }
+    ensures depth { W.depth writer.new ≡ W.depth writer.old }
+    ensures out { out.new ≡ record out.old { bytes = out.old.bytes ++ W.plain writer.old (i32_value (failure_type cause.now)) (mark Hint.Unknown) } }
+    ensures short { length out.new.bytes ≤ length out.old.bytes + 15 }
+{
+    match cause {
+        Cause::Grammar(_) => { put_known(writer, &Event::I32(PROTOCOL_ERROR), Hint::Unknown, out) }
+        Cause::Barred { .. } => {
+            put_known(writer, &Event::I32(PROTOCOL_ERROR), Hint::Unknown, out)
+        }
+        Cause::NoRoute => put_known(writer, &Event::I32(UNKNOWN_METHOD), Hint::Unknown, out),
+    }
 }
 
 /// Writes one event of which this is known.

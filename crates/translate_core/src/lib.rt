@@ -7,10 +7,12 @@
 
 mod answering;
 mod body;
+mod fields;
 mod known;
 mod laws;
 mod leaves;
 mod message;
+mod methods;
 mod passing;
 mod quick;
 mod route;
@@ -20,6 +22,7 @@ mod verdict;
 pub use answering::answer;
 pub use laws::an_answer_is_a_declared_failure;
 pub use message::{head_type, translate, translate_quickly};
+pub use methods::{Services, served, translate_method, translate_method_quickly};
 pub use route::{Route, body_struct};
 pub use texts::{bar_text, reason_text};
 pub use verdict::{Cause, HeadInfo, Verdict};

@@ -122,7 +122,7 @@ fn pass_head<W: WireWrite>(writer: &mut W, head: Head<'_>, out: &mut Out) -> Opt
 }
 
 /// Takes the body and the end, and answers the verdict, by what the header tells.
-fn verdict_by<'f, R: WireRead<'f>, W: WireWrite>(
+pub(crate) fn verdict_by<'f, R: WireRead<'f>, W: WireWrite>(
     schema: &Schema,
     told: Told,
     reader: &mut R,
@@ -218,7 +218,7 @@ fn verdict_on<'f, R: WireRead<'f>, W: WireWrite, K: Walking>(
 }
 
 /// Keeps what was written behind `start` only where the message passed.
-fn keep(verdict: &Verdict, start: usize, out: &mut Out)
+pub(crate) fn keep(verdict: &Verdict, start: usize, out: &mut Out)
     requires { start ≤ length out.old.bytes }
     ensures { out.new ≡ record out.old { bytes = take start out.old.bytes ++ kept verdict.now (drop start out.old.bytes) } }
 {

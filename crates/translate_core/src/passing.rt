@@ -78,7 +78,7 @@ fn append_front<W: FormWrite>(head: Head<'_>, out: &mut Out) -> Result<(), Bar>
 
 /// Appends the body that begins at a place, and says that the message is whole; or leaves the output as it was, which
 /// says nothing of the frame.
-fn append_body<R: FormRead, W: FormWrite>(
+pub(crate) fn append_body<R: FormRead, W: FormWrite>(
     schema: &Schema,
     body: Option<StructId>,
     frame: &[u8],
@@ -168,11 +168,32 @@ fn take_typed<R: FormRead, W: FormWrite>(
     ensures takes { IfSome result (λ x. TakesFields (source_of R.begun R.reads_head R.reads R.reads_end R.value_place R.ahead) (target_of W.begun W.name_bar W.plain_head W.bar W.plain W.after) R.stands_at W.stands_at
         schema.now (body_type body) 1 frame.now at Opening.Body cells.old 0 cells.new x.read x.written) }
 {
+    let mut written = 0;
     if is_blind::<R, W>() {
-        return take_fields::<R, W, Nothing>(Nothing, schema, frame, at, cells, 0, Opening::Body, 1);
+        let read = take_fields::<R, W, Nothing>(
+            Nothing,
+            schema,
+            frame,
+            at,
+            cells,
+            &mut written,
+            Opening::Body,
+            1,
+        )?;
+        return Some(Reach { read, written });
     }
     let known = Declared(body_type(body));
-    take_fields::<R, W, Declared>(known, schema, frame, at, cells, 0, Opening::Body, 1)
+    let read = take_fields::<R, W, Declared>(
+        known,
+        schema,
+        frame,
+        at,
+        cells,
+        &mut written,
+        Opening::Body,
+        1,
+    )?;
+    Some(Reach { read, written })
 }
 
 /// The type of a body of this struct, if any.

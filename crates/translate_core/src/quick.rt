@@ -1,6 +1,6 @@
 //! The quick way through a body: its fields, elements and pairs from the frame into cells, by a call for each struct and
 //! container.
-ghost use Rattle.std.specs.Prelude.{◌≡◌, ℕ, ◌+◌, ◌≤◌, ◌<◌, ◌^◌, length, true, Some, IfSome};
+ghost use Rattle.std.specs.Prelude.{◌≡◌, ℕ, ◌+◌, ◌≤◌, ◌<◌, ◌^◌, length, Some, IfSome};
 ghost use Rattle.thrift_value.specs.declared.kind.Kind.{Kind};
 ghost use Rattle.thrift_value.specs.Items.{field};
 ghost use Rattle.protocol_traits.specs.declared.forms.Container.{Container};
@@ -10,18 +10,16 @@ ghost use Rattle.protocol_traits.specs.Forms.{IsPast, container_kind, lead_item}
 ghost use Rattle.type_tables.specs.declared.declared.Ty.{Ty};
 ghost use Rattle.type_tables.specs.Declarations.{Declarations};
 ghost use Rattle.type_walk.specs.declared.levels.Level.{Level};
-ghost use Rattle.type_walk.specs.Positions.{called_for, field_type, hint_at, in_struct};
+ghost use Rattle.type_walk.specs.Positions.{called_for};
 ghost use Rattle.translate_core.specs.Body.{source_of, target_of};
-ghost use Rattle.translate_core.specs.Quick.{Grows, HasRoom, Informs, IsFlat, TakesElements, TakesField, TakesFields, TakesPairs, TakesValue, Turns, turned};
+ghost use Rattle.translate_core.specs.Quick.{Grows, HasRoom, Informs, IsFlat, TakesElements, TakesField, TakesFields, TakesPairs, TakesRun, TakesValue, Turns, turned};
 
+use crate::fields::{BEFORE_FIELD, take_flag, take_leaf_field, take_text_field};
 use crate::known::Known;
 use crate::leaves::{AROUND, Reach, take_leaf, take_text};
-use protocol_traits::{Container, DEPTH, FormRead, FormWrite, Hint, Lead, Opening, Pairs, Stand};
+use protocol_traits::{Container, DEPTH, FormRead, FormWrite, Lead, Opening, Pairs, Stand};
 use thrift_value::Kind;
 use type_tables::Schema;
-
-/// The same before a field. The beginning of a struct has taken some.
-const BEFORE_FIELD: usize = 122;
 
 /// The most cells that the end of a container takes.
 const END: usize = 2;
@@ -29,7 +27,9 @@ const END: usize = 2;
 /// What the end of a struct leaves of the cells for its last byte.
 const BEHIND_STOP: usize = 8;
 
-/// Takes the fields of an open struct of which this is known, to its end.
+/// Takes the fields of an open struct of which this is known, to its end: answers the place behind it in the frame, and
+/// moves `into` to the one in the cells. Two words and a place to write to go in registers; `Reach`, with what says
+/// that there is one, would go through memory.
 #[cycle(body)]
 pub fn take_fields<R: FormRead, W: FormWrite, K: Known>(
     known: K,
@@ -37,34 +37,32 @@ pub fn take_fields<R: FormRead, W: FormWrite, K: Known>(
     frame: &[u8],
     from: usize,
     cells: &mut [u8],
-    into: usize,
+    into: &mut usize,
     opening: Opening,
     depth: usize,
-) -> Option<Reach>
+) -> Option<usize>
     requires known { K.sound known schema.now }
     requires informed { Informs K.tells R.hinted W.hinted W.marked }
     requires size { length frame.now < 2 ^ 31 }
     requires place { from ≤ length frame.now }
-    requires room { HasRoom BEFORE_FIELD frame.now from cells.old into }
+    requires room { HasRoom BEFORE_FIELD frame.now from cells.old into.old }
     requires shallow { depth ≤ 256 }
     ensures kept { length cells.new ≡ length cells.old }
-    ensures past { IfSome result (λ x. IsPast from frame.now x.read) }
-    ensures grows { IfSome result (λ x. Grows from into x.read (x.written + BEHIND_STOP)) }
-    ensures takes { IfSome result (λ x. (ty : Ty) → K.means known ty → TakesFields (source_of R.begun R.reads_head R.reads R.reads_end R.value_place R.ahead) (target_of W.begun W.name_bar W.plain_head W.bar W.plain W.after) R.stands_at W.stands_at
-        schema.now ty depth frame.now from opening cells.old into cells.new x.read x.written) }
+    ensures past { IfSome result (λ read. IsPast from frame.now read) }
+    ensures grows { IfSome result (λ read. Grows from into.old read (into.new + BEHIND_STOP)) }
+    ensures takes { IfSome result (λ read. (ty : Ty) → K.means known ty → TakesFields (source_of R.begun R.reads_head R.reads R.reads_end R.value_place R.ahead) (target_of W.begun W.name_bar W.plain_head W.bar W.plain W.after) R.stands_at W.stands_at
+        schema.now ty depth frame.now from opening cells.old into.old cells.new read into.new) }
 {
     let mut last = 0;
     let mut opening = opening;
     let mut at = from;
-    let mut to = into;
+    let mut to = *into;
     'fields: loop {
         let (lead, id, behind) = R::next_field(frame, at, opening, last)?;
         if let Lead::Stop = lead {
             let written = W::stop(cells, to, opening, depth);
-            return Some(Reach {
-                read: behind,
-                written,
-            });
+            *into = written;
+            return Some(behind);
         }
         if let Lead::Bad = lead {
             return None;
@@ -239,101 +237,6 @@ fn take_field<R: FormRead, W: FormWrite, K: Known>(
     }
 }
 
-/// Takes a bool field.
-#[inline(always)]
-fn take_flag<R: FormRead, W: FormWrite>(
-    frame: &[u8],
-    at: usize,
-    cells: &mut [u8],
-    to: usize,
-    opening: Opening,
-    last: i16,
-    id: i16,
-    behind: usize,
-) -> Option<Reach>
-    requires place { IsPast at frame.now behind }
-    requires room { HasRoom BEFORE_FIELD frame.now at cells.old to }
-    ensures kept { length cells.new ≡ length cells.old }
-    ensures past { IfSome result (λ x. IsPast at frame.now x.read) }
-    ensures grows { IfSome result (λ x. Grows at to x.read x.written) }
-    ensures takes { IfSome result (λ x. (d : Declarations) (ty : Ty) (depth : ℕ) → TakesField (source_of R.begun R.reads_head R.reads R.reads_end R.value_place R.ahead) (target_of W.begun W.name_bar W.plain_head W.bar W.plain W.after) R.stands_at W.stands_at
-        d ty depth frame.now at opening last (field id Kind.Bool) id behind cells.old to cells.new x.read x.written) }
-{
-    let (value, read) = R::flag(frame, at, behind, opening)?;
-    let written = W::flag(cells, to, opening, last, id, value);
-    Some(Reach { read, written })
-}
-
-/// Takes a field of a kind that is neither a bool nor a string nor a level.
-#[inline(always)]
-fn take_leaf_field<R: FormRead, W: FormWrite>(
-    frame: &[u8],
-    at: usize,
-    cells: &mut [u8],
-    to: usize,
-    opening: Opening,
-    last: i16,
-    id: i16,
-    kind: Kind,
-    behind: usize,
-) -> Option<Reach>
-    requires place { IsPast at frame.now behind }
-    requires room { HasRoom BEFORE_FIELD frame.now at cells.old to }
-    requires apart { kind ≡ Kind.Bool → ⊥ }
-    ensures kept { length cells.new ≡ length cells.old }
-    ensures past { IfSome result (λ x. IsPast at frame.now x.read) }
-    ensures grows { IfSome result (λ x. Grows at to x.read x.written) }
-    ensures takes { IfSome result (λ x. (d : Declarations) (ty : Ty) (depth : ℕ) → TakesField (source_of R.begun R.reads_head R.reads R.reads_end R.value_place R.ahead) (target_of W.begun W.name_bar W.plain_head W.bar W.plain W.after) R.stands_at W.stands_at
-        d ty depth frame.now at opening last (field id kind) id behind cells.old to cells.new x.read x.written) }
-{
-    let value = W::field(cells, to, opening, last, id, kind);
-    take_leaf::<R, W>(frame, behind, cells, value, Stand::Field, kind)
-}
-
-/// Takes a string field.
-#[inline(always)]
-fn take_text_field<R: FormRead, W: FormWrite, K: Known>(
-    known: K,
-    schema: &Schema,
-    frame: &[u8],
-    at: usize,
-    cells: &mut [u8],
-    to: usize,
-    opening: Opening,
-    last: i16,
-    id: i16,
-    behind: usize,
-) -> Option<Reach>
-    requires known { K.sound known schema.now }
-    requires informed { Informs K.tells R.hinted W.hinted W.marked }
-    requires size { length frame.now < 2 ^ 31 }
-    requires place { IsPast at frame.now behind }
-    requires room { HasRoom BEFORE_FIELD frame.now at cells.old to }
-    ensures kept { length cells.new ≡ length cells.old }
-    ensures past { IfSome result (λ x. IsPast at frame.now x.read) }
-    ensures grows { IfSome result (λ x. Grows at to x.read x.written) }
-    ensures takes { IfSome result (λ x. (ty : Ty) (depth : ℕ) → K.means known ty → TakesField (source_of R.begun R.reads_head R.reads R.reads_end R.value_place R.ahead) (target_of W.begun W.name_bar W.plain_head W.bar W.plain W.after) R.stands_at W.stands_at
-        schema.now ty depth frame.now at opening last (field id Kind.Str) id behind cells.old to cells.new x.read x.written) }
-{
-    let hint = text_hint::<R, W, K>(known, schema, id);
-    let value = W::field(cells, to, opening, last, id, Kind::Str);
-    take_text::<R, W>(frame, behind, cells, value, Stand::Field, hint)
-}
-
-/// How the string of a field is read, where reading or writing it depends on that.
-#[inline(always)]
-fn text_hint<R: FormRead, W: FormWrite, K: Known>(known: K, schema: &Schema, id: i16) -> Hint
-    requires known { K.sound known schema.now }
-    requires informed { Informs K.tells R.hinted W.hinted W.marked }
-    ensures reads { (ty : Ty) → K.means known ty → R.hinted ≡ true → hint_at (field_type schema.now (Some (in_struct ty)) id Kind.Str) ≡ result }
-    ensures writes { (ty : Ty) → K.means known ty → W.hinted ≡ true → hint_at (field_type schema.now (Some (in_struct ty)) id Kind.Str) ≡ result }
-{
-    if R::is_hinted() || W::is_hinted() {
-        return known.field(schema, id, Kind::Str).hint();
-    }
-    Hint::Unknown
-}
-
 /// Takes a field whose value is a level.
 #[cycle(body)]
 #[inline(always)]
@@ -366,7 +269,7 @@ fn take_level_field<R: FormRead, W: FormWrite, K: Known>(
 {
     let next = known.field(schema, id, kind);
     let value = W::field(cells, to, opening, last, id, kind);
-    take_value::<R, W, K>(
+    take_level::<R, W, K>(
         next,
         schema,
         frame,
@@ -377,6 +280,92 @@ fn take_level_field<R: FormRead, W: FormWrite, K: Known>(
         kind,
         depth,
     )
+}
+
+/// Takes a struct or container of which this is known, inside so many levels. Other kinds are none.
+#[cycle(body)]
+#[inline(always)]
+fn take_level<R: FormRead, W: FormWrite, K: Known>(
+    known: K,
+    schema: &Schema,
+    frame: &[u8],
+    at: usize,
+    cells: &mut [u8],
+    to: usize,
+    stand: Stand,
+    kind: Kind,
+    depth: usize,
+) -> Option<Reach>
+    requires known { K.sound known schema.now }
+    requires informed { Informs K.tells R.hinted W.hinted W.marked }
+    requires size { length frame.now < 2 ^ 31 }
+    requires place { at ≤ length frame.now }
+    requires room { HasRoom AROUND frame.now at cells.old to }
+    requires shallow { depth ≤ 256 }
+    ensures kept { length cells.new ≡ length cells.old }
+    ensures past { IfSome result (λ x. IsPast at frame.now x.read) }
+    ensures grows { IfSome result (λ x. Grows at to x.read x.written) }
+    ensures takes { IfSome result (λ x. (ty : Ty) → K.means known ty → TakesValue (source_of R.begun R.reads_head R.reads R.reads_end R.value_place R.ahead) (target_of W.begun W.name_bar W.plain_head W.bar W.plain W.after) R.stands_at W.stands_at
+        schema.now ty depth frame.now at stand kind cells.old to cells.new x.read x.written) }
+{
+    match kind {
+        Kind::Struct => take_struct::<R, W, K>(known, schema, frame, at, cells, to, stand, depth),
+        Kind::Map => take_map::<R, W, K>(known, schema, frame, at, cells, to, stand, depth),
+        Kind::Set => take_list::<R, W, K>(
+            known,
+            schema,
+            frame,
+            at,
+            cells,
+            to,
+            stand,
+            Container::Set,
+            depth,
+        ),
+        Kind::List => take_list::<R, W, K>(
+            known,
+            schema,
+            frame,
+            at,
+            cells,
+            to,
+            stand,
+            Container::List,
+            depth,
+        ),
+        _ => None,
+    }
+}
+
+/// The same by a call, for what stands in a container: answers the place behind it in the frame, and moves `to`.
+#[cycle(body)]
+#[inline(never)]
+fn call_level<R: FormRead, W: FormWrite, K: Known>(
+    known: K,
+    schema: &Schema,
+    frame: &[u8],
+    at: usize,
+    cells: &mut [u8],
+    to: &mut usize,
+    stand: Stand,
+    kind: Kind,
+    depth: usize,
+) -> Option<usize>
+    requires known { K.sound known schema.now }
+    requires informed { Informs K.tells R.hinted W.hinted W.marked }
+    requires size { length frame.now < 2 ^ 31 }
+    requires place { at ≤ length frame.now }
+    requires room { HasRoom AROUND frame.now at cells.old to.old }
+    requires shallow { depth ≤ 256 }
+    ensures kept { length cells.new ≡ length cells.old }
+    ensures past { IfSome result (λ read. IsPast at frame.now read) }
+    ensures grows { IfSome result (λ read. Grows at to.old read to.new) }
+    ensures takes { IfSome result (λ read. (ty : Ty) → K.means known ty → TakesValue (source_of R.begun R.reads_head R.reads R.reads_end R.value_place R.ahead) (target_of W.begun W.name_bar W.plain_head W.bar W.plain W.after) R.stands_at W.stands_at
+        schema.now ty depth frame.now at stand kind cells.old to.old cells.new read to.new) }
+{
+    let reach = take_level::<R, W, K>(known, schema, frame, at, cells, *to, stand, kind, depth)?;
+    *to = reach.written;
+    Some(reach.read)
 }
 
 /// Takes a value of which this is known, inside so many levels. A bool is no field's.
@@ -409,29 +398,21 @@ fn take_value<R: FormRead, W: FormWrite, K: Known>(
     match kind {
         Kind::Str => take_text::<R, W>(frame, at, cells, to, stand, known.hint()),
         Kind::Struct => take_struct::<R, W, K>(known, schema, frame, at, cells, to, stand, depth),
-        Kind::Map => take_map::<R, W, K>(known, schema, frame, at, cells, to, stand, depth),
-        Kind::Set => take_list::<R, W, K>(
-            known,
-            schema,
-            frame,
-            at,
-            cells,
-            to,
-            stand,
-            Container::Set,
-            depth,
-        ),
-        Kind::List => take_list::<R, W, K>(
-            known,
-            schema,
-            frame,
-            at,
-            cells,
-            to,
-            stand,
-            Container::List,
-            depth,
-        ),
+        Kind::Map | Kind::Set | Kind::List => {
+            let mut written = to;
+            let read = call_level::<R, W, K>(
+                known,
+                schema,
+                frame,
+                at,
+                cells,
+                &mut written,
+                stand,
+                kind,
+                depth,
+            )?;
+            Some(Reach { read, written })
+        }
         _ => take_leaf::<R, W>(frame, at, cells, to, stand, kind),
     }
 }
@@ -464,22 +445,24 @@ fn take_struct<R: FormRead, W: FormWrite, K: Known>(
     if depth >= DEPTH {
         return None;
     }
-    let read = R::struct_begin(frame, at, stand)?;
-    let written = W::struct_begin(cells, to, stand);
-    take_fields::<R, W, K>(
+    let inside = R::struct_begin(frame, at, stand)?;
+    let mut written = W::struct_begin(cells, to, stand);
+    let read = take_fields::<R, W, K>(
         known,
         schema,
         frame,
-        read,
+        inside,
         cells,
-        written,
+        &mut written,
         Opening::New,
         depth + 1,
-    )
+    )?;
+    Some(Reach { read, written })
 }
 
 /// Takes a list or set inside so many levels.
 #[cycle(body)]
+#[inline(always)]
 fn take_list<R: FormRead, W: FormWrite, K: Known>(
     known: K,
     schema: &Schema,
@@ -552,6 +535,120 @@ fn take_elements<R: FormRead, W: FormWrite, K: Known>(
     ensures takes { IfSome result (λ x. (level : Level) → IsFlat level → K.means known (called_for (Some level)) → TakesElements (source_of R.begun R.reads_head R.reads R.reads_end R.value_place R.ahead) (target_of W.begun W.name_bar W.plain_head W.bar W.plain W.after) R.stands_at W.stands_at
         schema.now level depth frame.now from kind size cells.old into cells.new x.read x.written) }
 {
+    let reach = take_run::<R, W, K>(known, schema, frame, from, cells, into, kind, size, depth)?;
+    let read = R::end(frame, reach.read, container)?;
+    let written = W::end(cells, reach.written, container);
+    Some(Reach { read, written })
+}
+
+/// Takes so many elements of a kind. Which kind it is is asked once, for it is a constant in each loop.
+#[cycle(body)]
+#[inline(always)]
+fn take_run<R: FormRead, W: FormWrite, K: Known>(
+    known: K,
+    schema: &Schema,
+    frame: &[u8],
+    at: usize,
+    cells: &mut [u8],
+    to: usize,
+    kind: Kind,
+    size: u32,
+    depth: usize,
+) -> Option<Reach>
+    requires known { K.sound known schema.now }
+    requires informed { Informs K.tells R.hinted W.hinted W.marked }
+    requires size { length frame.now < 2 ^ 31 }
+    requires place { at ≤ length frame.now }
+    requires room { HasRoom AROUND frame.now at cells.old to }
+    requires shallow { depth ≤ 256 }
+    ensures kept { length cells.new ≡ length cells.old }
+    ensures place { IfSome result (λ x. (at ≤ x.read) × (x.read ≤ length frame.now)) }
+    ensures grows { IfSome result (λ x. Grows at to x.read x.written) }
+    ensures takes { IfSome result (λ x. (level : Level) → IsFlat level → K.means known (called_for (Some level)) → TakesRun (source_of R.begun R.reads_head R.reads R.reads_end R.value_place R.ahead) (target_of W.begun W.name_bar W.plain_head W.bar W.plain W.after) R.stands_at W.stands_at
+        schema.now level depth frame.now at kind size cells.old to cells.new x.read x.written) }
+{
+    match kind {
+        Kind::Bool => run_of::<R, W, K>(
+            known,
+            schema,
+            frame,
+            at,
+            cells,
+            to,
+            Kind::Bool,
+            size,
+            depth,
+        ),
+        Kind::I8 => run_of::<R, W, K>(known, schema, frame, at, cells, to, Kind::I8, size, depth),
+        Kind::I16 => run_of::<R, W, K>(known, schema, frame, at, cells, to, Kind::I16, size, depth),
+        Kind::I32 => run_of::<R, W, K>(known, schema, frame, at, cells, to, Kind::I32, size, depth),
+        Kind::I64 => run_of::<R, W, K>(known, schema, frame, at, cells, to, Kind::I64, size, depth),
+        Kind::Double => run_of::<R, W, K>(
+            known,
+            schema,
+            frame,
+            at,
+            cells,
+            to,
+            Kind::Double,
+            size,
+            depth,
+        ),
+        Kind::Uuid => run_of::<R, W, K>(
+            known,
+            schema,
+            frame,
+            at,
+            cells,
+            to,
+            Kind::Uuid,
+            size,
+            depth,
+        ),
+        Kind::Str => run_of::<R, W, K>(known, schema, frame, at, cells, to, Kind::Str, size, depth),
+        Kind::Struct => run_of::<R, W, K>(
+            known,
+            schema,
+            frame,
+            at,
+            cells,
+            to,
+            Kind::Struct,
+            size,
+            depth,
+        ),
+        Kind::Map | Kind::Set | Kind::List => run_of::<R, W, K>(
+            known, schema, frame, at, cells, to, kind, size, depth,
+        ),
+    }
+}
+
+/// Takes so many elements of a kind, one by one.
+#[cycle(body)]
+#[inline(always)]
+fn run_of<R: FormRead, W: FormWrite, K: Known>(
+    known: K,
+    schema: &Schema,
+    frame: &[u8],
+    from: usize,
+    cells: &mut [u8],
+    into: usize,
+    kind: Kind,
+    size: u32,
+    depth: usize,
+) -> Option<Reach>
+    requires known { K.sound known schema.now }
+    requires informed { Informs K.tells R.hinted W.hinted W.marked }
+    requires size { length frame.now < 2 ^ 31 }
+    requires place { from ≤ length frame.now }
+    requires room { HasRoom AROUND frame.now from cells.old into }
+    requires shallow { depth ≤ 256 }
+    ensures kept { length cells.new ≡ length cells.old }
+    ensures place { IfSome result (λ x. (from ≤ x.read) × (x.read ≤ length frame.now)) }
+    ensures grows { IfSome result (λ x. Grows from into x.read x.written) }
+    ensures takes { IfSome result (λ x. (level : Level) → IsFlat level → K.means known (called_for (Some level)) → TakesRun (source_of R.begun R.reads_head R.reads R.reads_end R.value_place R.ahead) (target_of W.begun W.name_bar W.plain_head W.bar W.plain W.after) R.stands_at W.stands_at
+        schema.now level depth frame.now from kind size cells.old into cells.new x.read x.written) }
+{
     let mut at = from;
     let mut to = into;
     'elements: for i in 0..size {
@@ -569,13 +666,15 @@ fn take_elements<R: FormRead, W: FormWrite, K: Known>(
         at = reach.read;
         to = reach.written;
     }
-    let read = R::end(frame, at, container)?;
-    let written = W::end(cells, to, container);
-    Some(Reach { read, written })
+    Some(Reach {
+        read: at,
+        written: to,
+    })
 }
 
 /// Takes a map inside so many levels.
 #[cycle(body)]
+#[inline(always)]
 fn take_map<R: FormRead, W: FormWrite, K: Known>(
     known: K,
     schema: &Schema,

@@ -7,6 +7,7 @@ use protocol_traits::{Bar, Reason};
 
 impl Cause {
     /// The text that reports and answers print for it.
+    #[tactic(auto, unfolding(crate::specs::Texts::no_route_text))]
     pub fn text(&self) -> &'static [u8]
         ensures text { result.now ≡ cause_text self.now }
         ensures short { length result.now ≤ 17 }
@@ -14,16 +15,18 @@ impl Cause {
         match self {
             Cause::Grammar(fault) => reason_text(fault.reason),
             Cause::Barred { place: _, bar } => bar_text(*bar),
+            Cause::NoRoute => b"V1 no route",
         }
     }
 
-    /// The place in the frame of the first byte of the faulty item or of the barred value.
+    /// The place in the frame of the first byte of the faulty item or of the barred value; 0 where the cause has no place.
     pub fn place(&self) -> usize
         ensures { result ≡ place_of self.now }
     {
         match self {
             Cause::Grammar(fault) => fault.place,
             Cause::Barred { place, bar: _ } => *place,
+            Cause::NoRoute => 0,
         }
     }
 }

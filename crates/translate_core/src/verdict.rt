@@ -10,6 +10,8 @@ pub enum Cause {
     Grammar(Fault),
     /// It holds a value that the target's protocol can't hold, and its first byte stands at this place.
     Barred { place: usize, bar: Bar },
+    /// No target serves what its name asks for. A translation never tells it: who leads messages to several targets does.
+    NoRoute,
 }
 
 /// What a message's header says of it.

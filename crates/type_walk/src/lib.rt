@@ -16,7 +16,8 @@ mod walking;
 
 pub use levels::Level;
 pub use types::{
-    called_for, declared_in, declared_type, hint_at, in_list, in_map, in_set, in_struct, mark_at,
+    called_for, declared_in, declared_type, has_kind, hint_at, in_list, in_map, in_set, in_struct,
+    mark_at,
 };
 pub use undeclared::Undeclared;
 pub use walk::Walk;

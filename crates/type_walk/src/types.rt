@@ -63,7 +63,7 @@ pub fn declared_type(field: Option<&FieldInfo>) -> Ty
 /// Whether values of this type have this kind.
 #[inline(always)]
 #[tactic(auto, using(crate::proofs::Sound::rank_short))]
-fn has_kind(ty: Ty, kind: Kind) -> bool
+pub fn has_kind(ty: Ty, kind: Kind) -> bool
     ensures { result ≡ has_kind (kind_of ty) kind }
 {
     own_rank(ty) == rank(kind)

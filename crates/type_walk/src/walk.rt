@@ -2,6 +2,7 @@
 ghost use Rattle.std.specs.Prelude.{◌≡◌, ◌<◌, ◌≤◌, ◌↔◌, IsTrue, IfSome, length};
 ghost use Rattle.thrift_value.specs.Items.{item_of};
 ghost use Rattle.protocol_traits.specs.Follow.{depth_after};
+ghost use Rattle.type_tables.specs.Known.{IsKnown};
 ghost use Rattle.type_walk.specs.Positions.{start, hint_of, mark_of, after, inside_of};
 
 use crate::levels::{Level, Levels};
@@ -71,10 +72,20 @@ impl<'s> Walk<'s> {
         hint_at(self.here.next)
     }
 
+    /// The declared type of the value that stands next; `Ty::Unknown` where a field comes first.
+    #[inline(always)]
+    pub fn next(&self) -> Ty
+        ensures value { result ≡ self.now.next }
+        ensures known { IsKnown self.now.schema result }
+    {
+        self.here.next
+    }
+
     /// The declared struct of the struct in which the next event stands; None where it is unknown or the event stands
     /// in a container.
     pub fn inside(&self) -> Option<StructId>
-        ensures { result ≡ inside_of self.now }
+        ensures value { result ≡ inside_of self.now }
+        ensures known { IfSome result (λ s. s.0 < length self.now.schema.structs) }
     {
         if self.here.unknown > 0 {
             return None;

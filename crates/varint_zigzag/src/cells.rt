@@ -42,6 +42,21 @@ pub fn put_u32(cells: &mut [u8], to: usize, v: u32) -> usize
     put_short(cells, to, u64::from(v))
 }
 
+/// `put_u32` of a size or length. Nearly all have one byte, so a jump that is foreseen costs less than laying eight.
+#[inline(always)]
+pub fn put_size(cells: &mut [u8], to: usize, v: u32) -> usize
+    requires { to + 8 ≤ length cells.old }
+    ensures laid { take result cells.new ≡ take to cells.old ++ shortest v }
+    ensures place { result ≡ to + length (shortest v) }
+    ensures short { result ≤ to + 5 }
+{
+    if v < 128 {
+        put_one(cells, to, [v as u8]);
+        return to + 1;
+    }
+    put_u32(cells, to, v)
+}
+
 // Lays at most eight bytes.
 #[inline(always)]
 fn put_short(cells: &mut [u8], to: usize, v: u64) -> usize
@@ -78,6 +93,15 @@ fn put_word(cells: &mut [u8], to: usize, word: u64)
     ensures { cells.new ≡ take to cells.old ++ to_le_bytes w64 word ++ drop (to + 8) cells.old }
 {
     cells[to..to + WORD].copy_from_slice(&word.to_le_bytes());
+}
+
+// Lays one byte.
+#[inline(always)]
+fn put_one(cells: &mut [u8], to: usize, one: [u8; 1])
+    requires { to + 1 ≤ length cells.old }
+    ensures { cells.new ≡ take to cells.old ++ one ++ drop (to + 1) cells.old }
+{
+    cells[to..to + 1].copy_from_slice(&one);
 }
 
 // Lays two bytes.

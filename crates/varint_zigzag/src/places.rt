@@ -4,7 +4,7 @@ ghost use Rattle.std.specs.Simd.Lanes.{mask_l, number_l};
 ghost use Rattle.varint_zigzag.specs.Varint.{varint_at};
 ghost use Rattle.varint_zigzag.specs.Places.{found_at, is_last, IsFront, AreGroups};
 
-use crate::reading::{read_u16, read_u32, read_u64};
+use crate::reading::{read_u16, read_u32, read_u64, single};
 use std::simd::prelude::*;
 
 /// So many bytes are looked at together.
@@ -51,6 +51,20 @@ pub fn read_u32_at(bytes: &[u8], at: usize) -> Option<(u32, usize)>
         }
     }
     rest_u32(bytes, at)
+}
+
+/// `read_u32_at` of a size or length. Nearly all have one byte, so a jump that is foreseen costs less than looking at
+/// eight.
+#[inline(always)]
+pub fn read_size_at(bytes: &[u8], at: usize) -> Option<(u32, usize)>
+    requires { at ≤ length bytes.now }
+    ensures within { IfSome result (λ found. found.1 ≤ length bytes.now) }
+    ensures exact { result ≡ found_at at (varint_at 5 32 (drop at bytes.now)) }
+{
+    if let Some(number) = single(&bytes[at..]) {
+        return Some((u32::from(number), at + 1));
+    }
+    read_u32_at(bytes, at)
 }
 
 /// The number below 2^64 that stands at a place, of at most ten bytes, and the place behind it. It may be padded.

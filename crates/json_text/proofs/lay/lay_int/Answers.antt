@@ -1,18 +1,23 @@
-use Rattle.std.proofs.Common.{◌≡◌, ◌≤◌, length, arith, ap, ◌∙◌}
-use Rattle.std.specs.Fmt.{signed_decimal}
-use Rattle.std.specs.Int.{w64}
-use Rattle.std.proofs.lemmas.Fmt.{length_signed_le}
-use Rattle.std.proofs.lemmas.Int.{to_z-of_z}
+use Rattle.std.proofs.Common.{arith}
+use Rattle.std.proofs.lemmas.Fmt.{length-decimal-le}
 use Rattle.json_text.proofs.lay.lay_int.Goals as goal
 
-pub lay-requires : goal.lay-requires
-lay-requires c =
-    let digits : length (signed_decimal c.args.value) ≤ 20 = length_signed_le 19 c.args.value (omega (arith, c.ranges.value.sfits)) (omega (arith, c.ranges.value.sfits)) in
-    let text : length c.as_bytes.result.now ≡ length (signed_decimal c.args.value) = ap length (c.as_bytes.ensures.value ∙ rw (to_z-of_z w64 c.args.value c.ranges.value) at c.format.ensures.text) in
-    omega (arith, digits, text)
+pub lay_digits-requires : goal.lay_digits-requires
+lay_digits-requires c =
+    let few = length-decimal-le 19 c.unsigned_abs.result (omega arith) (omega (arith, c.unsigned_abs.ensures.bound)) (omega (arith, c.unsigned_abs.ensures.bound)) in
+    omega (arith, few, c.lay-digits.ensures.place)
+
+pub returns-then-value-lt0-clause-short : goal.returns-then-value-lt0-clause-short
+returns-then-value-lt0-clause-short c =
+    let few = length-decimal-le 19 c.unsigned_abs.result (omega arith) (omega (arith, c.unsigned_abs.ensures.bound)) (omega (arith, c.unsigned_abs.ensures.bound)) in
+    omega (arith, few, c.lay-digits.ensures.place, c.lay_digits.ensures.place)
+
+pub lay_digits-requires-2 : goal.lay_digits-requires-2
+lay_digits-requires-2 c =
+    let few = length-decimal-le 19 c.unsigned_abs-2.result (omega arith) (omega (arith, c.unsigned_abs-2.ensures.bound)) (omega (arith, c.unsigned_abs-2.ensures.bound)) in
+    omega (arith, few)
 
 pub returns-clause-short : goal.returns-clause-short
 returns-clause-short c =
-    let digits : length (signed_decimal c.args.value) ≤ 20 = length_signed_le 19 c.args.value (omega (arith, c.ranges.value.sfits)) (omega (arith, c.ranges.value.sfits)) in
-    let text : length c.as_bytes.result.now ≡ length (signed_decimal c.args.value) = ap length (c.as_bytes.ensures.value ∙ rw (to_z-of_z w64 c.args.value c.ranges.value) at c.format.ensures.text) in
-    omega (arith, digits, text, c.lay.ensures.place)
+    let few = length-decimal-le 19 c.unsigned_abs-2.result (omega arith) (omega (arith, c.unsigned_abs-2.ensures.bound)) (omega (arith, c.unsigned_abs-2.ensures.bound)) in
+    omega (arith, few, c.lay_digits-2.ensures.place)

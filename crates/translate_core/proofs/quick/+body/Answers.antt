@@ -25,7 +25,7 @@ take_fields-fields-init g t c =
       place = (omega arith, omega arith);
       kept = refl;
       grows = omega arith;
-      takes = λ ty up outer means deep. takes_none source target g.R.FormRead.stands_at g.W.FormWrite.stands_at c.args.frame.now (spot c.args.from c.args.opening (slots.Fields (pos 0) ∷ up) (standing d (in_struct ty ∷ outer))) c.args.cells.now c.args.into;
+      takes = λ ty up outer means deep. takes_none source target g.R.FormRead.stands_at g.W.FormWrite.stands_at c.args.frame.now (spot c.args.from c.args.opening (slots.Fields (pos 0) ∷ up) (standing d (in_struct ty ∷ outer))) c.args.cells.now c.args.into.now;
     }
 
 pub take_fields-returns-in-Stop-clause-takes : goal.take_fields-returns-in-Stop-clause-takes
@@ -40,7 +40,7 @@ take_fields-returns-in-Stop-clause-takes g t c ty means up outer deep =
     let steps = rw c.in-Stop.is at c.in_ok-lead.ensures.steps in
     takes_then source target g.R.FormRead.stands_at g.W.FormWrite.stands_at c.args.frame.now
     (spot c.args.from c.args.opening (slots.Fields (pos 0) ∷ up) p) (spot c.fields.at c.fields.opening nest p) (spot c.in_ok-lead.behind openings.Old up (standing d outer))
-    c.args.cells.now c.fields.cells c.stop-written.new.cells c.args.into c.fields.to c.stop-written.result
+    c.args.cells.now c.fields.cells c.stop-written.new.cells c.args.into.now c.fields.to c.stop-written.result
     (inv.takes ty up outer means deep)
     (takes_item source target g.R.FormRead.stands_at g.W.FormWrite.stands_at c.args.frame.now g.R.ReadRules.pays g.met.W.FormWrite.goes_on
     c.fields.at c.in_ok-lead.behind c.fields.opening nest p stop c.fields.cells c.stop-written.new.cells c.fields.to c.stop-written.result (omega arith)
@@ -64,7 +64,7 @@ take_fields-fields-preserved g t c =
           let p : Position = standing d (in_struct ty ∷ outer) in
           rw (to_z-of_z w16 c.in_ok-lead.id id_fits) (takes_then source target g.R.FormRead.stands_at g.W.FormWrite.stands_at c.args.frame.now
           (spot c.args.from c.args.opening (slots.Fields (pos 0) ∷ up) p) (spot c.fields.at c.fields.opening (slots.Fields last ∷ up) p) (spot c.in_ok-reach.reach.read openings.Old (slots.Fields c.in_ok-lead.id ∷ up) p)
-          c.args.cells.now c.fields.cells c.take_field.new.cells c.args.into c.fields.to c.in_ok-reach.reach.written
+          c.args.cells.now c.fields.cells c.take_field.new.cells c.args.into.now c.fields.to c.in_ok-reach.reach.written
           (inv.takes ty up outer means deep) (taken ty means up outer deep (λ hint. steps up hint c.in_default-lead.not-Bad)));
     }
 
@@ -135,10 +135,10 @@ take_level_field-returns-clause-takes g t c =
     let d = c.args.schema.now in
     let spells = rw (to_z-of_z w16 c.args.last c.ranges.last, to_z-of_z w16 c.args.id c.ranges.id) at c.field-value.ensures.spells in
     let next = rw (to_z-of_z w16 c.args.id c.ranges.id) at c.field-next.ensures.means in
-    if_some _ _ c.take_value.result (λ (x : Reach) whole ty means.
+    if_some _ _ c.take_level.result (λ (x : Reach) whole ty means.
     takes_field source target g.R.FormRead.stands_at g.W.FormWrite.stands_at c.args.frame.now g.R.ReadRules.pays g.met.W.FormWrite.goes_on
-    d ty c.args.depth c.args.at c.args.behind x.read c.args.opening c.args.last c.args.id c.args.kind c.args.cells.now c.field-value.new.cells c.take_value.new.cells c.args.to c.field-value.result x.written
-    spells (whole (field_type d (Some (in_struct ty)) c.args.id c.args.kind) (next ty means))) c.take_value.ensures.takes
+    d ty c.args.depth c.args.at c.args.behind x.read c.args.opening c.args.last c.args.id c.args.kind c.args.cells.now c.field-value.new.cells c.take_level.new.cells c.args.to c.field-value.result x.written
+    spells (whole (field_type d (Some (in_struct ty)) c.args.id c.args.kind) (next ty means))) c.take_level.ensures.takes
 
 pub take_value-returns-in-Str-clause-takes : goal.take_value-returns-in-Str-clause-takes
 take_value-returns-in-Str-clause-takes g t c =
@@ -155,15 +155,14 @@ take_value-returns-in_default g t c =
     }
 
 pub take_struct-returns-clause-takes : goal.take_struct-returns-clause-takes
-take_struct-returns-clause-takes g t c =
+take_struct-returns-clause-takes g t c ty means =
     let source = source_of g.R.ReadRules.begun g.R.ReadRules.reads_head g.R.ReadRules.reads g.R.ReadRules.reads_end g.R.ReadRules.value_place g.R.ReadRules.ahead in
     let target = target_of g.W.WireWrite.begun g.W.WireWrite.name_bar g.W.WireWrite.plain_head g.W.WireWrite.bar g.W.WireWrite.plain g.W.WireWrite.after in
     let d = c.args.schema.now in
-    if_some _ _ c.take_fields.result (λ (x : Reach) whole ty means.
     takes_level source target g.R.FormRead.stands_at g.W.FormWrite.stands_at c.args.frame.now g.R.ReadRules.pays g.met.W.FormWrite.goes_on
-    d ty c.args.depth c.args.at c.in_ok-read.read x.read c.args.stand kinds.Struct struct_begin (slots.Fields (pos 0)) (in_struct ty) c.args.cells.now c.struct_begin-written.new.cells c.take_fields.new.cells
-    c.args.to c.struct_begin-written.result x.written refl (λ nest. refl) (λ outer. refl) (omega arith)
-    c.in_ok-read.ensures.steps c.struct_begin-written.ensures.spells (λ up outer deep. whole ty means up outer deep)) c.take_fields.ensures.takes
+    d ty c.args.depth c.args.at c.in_ok-inside.inside c.in_ok-read.read c.args.stand kinds.Struct struct_begin (slots.Fields (pos 0)) (in_struct ty) c.args.cells.now c.struct_begin-written.new.cells c.take_fields.new.cells
+    c.args.to c.struct_begin-written.result c.take_fields.new.into refl (λ nest. refl) (λ outer. refl) (omega arith)
+    c.in_ok-inside.ensures.steps c.struct_begin-written.ensures.spells (λ up outer deep. c.in_ok-read.ensures.takes ty means up outer deep)
 
 pub take_list-take_elements-requires : goal.take_list-take_elements-requires
 take_list-take_elements-requires g t c =
@@ -210,8 +209,8 @@ take_list-returns-clause-takes g t c =
     c.in_ok-kind.ensures.steps c.in_ok-written.ensures.spells
     (λ up outer deep. whole (in_elements d container ty kind) (flat_elements d container ty kind) (c.element-element.ensures.means ty means) openings.New up outer deep)) c.take_elements.ensures.takes
 
-pub take_elements-elements-init : goal.take_elements-elements-init
-take_elements-elements-init g t c =
+pub run_of-elements-init : goal.run_of-elements-init
+run_of-elements-init g t c =
     let source = source_of g.R.ReadRules.begun g.R.ReadRules.reads_head g.R.ReadRules.reads g.R.ReadRules.reads_end g.R.ReadRules.value_place g.R.ReadRules.ahead in
     let target = target_of g.W.WireWrite.begun g.W.WireWrite.name_bar g.W.WireWrite.plain_head g.W.WireWrite.bar g.W.WireWrite.plain g.W.WireWrite.after in
     let d = c.args.schema.now in
@@ -229,8 +228,8 @@ take_elements-elements-init g t c =
           );
     }
 
-pub take_elements-elements-preserved : goal.take_elements-elements-preserved
-take_elements-elements-preserved g t c =
+pub run_of-elements-preserved : goal.run_of-elements-preserved
+run_of-elements-preserved g t c =
     let source = source_of g.R.ReadRules.begun g.R.ReadRules.reads_head g.R.ReadRules.reads g.R.ReadRules.reads_end g.R.ReadRules.value_place g.R.ReadRules.ahead in
     let target = target_of g.W.WireWrite.begun g.W.WireWrite.name_bar g.W.WireWrite.plain_head g.W.WireWrite.bar g.W.WireWrite.plain g.W.WireWrite.after in
     let d = c.args.schema.now in
@@ -257,24 +256,63 @@ take_elements-elements-preserved g t c =
           );
     }
 
+pub run_of-returns-clause-takes : goal.run_of-returns-clause-takes
+run_of-returns-clause-takes g t c level flat means opening up outer deep =
+    let source = source_of g.R.ReadRules.begun g.R.ReadRules.reads_head g.R.ReadRules.reads g.R.ReadRules.reads_end g.R.ReadRules.value_place g.R.ReadRules.ahead in
+    let target = target_of g.W.WireWrite.begun g.W.WireWrite.name_bar g.W.WireWrite.plain_head g.W.WireWrite.bar g.W.WireWrite.plain g.W.WireWrite.after in
+    let d = c.args.schema.now in
+    let before = c.elements.invariant.takes level opening up outer flat means deep in
+    let p : Position = standing d (level ∷ outer) in
+    let none : c.args.size - c.elements.i ≡ 0 = omega arith in
+    let first : Spot = spot c.args.from opening (slots.Elements c.args.kind c.args.size ∷ up) p in (
+      before.0,
+      subst (λ (left : ℕ). Takes source target g.R.FormRead.stands_at g.W.FormWrite.stands_at c.args.frame.now first (spot c.elements.at before.0 (slots.Elements c.args.kind left ∷ up) p) c.args.cells.now c.args.into c.elements.cells c.elements.to) none before.1,
+    )
+
+pub take_run-returns-in-Bool-clause-takes : goal.take_run-returns-in-Bool-clause-takes
+take_run-returns-in-Bool-clause-takes g t c = rw c.in-Bool.is c.run_of.ensures.takes
+
+pub take_run-returns-in-I8-clause-takes : goal.take_run-returns-in-I8-clause-takes
+take_run-returns-in-I8-clause-takes g t c = rw c.in-I8.is c.run_of-in-I8.ensures.takes
+
+pub take_run-returns-in-I16-clause-takes : goal.take_run-returns-in-I16-clause-takes
+take_run-returns-in-I16-clause-takes g t c = rw c.in-I16.is c.run_of-in-I16.ensures.takes
+
+pub take_run-returns-in-I32-clause-takes : goal.take_run-returns-in-I32-clause-takes
+take_run-returns-in-I32-clause-takes g t c = rw c.in-I32.is c.run_of-in-I32.ensures.takes
+
+pub take_run-returns-in-I64-clause-takes : goal.take_run-returns-in-I64-clause-takes
+take_run-returns-in-I64-clause-takes g t c = rw c.in-I64.is c.run_of-in-I64.ensures.takes
+
+pub take_run-returns-in-Double-clause-takes : goal.take_run-returns-in-Double-clause-takes
+take_run-returns-in-Double-clause-takes g t c = rw c.in-Double.is c.run_of-in-Double.ensures.takes
+
+pub take_run-returns-in-Uuid-clause-takes : goal.take_run-returns-in-Uuid-clause-takes
+take_run-returns-in-Uuid-clause-takes g t c = rw c.in-Uuid.is c.run_of-in-Uuid.ensures.takes
+
+pub take_run-returns-in-Str-clause-takes : goal.take_run-returns-in-Str-clause-takes
+take_run-returns-in-Str-clause-takes g t c = rw c.in-Str.is c.run_of-in-Str.ensures.takes
+
+pub take_run-returns-in-Struct-clause-takes : goal.take_run-returns-in-Struct-clause-takes
+take_run-returns-in-Struct-clause-takes g t c = rw c.in-Struct.is c.run_of-in-Struct.ensures.takes
+
 pub take_elements-returns-clause-takes : goal.take_elements-returns-clause-takes
 take_elements-returns-clause-takes g t c level flat means opening up outer deep =
     let source = source_of g.R.ReadRules.begun g.R.ReadRules.reads_head g.R.ReadRules.reads g.R.ReadRules.reads_end g.R.ReadRules.value_place g.R.ReadRules.ahead in
     let target = target_of g.W.WireWrite.begun g.W.WireWrite.name_bar g.W.WireWrite.plain_head g.W.WireWrite.bar g.W.WireWrite.plain g.W.WireWrite.after in
     let d = c.args.schema.now in
-    let inv = c.elements.invariant in
-    let before = inv.takes level opening up outer flat means deep in
+    let run = c.in_ok-reach.reach in
+    let before = c.in_ok-reach.ensures.takes level flat means opening up outer deep in
     let p : Position = standing d (level ∷ outer) in
-    let none : c.args.size - c.elements.i ≡ 0 = omega arith in
     let first : Spot = spot c.args.from opening (slots.Elements c.args.kind c.args.size ∷ up) p in
     let nest : List Slot = slots.Elements c.args.kind 0 ∷ up in
     let done = elements_done c.args.container c.args.kind up c.requires.no_map in
     takes_then source target g.R.FormRead.stands_at g.W.FormWrite.stands_at c.args.frame.now
-    first (spot c.elements.at before.0 nest p) (spot c.in_ok-read.read openings.Old up (standing d outer))
-    c.args.cells.now c.elements.cells c.end-written.new.cells c.args.into c.elements.to c.end-written.result
-    (subst (λ (left : ℕ). Takes source target g.R.FormRead.stands_at g.W.FormWrite.stands_at c.args.frame.now first (spot c.elements.at before.0 (slots.Elements c.args.kind left ∷ up) p) c.args.cells.now c.args.into c.elements.cells c.elements.to) none before.1)
+    first (spot run.read before.0 nest p) (spot c.in_ok-read.read openings.Old up (standing d outer))
+    c.args.cells.now c.take_run.new.cells c.end-written.new.cells c.args.into run.written c.end-written.result
+    before.1
     (takes_item source target g.R.FormRead.stands_at g.W.FormWrite.stands_at c.args.frame.now g.R.ReadRules.pays g.met.W.FormWrite.goes_on
-    c.elements.at c.in_ok-read.read before.0 nest p end c.elements.cells c.end-written.new.cells c.elements.to c.end-written.result (omega arith)
+    run.read c.in_ok-read.read before.0 nest p end c.take_run.new.cells c.end-written.new.cells run.written c.end-written.result (omega arith)
     (c.in_ok-read.ensures.steps before.0 nest (hint_of p) done) (c.end-written.ensures.spells before.0 nest (mark_of p end) done))
 
 pub take_map-returns-then-pairs-eq0-clause-takes : goal.take_map-returns-then-pairs-eq0-clause-takes

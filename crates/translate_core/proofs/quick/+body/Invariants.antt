@@ -14,25 +14,37 @@ use Rattle.translate_core.proofs.quick.+body.Given as goal
 
 -- one for each level that may still be opened, and within a level the order of the calls
 abbrev rank : ℕ → ℕ → ℕ
-rank depth step = 8 * (256 - depth) + step
-
-abbrev pub decreases-take_fields : goal.decreases-take_fields
-decreases-take_fields g l = rank l.depth 7
+rank depth step = 16 * (256 - depth) + step
 
 abbrev pub decreases-take_elements : goal.decreases-take_elements
-decreases-take_elements g l = rank l.depth 7
+decreases-take_elements g l = rank l.depth 12
+
+abbrev pub decreases-take_run : goal.decreases-take_run
+decreases-take_run g l = rank l.depth 11
+
+abbrev pub decreases-run_of : goal.decreases-run_of
+decreases-run_of g l = rank l.depth 10
 
 abbrev pub decreases-take_pairs : goal.decreases-take_pairs
-decreases-take_pairs g l = rank l.depth 7
+decreases-take_pairs g l = rank l.depth 10
+
+abbrev pub decreases-take_fields : goal.decreases-take_fields
+decreases-take_fields g l = rank l.depth 9
 
 abbrev pub decreases-take_field : goal.decreases-take_field
-decreases-take_field g l = rank l.depth 6
+decreases-take_field g l = rank l.depth 8
 
 abbrev pub decreases-take_level_field : goal.decreases-take_level_field
-decreases-take_level_field g l = rank l.depth 5
+decreases-take_level_field g l = rank l.depth 7
 
 abbrev pub decreases-take_value : goal.decreases-take_value
-decreases-take_value g l = rank l.depth 4
+decreases-take_value g l = rank l.depth 7
+
+abbrev pub decreases-call_level : goal.decreases-call_level
+decreases-call_level g l = rank l.depth 6
+
+abbrev pub decreases-take_level : goal.decreases-take_level
+decreases-take_level g l = rank l.depth 5
 
 abbrev pub decreases-take_list : goal.decreases-take_list
 decreases-take_list g l = rank l.depth 3
@@ -59,8 +71,8 @@ invariant-take_fields-fields g l =
           (spot l.at l.opening (slots.Fields l.last ∷ up) (standing l.schema (in_struct ty ∷ outer))) l.fn.cells l.fn.into l.cells l.to;
     }
 
-abbrev pub invariant-take_elements-elements : goal.invariant-take_elements-elements
-invariant-take_elements-elements g l =
+abbrev pub invariant-run_of-elements : goal.invariant-run_of-elements
+invariant-run_of-elements g l =
     let source = source_of g.R.ReadRules.begun g.R.ReadRules.reads_head g.R.ReadRules.reads g.R.ReadRules.reads_end g.R.ReadRules.value_place g.R.ReadRules.ahead in
     let target = target_of g.W.WireWrite.begun g.W.WireWrite.name_bar g.W.WireWrite.plain_head g.W.WireWrite.bar g.W.WireWrite.plain g.W.WireWrite.after in
     record {

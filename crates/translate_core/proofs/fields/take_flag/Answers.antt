@@ -2,7 +2,7 @@ use Rattle.std.proofs.Common.{w16}
 use Rattle.std.proofs.lemmas.Int.{to_z-of_z}
 use Rattle.translate_core.specs.Body.{source_of, target_of}
 use Rattle.translate_core.proofs.Levels.{takes_flag}
-use Rattle.translate_core.proofs.quick.take_flag.Goals as goal
+use Rattle.translate_core.proofs.fields.take_flag.Goals as goal
 
 pub returns-clause-takes : goal.returns-clause-takes
 returns-clause-takes g c d ty depth =

@@ -4,7 +4,7 @@ use Rattle.type_walk.specs.Positions.{field_type, in_struct}
 use Rattle.translate_core.specs.declared.leaves.Reach.{Reach}
 use Rattle.translate_core.specs.Body.{source_of, target_of}
 use Rattle.translate_core.proofs.Levels.{if_some, takes_field}
-use Rattle.translate_core.proofs.quick.take_leaf_field.Goals as goal
+use Rattle.translate_core.proofs.fields.take_leaf_field.Goals as goal
 
 pub returns-clause-takes : goal.returns-clause-takes
 returns-clause-takes g c =

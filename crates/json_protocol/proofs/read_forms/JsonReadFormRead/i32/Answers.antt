@@ -1,0 +1,16 @@
+use Rattle.std.proofs.Common.{arith, refl, rules, FitsSigned}
+use Rattle.std.specs.Int.{w32, w64}
+use Rattle.std.proofs.lemmas.Int.{to_z-of_z}
+use Rattle.thrift_value.specs.declared.kind.Kind.TheVariants as kinds
+use Rattle.thrift_value.specs.Items.{i32_value}
+use Rattle.protocol_traits.specs.declared.fault.Reason.TheVariants as reasons
+use Rattle.json_protocol.specs.ReadForms.{value_read, i32_there}
+use Rattle.json_protocol.proofs.read_forms.JsonReadFormRead.i32.Goals as goal
+
+pub returns-clause-steps : goal.returns-clause-steps
+returns-clause-steps c =
+    let v = c.in_ok-value in
+    let wide : FitsSigned w64 v.value = search rules in
+    let fits : FitsSigned w32 v.value = search (rules, v.ensures.range) in
+    rw (to_z-of_z w64 v.value wide, to_z-of_z w32 v.value fits)
+    (value_read c.args.frame.now c.args.at v.behind c.args.stand kinds.I32 (i32_value v.value) refl (i32_there c.args.frame.now c.args.at v.behind c.args.stand v.value (v.ensures.found reasons.BadNumber)))

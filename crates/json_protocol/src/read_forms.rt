@@ -1,0 +1,259 @@
+//! The reader's quick forms: one item at a place of a frame, by value.
+ghost use Rattle.std.specs.Prelude.{◌≡◌, ℕ, ℤ, pos, ◌+◌, ◌≤◌, ◌<◌, ◌^◌, List, [], ◌∷◌, length, true, Ok, IfSome};
+ghost use Rattle.std.specs.Int.{w64, to_be_bytes};
+ghost use Rattle.thrift_value.specs.declared.kind.Kind.{Kind};
+ghost use Rattle.thrift_value.specs.Items.{field, bool_value, i8_value, i16_value, i32_value, i64_value, double_value, text, struct_begin, end, uuid_value};
+ghost use Rattle.protocol_traits.specs.declared.forms.Container.{Container};
+ghost use Rattle.protocol_traits.specs.declared.forms.Lead.{Lead};
+ghost use Rattle.protocol_traits.specs.declared.forms.Opening.{Opening};
+ghost use Rattle.protocol_traits.specs.declared.nest.Slot.{Slot};
+ghost use Rattle.protocol_traits.specs.declared.nest.Slot.TheVariants.{Fields};
+ghost use Rattle.protocol_traits.specs.declared.proto.Hint.{Hint};
+ghost use Rattle.protocol_traits.specs.Forms.{lead_item, elements_item, container_kind, pairs_item, part, Calls, IsDone, IsPast, Steps, StepsTwice, StepsValue, StepsInto};
+ghost use Rattle.protocol_traits.specs.Heads.{header_of};
+ghost use Rattle.json_protocol.specs.Reading.{State, begun, reads};
+ghost use Rattle.json_protocol.specs.Head.{reads_head};
+ghost use Rattle.json_protocol.specs.Values.{value_at};
+ghost use Rattle.json_protocol.specs.WriteForms.{stand_key};
+ghost use Rattle.json_protocol.specs.ReadForms.{Valued, stands_at, whole_ends};
+
+use crate::head::front_of;
+use crate::places::{behind_mark, value_place, whole_value};
+use crate::reader::JsonRead;
+use crate::starts::{
+    behind_container, behind_stop, field_head, field_place, lead_of, lead_place, no_pairs_behind,
+    pairs_start, sequence_start,
+};
+use json_text::plain_text;
+use protocol_traits::{Container, FormRead, Head, Hint, Lead, Opening, Pairs, Span, Stand, UUID};
+use thrift_value::Kind;
+
+impl<'f> FormRead for JsonRead<'f> {
+    ghost stands_at = { stands_at };
+
+    ghost hinted = { true };
+
+    ghost ended = { whole_ends };
+
+    #[inline(always)]
+    fn is_hinted() -> bool
+        ensures { result ≡ true }
+    {
+        true
+    }
+
+    #[inline(always)]
+    fn front(frame: &[u8]) -> Option<(Head<'_>, usize)>
+        requires { length frame.now < 2 ^ 31 }
+        ensures reads { IfSome result (λ x. (new : State) × (reads_head (begun frame.now) ≡ Ok (header_of x.0, new)) × stands_at new frame.now x.1 Opening.Body (Fields (pos 0) ∷ [])) }
+        ensures sized { IfSome result (λ x. length x.0.name.now < 2 ^ 31) }
+        ensures place { IfSome result (λ x. (length x.0.name.now ≤ x.1) × (x.1 ≤ length frame.now)) }
+    {
+        let (head, behind) = front_of(frame)?;
+        Some((head, behind))
+    }
+
+    #[inline(always)]
+    fn next_field(
+        frame: &[u8],
+        at: usize,
+        opening: Opening,
+        last: i16,
+    ) -> Option<(Lead, i16, usize)>
+        requires { at ≤ length frame.now }
+        ensures past { IfSome result (λ x. (x.0 ≡ Lead.Bad → ⊥) → IsPast at frame.now x.2) }
+        ensures steps { IfSome result (λ x. (up : List Slot) (hint : Hint) → (x.0 ≡ Lead.Bad → ⊥) → Steps reads stands_at frame.now at opening (Fields last ∷ up) hint (lead_item x.0 x.1) x.2) }
+    {
+        let begin = lead_place(frame, at, opening)?;
+        if frame[begin] == b'}' {
+            let behind = behind_stop(frame, begin)?;
+            return Some((Lead::Stop, 0, behind));
+        }
+        let place = field_place(frame, begin, opening)?;
+        let (id, kind, behind) = field_head(frame, place)?;
+        Some((lead_of(kind), id, behind))
+    }
+
+    #[inline(always)]
+    fn flag(frame: &[u8], at: usize, behind: usize, opening: Opening) -> Option<(bool, usize)>
+        requires { IsPast at frame.now behind }
+        ensures past { IfSome result (λ x. IsPast at frame.now x.1) }
+        ensures steps { IfSome result (λ x. (id : ℤ) (last : ℤ) (up : List Slot)
+            → ((hint : Hint) → Steps reads stands_at frame.now at opening (Fields last ∷ up) hint (field id Kind.Bool) behind)
+            → StepsTwice reads stands_at frame.now at opening (Fields last ∷ up) (field id Kind.Bool) (bool_value x.0) x.1) }
+    {
+        let (value, behind) = whole_value(frame, behind, Stand::Field, 0, 1)?;
+        Some((value > 0, behind))
+    }
+
+    #[inline(always)]
+    fn bool(frame: &[u8], at: usize, stand: Stand) -> Option<(bool, usize)>
+        requires place { at ≤ length frame.now }
+        requires apart { stand ≡ Stand.Field → ⊥ }
+        ensures past { IfSome result (λ x. IsPast at frame.now x.1) }
+        ensures steps { IfSome result (λ x. StepsValue reads stands_at frame.now at stand Kind.Bool (bool_value x.0) x.1) }
+    {
+        let (value, behind) = whole_value(frame, at, stand, 0, 1)?;
+        Some((value > 0, behind))
+    }
+
+    #[inline(always)]
+    fn i8(frame: &[u8], at: usize, stand: Stand) -> Option<(i8, usize)>
+        requires { at ≤ length frame.now }
+        ensures past { IfSome result (λ x. IsPast at frame.now x.1) }
+        ensures steps { IfSome result (λ x. StepsValue reads stands_at frame.now at stand Kind.I8 (i8_value x.0) x.1) }
+    {
+        let (value, behind) = whole_value(frame, at, stand, -128, 127)?;
+        Some((value as i8, behind))
+    }
+
+    #[inline(always)]
+    fn i16(frame: &[u8], at: usize, stand: Stand) -> Option<(i16, usize)>
+        requires { at ≤ length frame.now }
+        ensures past { IfSome result (λ x. IsPast at frame.now x.1) }
+        ensures steps { IfSome result (λ x. StepsValue reads stands_at frame.now at stand Kind.I16 (i16_value x.0) x.1) }
+    {
+        let (value, behind) = whole_value(frame, at, stand, -32768, 32767)?;
+        Some((value as i16, behind))
+    }
+
+    #[inline(always)]
+    fn i32(frame: &[u8], at: usize, stand: Stand) -> Option<(i32, usize)>
+        requires { at ≤ length frame.now }
+        ensures past { IfSome result (λ x. IsPast at frame.now x.1) }
+        ensures steps { IfSome result (λ x. StepsValue reads stands_at frame.now at stand Kind.I32 (i32_value x.0) x.1) }
+    {
+        let (value, behind) = whole_value(frame, at, stand, -2147483648, 2147483647)?;
+        Some((value as i32, behind))
+    }
+
+    #[inline(always)]
+    fn i64(frame: &[u8], at: usize, stand: Stand) -> Option<(i64, usize)>
+        requires { at ≤ length frame.now }
+        ensures past { IfSome result (λ x. IsPast at frame.now x.1) }
+        ensures steps { IfSome result (λ x. StepsValue reads stands_at frame.now at stand Kind.I64 (i64_value x.0) x.1) }
+    {
+        let (value, behind) = whole_value(
+            frame,
+            at,
+            stand,
+            -9223372036854775808,
+            9223372036854775807,
+        )?;
+        Some((value, behind))
+    }
+
+    #[inline(always)]
+    fn double(_frame: &[u8], _at: usize, _stand: Stand) -> Option<(u64, usize)>
+        requires { _at ≤ length _frame.now }
+        ensures past { IfSome result (λ x. IsPast _at _frame.now x.1) }
+        ensures steps { IfSome result (λ x. StepsValue reads stands_at _frame.now _at _stand Kind.Double (double_value (to_be_bytes w64 x.0)) x.1) }
+    {
+        None
+    }
+
+    #[inline(always)]
+    fn uuid(_frame: &[u8], _at: usize, _stand: Stand) -> Option<Span>
+        requires { _at ≤ length _frame.now }
+        ensures past { IfSome result (λ x. IsPast _at _frame.now x.behind) }
+        ensures part { IfSome result (λ x. (x.begin + UUID ≡ x.end) × (x.end ≤ x.behind)) }
+        ensures steps { IfSome result (λ x. StepsValue reads stands_at _frame.now _at _stand Kind.Uuid (uuid_value (part _frame.now x.begin x.end)) x.behind) }
+    {
+        None
+    }
+
+    #[inline(always)]
+    fn text(frame: &[u8], at: usize, stand: Stand, hint: Hint) -> Option<Span>
+        requires { at ≤ length frame.now }
+        ensures past { IfSome result (λ x. IsPast at frame.now x.behind) }
+        ensures part { IfSome result (λ x. (at < x.begin) × (x.begin ≤ x.end) × (x.end ≤ x.behind)) }
+        ensures steps { IfSome result (λ x. (opening : Opening) (nest : List Slot) (known : Hint) → (true ≡ true → known ≡ hint)
+            → Calls stand Kind.Str opening nest → Steps reads stands_at frame.now at opening nest known (text (part frame.now x.begin x.end)) x.behind) }
+    {
+        if means_text(hint) {
+            let span = plain_string(frame, at, stand)?;
+            return Some(span);
+        }
+        None
+    }
+
+    #[inline(always)]
+    fn struct_begin(frame: &[u8], at: usize, stand: Stand) -> Option<usize>
+        requires { at ≤ length frame.now }
+        ensures within { IfSome result (λ x. (at ≤ x) × (x ≤ length frame.now)) }
+        ensures steps { IfSome result (λ x. StepsInto reads stands_at frame.now at stand Kind.Struct struct_begin x) }
+    {
+        let place = value_place(frame, at, stand)?;
+        let behind = behind_mark(frame, place, b'{')?;
+        Some(behind)
+    }
+
+    #[inline(always)]
+    fn elements(
+        frame: &[u8],
+        at: usize,
+        stand: Stand,
+        container: Container,
+    ) -> Option<(Kind, u32, usize)>
+        requires place { at ≤ length frame.now }
+        requires no_map { container ≡ Container.Map → ⊥ }
+        ensures past { IfSome result (λ x. IsPast at frame.now x.2) }
+        ensures steps { IfSome result (λ x. StepsInto reads stands_at frame.now at stand (container_kind container) (elements_item container x.0 x.1) x.2) }
+    {
+        let place = value_place(frame, at, stand)?;
+        let (kind, size, behind) = sequence_start(frame, place)?;
+        Some((kind, size, behind))
+    }
+
+    #[inline(always)]
+    fn pairs(frame: &[u8], at: usize, stand: Stand) -> Option<Pairs>
+        requires { at ≤ length frame.now }
+        ensures past { IfSome result (λ x. IsPast at frame.now x.behind) }
+        ensures long { IfSome result (λ x. 0 < x.size → at + 2 ≤ x.behind) }
+        ensures steps { IfSome result (λ x. StepsInto reads stands_at frame.now at stand Kind.Map (pairs_item x.key x.value x.size) x.behind) }
+    {
+        let place = value_place(frame, at, stand)?;
+        let pairs = pairs_start(frame, place)?;
+        if pairs.size > 0 {
+            return Some(pairs);
+        }
+        let behind = no_pairs_behind(frame, pairs.behind)?;
+        Some(Pairs { behind, ..pairs })
+    }
+
+    #[inline(always)]
+    fn end(frame: &[u8], at: usize, container: Container) -> Option<usize>
+        requires { at ≤ length frame.now }
+        ensures within { IfSome result (λ x. (at ≤ x) × (x ≤ length frame.now)) }
+        ensures steps { IfSome result (λ x. (opening : Opening) (nest : List Slot) (hint : Hint) → IsDone container nest → Steps reads stands_at frame.now at opening nest hint end x) }
+    {
+        let behind = behind_container(frame, at, container)?;
+        Some(behind)
+    }
+}
+
+/// Whether a string is read as text.
+#[inline(always)]
+fn means_text(hint: Hint) -> bool
+    ensures { result ≡ true → hint ≡ Hint.Text }
+{
+    matches!(hint, Hint::Text)
+}
+
+/// A string of text without escapes.
+#[inline(always)]
+fn plain_string(frame: &[u8], at: usize, stand: Stand) -> Option<Span>
+    requires { at ≤ length frame.now }
+    ensures past { IfSome result (λ x. IsPast at frame.now x.behind) }
+    ensures part { IfSome result (λ x. (at < x.begin) × (x.begin ≤ x.end) × (x.end ≤ x.behind)) }
+    ensures found { IfSome result (λ x. Valued frame.now at stand (value_at (stand_key stand) Hint.Text Kind.Str) (text (part frame.now x.begin x.end)) x.behind) }
+{
+    let place = value_place(frame, at, stand)?;
+    let end = plain_text(frame, place)?;
+    let behind = behind_mark(frame, end, b'"')?;
+    Some(Span {
+        begin: place + 1,
+        end,
+        behind,
+    })
+}

@@ -1,0 +1,217 @@
+//! A message for one that serves a single service: the name before the method's tells whom it is for, and is left out.
+//!
+//! After Apache Thrift's TMultiplexedProtocol and its TMultiplexedProcessor.
+ghost use Rattle.std.specs.Prelude.{◌≡◌, ℕ, ◌+◌, ◌*◌, ◌≤◌, ◌^◌, ◌<◌, List, ◌++◌, [], length, Option, is_some, if◌then◌else◌, None, IfSome, IfOk, IfErr, FitsSigned};
+ghost use Rattle.std.specs.Int.{w32};
+ghost use Rattle.protocol_traits.specs.Heads.{header_of};
+ghost use Rattle.protocol_traits.specs.Room.{head_weight};
+ghost use Rattle.protocol_traits.specs.Steps.{seen, IsFree};
+ghost use Rattle.type_walk.specs.Positions.{start};
+ghost use Rattle.translate_core.specs.declared.verdict.Verdict.TheVariants.{Passed};
+ghost use Rattle.translate_core.specs.Positions.{typed};
+ghost use Rattle.translate_core.specs.Routes.{IsKnownRoute, info_of, start_of};
+ghost use Rattle.translate_core.specs.Body.{first_cause, source_of, target_of, going, whole};
+ghost use Rattle.translate_core.specs.Judged.{IsJudged, IsLeft, after_body, body_bytes, kept};
+ghost use Rattle.translate_core.specs.Methods.{method_header, judge_method, name_in, target_of_name};
+
+use crate::answering::spellable;
+use crate::body::first_cause;
+use crate::message::{keep, verdict_by};
+use crate::passing::append_body;
+use crate::route::{Route, told_of};
+use crate::verdict::{HeadInfo, Verdict};
+use gate_io::Out;
+use multiplex_names::split;
+use protocol_traits::{Bar, FormRead, FormWrite, Head, WireRead, WireWrite};
+use type_tables::Schema;
+
+/// Whoever knows which of several targets serves a service.
+pub trait Services {
+    /// The target, from 0, that serves a service.
+    ghost serves: { Self → List ℕ → Option ℕ };
+
+    /// The target, from 0, that serves a service; None where there is none.
+    fn target(&self, service: &[u8]) -> Option<usize>
+        ensures { result ≡ serves self.now service.now };
+}
+
+/// The target that serves what a frame's name asks for. None: the frame's header isn't whole, no service stands before the
+/// method's name, or none serves it.
+///
+/// `room` is the reader's, at least as long as the frame.
+pub fn served<'f, R: WireRead<'f>, S: Services>(
+    services: &S,
+    frame: &'f [u8],
+    room: &'f mut [u8],
+) -> Option<usize>
+    requires room { length frame.now ≤ length room.old }
+    requires size { length frame.now < 2 ^ 31 }
+    ensures { result ≡ target_of_name (S.serves services.now) (name_in (R.reads_head (R.begun frame.now))) }
+{
+    let mut reader = R::over(frame, room);
+    match reader.head() {
+        Ok(head) => target_of(services, &head),
+        Err(_) => None,
+    }
+}
+
+/// The target that serves what a header's name asks for.
+fn target_of<S: Services>(services: &S, head: &Head<'_>) -> Option<usize>
+    ensures { result ≡ target_of_name (S.serves services.now) (Option.Some head.now.name.now) }
+{
+    match split(head.name).0 {
+        Some(service) => services.target(service),
+        None => None,
+    }
+}
+
+/// Translates a frame as `translate` does, with the method's name alone in the header that is written.
+///
+/// A name that the writer's protocol can't hold is barred as it came.
+#[inline(never)]
+pub fn translate_method<'f, R: WireRead<'f>, W: WireWrite>(
+    schema: &Schema,
+    route: Route,
+    frame: &'f [u8],
+    room: &'f mut [u8],
+    out: &mut Out,
+) -> Verdict
+    requires known { IsKnownRoute schema.now route }
+    requires room { length frame.now ≤ length room.old }
+    requires size { length frame.now < 2 ^ 31 }
+    requires nameless { W.name_bar [] ≡ None }
+    requires fits { length out.old.bytes + (24 * length frame.now + 256) ≤ out.old.room }
+    ensures exact { IsJudged result out.old.bytes out.new.bytes
+        (judge_method (source_of R.begun R.reads_head R.reads R.reads_end R.value_place R.ahead) typed (start_of schema.now route) (info_of schema.now route)
+        (target_of W.begun W.name_bar W.plain_head W.bar W.plain W.after) frame.now) }
+    ensures left { IsLeft result out.old.bytes out.new.bytes }
+    ensures room { out.new.room ≡ out.old.room }
+    ensures short { length out.new.bytes ≤ length out.old.bytes + (24 * length frame.now + 256) }
+{
+    let start = out.bytes().len();
+    let mut reader = R::over(frame, room);
+    let mut writer = W::over();
+    let (told, bar) = match reader.head() {
+        Ok(head) => {
+            let told = told_of(schema, route, &head);
+            (told, pass_method(&mut writer, head, out))
+        }
+        Err(fault) => return Verdict::Unread(fault),
+    };
+    let barred = first_cause(None, bar, reader.place());
+    let verdict = verdict_by(schema, told, &mut reader, &mut writer, barred, out);
+    keep(&verdict, start, out);
+    verdict
+}
+
+/// Writes the header with the method's name alone, unless its whole name is barred.
+fn pass_method<W: WireWrite>(writer: &mut W, head: Head<'_>, out: &mut Out) -> Option<Bar>
+    requires sized { length head.name.now < 2 ^ 31 }
+    requires nameless { W.name_bar [] ≡ None }
+    requires room { length out.old.bytes + head_weight (length head.name.now) ≤ out.old.room }
+    ensures found { result ≡ W.name_bar head.entry.name.now }
+    ensures state { writer.new ≡ writer.old }
+    ensures out { out.new ≡ record out.old { bytes = if is_some (W.name_bar head.entry.name.now) then out.old.bytes else out.old.bytes ++ W.plain_head (method_header W.name_bar (header_of head.entry)) } }
+    ensures short { length out.new.bytes ≤ length out.old.bytes + head_weight (length head.entry.name.now) }
+{
+    match W::takes_name(head.name) {
+        Ok(()) => {
+            writer.head(&method_head::<W>(&head), out);
+            None
+        }
+        Err(bar) => Some(bar),
+    }
+}
+
+/// The same header with the method's name alone.
+fn method_head<'a, W: WireWrite>(head: &Head<'a>) -> Head<'a>
+    requires nameless { W.name_bar [] ≡ None }
+    ensures header { header_of result ≡ method_header W.name_bar (header_of head.now) }
+    ensures taken { W.name_bar result.name.now ≡ None }
+    ensures short { length result.name.now ≤ length head.now.name.now }
+{
+    Head {
+        name: spellable::<W>(split(head.name).1),
+        mtype: head.mtype,
+        seq: head.seq,
+    }
+}
+
+/// The same, by the quick way where it leads to the end, and else event by event.
+pub fn translate_method_quickly<'f, R: WireRead<'f> + FormRead, W: FormWrite>(
+    schema: &Schema,
+    route: Route,
+    frame: &'f [u8],
+    room: &'f mut [u8],
+    out: &mut Out,
+) -> Verdict
+    requires known { IsKnownRoute schema.now route }
+    requires room { length frame.now ≤ length room.old }
+    requires size { length frame.now < 2 ^ 31 }
+    requires nameless { W.name_bar [] ≡ None }
+    requires fits { length out.old.bytes + (24 * length frame.now + 256) ≤ out.old.room }
+    ensures exact { IsJudged result out.old.bytes out.new.bytes
+        (judge_method (source_of R.begun R.reads_head R.reads R.reads_end R.value_place R.ahead) typed (start_of schema.now route) (info_of schema.now route)
+        (target_of W.begun W.name_bar W.plain_head W.bar W.plain W.after) frame.now) }
+    ensures left { IsLeft result out.old.bytes out.new.bytes }
+    ensures room { out.new.room ≡ out.old.room }
+    ensures short { length out.new.bytes ≤ length out.old.bytes + (24 * length frame.now + 256) }
+{
+    match pass_method_quickly::<R, W>(schema, route, frame, out) {
+        Some(info) => Verdict::Passed(info),
+        None => translate_method::<R, W>(schema, route, frame, room, out),
+    }
+}
+
+/// Appends a message's translation with the method's name alone, and tells what its header says; or leaves the output as it
+/// was, which says nothing of the frame.
+fn pass_method_quickly<R: FormRead, W: FormWrite>(
+    schema: &Schema,
+    route: Route,
+    frame: &[u8],
+    out: &mut Out,
+) -> Option<HeadInfo>
+    requires known { IsKnownRoute schema.now route }
+    requires size { length frame.now < 2 ^ 31 }
+    requires nameless { W.name_bar [] ≡ None }
+    requires fits { length out.old.bytes + (24 * length frame.now + 256) ≤ out.old.room }
+    ensures left { result ≡ None → out.new ≡ out.old }
+    ensures room { out.new.room ≡ out.old.room }
+    ensures short { length out.new.bytes ≤ length out.old.bytes + (24 * length frame.now + 256) }
+    ensures passes { IfSome result (λ info. IsJudged (Passed info) out.old.bytes out.new.bytes
+        (judge_method (source_of R.begun R.reads_head R.reads R.reads_end R.value_place R.ahead) typed (start_of schema.now route) (info_of schema.now route)
+        (target_of W.begun W.name_bar W.plain_head W.bar W.plain W.after) frame.now)) }
+{
+    let start = out.bytes().len();
+    let (head, at) = R::front(frame)?;
+    let told = told_of(schema, route, &head);
+    match append_method::<W>(head, out) {
+        Ok(()) => {
+            if append_body::<R, W>(schema, told.body, frame, at, out) {
+                return Some(told.info);
+            }
+            out.cut(start);
+            None
+        }
+        Err(_) => None,
+    }
+}
+
+/// Appends a header with the method's name alone, unless its whole name is barred.
+fn append_method<W: FormWrite>(head: Head<'_>, out: &mut Out) -> Result<(), Bar>
+    requires sized { length head.name.now < 2 ^ 31 }
+    requires nameless { W.name_bar [] ≡ None }
+    requires room { length out.old.bytes + head_weight (length head.name.now) ≤ out.old.room }
+    ensures free { IsFree result (W.name_bar head.entry.name.now) }
+    ensures out { IfOk result (λ _. out.new ≡ record out.old { bytes = out.old.bytes ++ W.plain_head (method_header W.name_bar (header_of head.entry)) }) }
+    ensures left { IfErr result (λ _. out.new ≡ out.old) }
+    ensures short { length out.new.bytes ≤ length out.old.bytes + head_weight (length head.entry.name.now) }
+{
+    match W::takes_name(head.name) {
+        Ok(()) => {
+            W::front(&method_head::<W>(&head), out);
+            Ok(())
+        }
+        Err(bar) => Err(bar),
+    }
+}
