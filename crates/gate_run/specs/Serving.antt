@@ -35,7 +35,7 @@ setting_by s d service = record { declarations = d; service = service; client = 
 
 -- the rules of each session, its most bytes of a frame and open calls, how many may be open, and how much may be spent
 abbrev pub settings : Serving → Declarations → Option ServiceId → Sessions
-settings s d service = record { rules = rules_of (setting_by s d service); limit = s.limit; most = s.calls; sessions = s.sessions; events = s.events }
+settings s d service = record { rules = rules_of (setting_by s d service); limit = s.limit; max_calls = s.calls; sessions = s.sessions; events = s.events }
 
 -- this last line was reported, or a front of it where the report failed
 pub record Reports (line : List ℕ) (a b : Streams) : Type 0 where

@@ -3,9 +3,9 @@ ghost use Rattle.std.specs.Prelude.{◌≡◌, ◌≤◌, ◌<◌, ◌^◌, IfOk
 ghost use Rattle.gate_run.specs.Outcome.{streams};
 ghost use Rattle.gate_run.specs.Checking.{Checks, ok_text};
 
-use crate::lines::push_number;
 use crate::start::{NoStart, halt, read};
 use crate::status::{Ending, say};
+use decimal_words::push_number;
 use gate_base::OutOfMemory;
 use gate_io::{Files, Out, Sink};
 use std::alloc::Global;

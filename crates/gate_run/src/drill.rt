@@ -3,8 +3,8 @@ ghost use Rattle.std.specs.Prelude.{◌≡◌, ◌≤◌, [], ℕ, List, Option}
 ghost use Rattle.gate_run.specs.Drilling.{Drills, drill_text};
 ghost use Rattle.gate_run.specs.Outcome.{streams};
 
-use crate::lines::push_number;
 use crate::status::{Ending, end_with, say};
+use decimal_words::push_number;
 use drill_messages::{Drilled, Totals, drill};
 use gate_io::{Out, Sink};
 use gate_words::{Drilling, MOST_MESSAGES};

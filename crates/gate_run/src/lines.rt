@@ -2,27 +2,14 @@
 ghost use Rattle.std.specs.Prelude.{◌≡◌, ◌+◌, ◌≤◌, ◌++◌, length, decimal, codes};
 ghost use Rattle.gate_run.specs.Lines.{refusal_text, too_large_text, left_text};
 
+use decimal_words::push_number;
 use gate_io::Out;
-use itoa::{Buffer, Integer};
 
 /// The room for each line.
 pub const LINE_ROOM: usize = 128;
 
-/// The room for a number in digits.
-const NUMBER_ROOM: usize = 40;
-
 /// The longest text of a cause.
 const LONGEST_CAUSE: usize = 17;
-
-/// Appends a number in digits.
-pub fn push_number<I: Integer>(line: &mut Out, number: I)
-    requires { length line.old.bytes + NUMBER_ROOM ≤ line.old.room }
-    ensures text { line.new ≡ record line.old { bytes = line.old.bytes ++ I.text number } }
-    ensures short { length line.new.bytes ≤ length line.old.bytes + NUMBER_ROOM }
-{
-    let mut digits = Buffer::new();
-    line.push(digits.format(number).as_bytes());
-}
 
 /// Appends that a frame was refused, at which place of it, and why.
 #[tactic(auto, unfolding(crate::specs::Lines::refusal_text))]

@@ -1,3 +1,2 @@
 -- Lemmas.
-pub mod Numerals
 pub mod Reading

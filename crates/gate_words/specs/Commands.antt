@@ -1,8 +1,9 @@
 -- The commands, as their words name them.
 use Rattle.std.specs.Prelude.{ℕ, ◌≤◌, List, [], ◌∷◌, Option, Some, None, Bool, if◌then◌else◌, codes, ⊤}
 use Rattle.protocol_traits.specs.declared.proto.Proto.{Proto}
-use Rattle.gate_words.specs.Same.{is, is_empty, or_else}
-use Rattle.gate_words.specs.Numbers.{number_of, within}
+use Rattle.decimal_words.specs.Same.{is}
+use Rattle.gate_words.specs.Same.{is_empty, or_else}
+use Rattle.decimal_words.specs.Numbers.{number_of, within}
 use Rattle.gate_words.specs.Protos.{proto_of}
 use Rattle.gate_words.specs.Options.{no_options, options_of, is_server_alone}
 use Rattle.gate_words.specs.Serving.{serve_of}

@@ -1,7 +1,8 @@
 -- The options of a command: pairs of a name and a value, in any order, each at most once.
 use Rattle.std.specs.Prelude.{ℕ, ◌||◌, ◌≤◌, List, [], ◌∷◌, Option, Some, None, is_some, IfSome, Bool, if◌then◌else◌, codes}
-use Rattle.gate_words.specs.Same.{is, is_empty}
-use Rattle.gate_words.specs.Numbers.{number_of, within}
+use Rattle.decimal_words.specs.Same.{is}
+use Rattle.gate_words.specs.Same.{is_empty}
+use Rattle.decimal_words.specs.Numbers.{number_of, within}
 use Rattle.gate_words.specs.declared.options.Options.{Options}
 use Rattle.gate_words.specs.declared.limits.TheConstants.{LEAST_LIMIT, GREATEST_LIMIT, MOST_SESSIONS, MOST_ACCEPTED, MOST_EVENTS, MOST_CALLS}
 

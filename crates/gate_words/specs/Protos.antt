@@ -2,7 +2,7 @@
 use Rattle.std.specs.Prelude.{ℕ, List, Option, Some, None, if◌then◌else◌, codes}
 use Rattle.protocol_traits.specs.declared.proto.Proto.{Proto}
 use Rattle.protocol_traits.specs.declared.proto.Proto.TheVariants as protocols
-use Rattle.gate_words.specs.Same.{is}
+use Rattle.decimal_words.specs.Same.{is}
 
 -- the protocol of this name
 unfoldable pub proto_of : List ℕ → Option Proto

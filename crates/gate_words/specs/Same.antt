@@ -1,9 +1,5 @@
--- Whether two words are the same, and what stands for one that is missing.
-use Rattle.std.specs.Prelude.{ℕ, List, [], ◌∷◌, Option, Some, None, Bool, true, false, nat_eq}
-use Rattle.std.specs.Cmp.Lexicographic.{pointwise}
-
-abbrev pub is : List ℕ → List ℕ → Bool
-is word other = pointwise nat_eq word other
+-- Words that are empty, and what stands for a number that is missing.
+use Rattle.std.specs.Prelude.{ℕ, List, [], ◌∷◌, Option, Some, None, Bool, true, false}
 
 abbrev pub is_empty : List ℕ → Bool
 is_empty [] = true

@@ -3,7 +3,7 @@ use Rattle.std.specs.Prelude.{ℕ, ◌+◌, ◌*◌, ◌&&◌, List, [], ◌∷�
 use Rattle.protocol_traits.specs.declared.proto.Proto.{Proto}
 use Rattle.gate_words.specs.Same.{or_else}
 use Rattle.gate_words.specs.Protos.{proto_of}
-use Rattle.gate_words.specs.Addresses.{is_address}
+use Rattle.decimal_words.specs.Addresses.{is_address}
 use Rattle.gate_words.specs.Options.{no_options, options_of}
 use Rattle.gate_words.specs.declared.command.Command.{Command}
 use Rattle.gate_words.specs.declared.command.Command.TheVariants as commands

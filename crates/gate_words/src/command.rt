@@ -5,9 +5,9 @@ ghost use Rattle.gate_words.specs.Commands.{command, check_of, convert_of, conve
 ghost use Rattle.gate_words.specs.Options.{IsInRange as AreInRange};
 
 use crate::limits::{DEFAULT_LIMIT, MOST_MESSAGES};
-use crate::numeral::{number, number_within};
 use crate::options::{Declared, Options, read_options};
 use crate::serving::{Serving, serve};
+use decimal_words::{number, number_within};
 use gate_base::{OutOfMemory, Text, Word};
 use protocol_traits::Proto;
 use std::alloc::Global;

@@ -4,15 +4,12 @@
 //! words `--name` and its value. Whatever else stands there is no command.
 #![tactic(auto)]
 
-mod address;
 mod command;
 mod limits;
-mod numeral;
 mod options;
 mod serving;
 
 pub use command::{Command, Conversion, Drilling, Showing, read_command};
 pub use limits::{GREATEST_LIMIT, MOST_CALLS, MOST_MESSAGES};
-pub use numeral::number;
 pub use options::Declared;
 pub use serving::Serving;

@@ -5,7 +5,7 @@ ghost use Rattle.gate_words.specs.Options.{no_options, options_of, with_option, 
 use crate::limits::{
     GREATEST_LIMIT, LEAST_LIMIT, MOST_ACCEPTED, MOST_CALLS, MOST_EVENTS, MOST_SESSIONS,
 };
-use crate::numeral::number_within;
+use decimal_words::number_within;
 use gate_base::{OutOfMemory, Text, Word};
 use std::alloc::Global;
 

@@ -4,10 +4,10 @@ ghost use Rattle.gate_words.specs.Commands.{IsInRange};
 ghost use Rattle.gate_words.specs.Options.{IsInRange as AreInRange};
 ghost use Rattle.gate_words.specs.Serving.{serve_of, serve_at, serve_with, serve_as, is_within_memory};
 
-use crate::address::is_address;
 use crate::command::{Command, proto};
 use crate::limits::{DEFAULT_CALLS, DEFAULT_LIMIT, DEFAULT_SESSIONS, MOST_EVENTS, MOST_HELD};
 use crate::options::{Declared, Options, read_options};
+use decimal_words::read_address;
 use gate_base::{OutOfMemory, Text, Word};
 use protocol_traits::Proto;
 use std::alloc::Global;
@@ -77,7 +77,7 @@ fn serve_at(
     let Some((target, words)) = words.split_first() else {
         return Ok(None);
     };
-    if !is_address(listen.as_slice()) || !is_address(target.as_slice()) {
+    if read_address(listen.as_slice()).is_none() || read_address(target.as_slice()).is_none() {
         return Ok(None);
     }
     let ends = Ends {

@@ -29,14 +29,18 @@ abbrev pub methods_parts : List FunctionTree → ℕ
 methods_parts [] = 0
 methods_parts (f ∷ fs) = method_parts f + methods_parts fs
 
--- a struct, union or exception takes one number of a struct, and each method two: its arguments and its result
+-- a service takes a number, and each method two of a struct: its arguments and its result
+abbrev pub after_service : First → List FunctionTree → First
+after_service n functions =
+    record n { structs = n.structs + 2 * length functions; services = n.services + 1; types = n.types + methods_parts functions }
+
+-- a struct, union or exception takes one number of a struct
 abbrev pub after : First → DefinitionTree → First
 after n (const_of name ty value) = n
 after n (typedef_of name ty) = record n { types = n.types + parts ty }
 after n (enum_of name members) = record n { enums = n.enums + 1 }
 after n (struct_of kin name fields) = record n { structs = n.structs + 1; types = n.types + fields_parts fields }
-after n (service_of name base functions) =
-    record n { structs = n.structs + 2 * length functions; services = n.services + 1; types = n.types + methods_parts functions }
+after n (service_of name base functions) = after_service n functions
 
 -- the first numbers that each definition takes
 abbrev pub numbers_in : First → List DefinitionTree → List First

@@ -2,7 +2,7 @@
 ghost use Rattle.std.specs.Prelude.{◌≡◌, ◌+◌, ◌*◌, IfOk, length};
 ghost use Rattle.idl_document.specs.Trees.{definition_tree, definition_trees, function_tree, function_trees, field_trees, type_tree};
 ghost use Rattle.idl_names.specs.Files.{file_trees};
-ghost use Rattle.idl_schema.specs.Numbers.{parts, fields_parts, returns_parts, method_parts, methods_parts, after, after_all, numbers_in, numbers_of, start, option_tree};
+ghost use Rattle.idl_schema.specs.Numbers.{parts, fields_parts, returns_parts, method_parts, methods_parts, after, after_service, after_all, numbers_in, numbers_of, start, option_tree};
 
 use gate_base::OutOfMemory;
 use idl_document::{Definition, FieldDecl, Function, Seq, TypeExpr, TypeForm};
@@ -95,23 +95,51 @@ fn methods_parts(methods: &[Function]) -> Result<u32, OutOfMemory>
 fn after(first: First, definition: &Definition) -> Result<First, OutOfMemory>
     ensures { IfOk result (λ n. n ≡ after first (definition_tree definition.now)) }
 {
-    let mut n = first;
     match definition {
-        Definition::Const(_, _, _) => {}
-        Definition::Typedef(_, ty) => n.types = sum(n.types, parts(ty)?)?,
-        Definition::Enum(_, _) => n.enums = sum(n.enums, 1)?,
+        Definition::Const(_, _, _) => Ok(first),
+        Definition::Typedef(_, ty) => behind_types(first, parts(ty)?),
+        Definition::Enum(_, _) => behind_enum(first),
         Definition::Struct(_, _, fields) => {
-            n.structs = sum(n.structs, 1)?;
-            n.types = sum(n.types, fields_parts(fields.as_slice())?)?;
+            behind_struct(behind_types(first, fields_parts(fields.as_slice())?)?)
         }
-        Definition::Service(_, _, functions) => {
-            let methods = functions.as_slice();
-            n.structs = sum(n.structs, twice(methods.len())?)?;
-            n.services = sum(n.services, 1)?;
-            n.types = sum(n.types, methods_parts(methods)?)?;
-        }
+        Definition::Service(_, _, functions) => behind_service(first, functions.as_slice()),
     }
-    Ok(n)
+}
+
+/// The first numbers behind so many types.
+fn behind_types(first: First, count: u32) -> Result<First, OutOfMemory>
+    ensures { IfOk result (λ n. n ≡ record first { types = first.types + count }) }
+{
+    let types = sum(first.types, count)?;
+    Ok(First { types, ..first })
+}
+
+fn behind_enum(first: First) -> Result<First, OutOfMemory>
+    ensures { IfOk result (λ n. n ≡ record first { enums = first.enums + 1 }) }
+{
+    let enums = sum(first.enums, 1)?;
+    Ok(First { enums, ..first })
+}
+
+fn behind_struct(first: First) -> Result<First, OutOfMemory>
+    ensures { IfOk result (λ n. n ≡ record first { structs = first.structs + 1 }) }
+{
+    let structs = sum(first.structs, 1)?;
+    Ok(First { structs, ..first })
+}
+
+/// The first numbers behind a service: a struct for the arguments and one for the result of each method.
+fn behind_service(first: First, methods: &[Function]) -> Result<First, OutOfMemory>
+    ensures { IfOk result (λ n. n ≡ after_service first (function_trees methods.now)) }
+{
+    let first = behind_types(first, methods_parts(methods)?)?;
+    let structs = sum(first.structs, twice(methods.len())?)?;
+    let services = sum(first.services, 1)?;
+    Ok(First {
+        structs,
+        services,
+        ..first
+    })
 }
 
 fn twice(n: usize) -> Result<u32, OutOfMemory>

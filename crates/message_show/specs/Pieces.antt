@@ -29,3 +29,7 @@ pub record Told (from now : Output) (line : Waiting) (text : List ℕ) : Type 0 
 -- one more piece was told
 abbrev pub Tells : Output → Waiting → Output → Waiting → List ℕ → Type 0
 Tells old before new after piece = (from : Output) (text : List ℕ) → Told from old before text → Told from new after (text ++ piece)
+
+-- the same of a sink, by what it tells and how often it has failed
+abbrev pub TellsTo : {O : Type 0} → (O → Option (List ℕ)) → (O → ℕ) → O → O → Waiting → Waiting → List ℕ → Type 0
+TellsTo written faults old new before after piece = Tells (output (written old) (faults old)) before (output (written new) (faults new)) after piece

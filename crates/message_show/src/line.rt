@@ -1,6 +1,6 @@
 //! The end of a line that waits to be written.
 ghost use Rattle.std.specs.Prelude.{◌≡◌, ◌+◌, ◌*◌, ◌<◌, ◌≤◌, ◌++◌, ◌∷◌, [], length, flat_map, take, not, false, true};
-ghost use Rattle.message_show.specs.Pieces.{Tells, output};
+ghost use Rattle.message_show.specs.Pieces.{TellsTo};
 ghost use Rattle.message_show.specs.Texts.{is_plain, byte_text};
 
 use crate::printed::printed;
@@ -131,9 +131,7 @@ impl<'c> Line<'c> {
     #[inline(always)]
     pub fn make_room<O: Sink>(self, out: &mut O) -> Line<'c>
         ensures room { length result.bytes + SPARE ≤ ROOM }
-        ensures told { let old = output (O.written out.old) (O.faults out.old) in
-            let new = output (O.written out.new) (O.faults out.new) in
-            Tells old self.entry new result [] }
+        ensures told { TellsTo O.written O.faults out.old out.new self.entry result [] }
     {
         if ROOM - self.len >= SPARE {
             return self;
@@ -144,9 +142,7 @@ impl<'c> Line<'c> {
     /// Appends bytes of any number.
     #[inline(always)]
     pub fn put<O: Sink>(self, piece: &[u8], out: &mut O) -> Line<'c>
-        ensures told { let old = output (O.written out.old) (O.faults out.old) in
-            let new = output (O.written out.new) (O.faults out.new) in
-            Tells old self.entry new result piece.now }
+        ensures told { TellsTo O.written O.faults out.old out.new self.entry result piece.now }
     {
         if piece.len() <= ROOM - self.len {
             self.push(piece)
@@ -157,9 +153,7 @@ impl<'c> Line<'c> {
 
     #[inline(never)]
     fn put_long<O: Sink>(self, piece: &[u8], out: &mut O) -> Line<'c>
-        ensures told { let old = output (O.written out.old) (O.faults out.old) in
-            let new = output (O.written out.new) (O.faults out.new) in
-            Tells old self.entry new result piece.now }
+        ensures told { TellsTo O.written O.faults out.old out.new self.entry result piece.now }
     {
         let line = self.flush(out);
         if piece.len() <= ROOM {
@@ -173,9 +167,7 @@ impl<'c> Line<'c> {
     #[inline(never)]
     pub fn flush<O: Sink>(self, out: &mut O) -> Line<'c>
         ensures empty { result.bytes ≡ [] }
-        ensures told { let old = output (O.written out.old) (O.faults out.old) in
-            let new = output (O.written out.new) (O.faults out.new) in
-            Tells old self.entry new result [] }
+        ensures told { TellsTo O.written O.faults out.old out.new self.entry result [] }
     {
         if self.buffer.broken {
             return self.emptied(true);
@@ -199,9 +191,7 @@ impl<'c> Line<'c> {
     /// Writes bytes before which none wait.
     fn pass<O: Sink>(self, piece: &[u8], out: &mut O) -> Line<'c>
         requires { self.bytes ≡ [] }
-        ensures told { let old = output (O.written out.old) (O.faults out.old) in
-            let new = output (O.written out.new) (O.faults out.new) in
-            Tells old self.entry new result piece.now }
+        ensures told { TellsTo O.written O.faults out.old out.new self.entry result piece.now }
     {
         if self.buffer.broken {
             return self;

@@ -34,8 +34,7 @@ pub enum Shown {
 /// Writes the line of the message that a frame spells, or nothing where it spells no message of depth at most `DEPTH`.
 ///
 /// Names without a service before them are those of `service`, which is of this schema. `room` has at least as many bytes as
-/// the frame. A line of at most 4,096 bytes is mostly one piece, and longer ones are written in pieces of about so many; a long string
-/// or name may be a piece of its own.
+/// the frame. The line's bytes are written in order, in one piece or in several; how many is not told.
 pub fn show<O: Sink>(
     schema: &Schema,
     service: Option<ServiceId>,

@@ -13,7 +13,7 @@ ghost use Rattle.translate_core.specs.Routes.{start_of};
 ghost use Rattle.translate_core.specs.declared.route.Route.TheVariants.{ByName};
 ghost use Rattle.message_show.specs.Inside.{IsSound, IsSpent, at, behind, begins, depth_behind};
 ghost use Rattle.message_show.specs.Line.{type_text, sequence_text, head_text, line_end};
-ghost use Rattle.message_show.specs.Pieces.{Output, Told, Tells, output};
+ghost use Rattle.message_show.specs.Pieces.{Output, Told, TellsTo, output};
 ghost use Rattle.message_show.specs.Turns.{Turned, standing};
 ghost use Rattle.message_show.specs.Shown.{Place, shown_by, body_from, after_body, IsService, IsChecked, IsLine};
 
@@ -65,9 +65,7 @@ pub fn tell<'c, 'f, R: WireRead<'f> + Events, O: Sink>(
 
 /// Tells a header and the body's parenthesis.
 fn tell_head<'c, O: Sink>(head: &Head<'_>, line: Line<'c>, out: &mut O) -> Line<'c>
-    ensures { let old = output (O.written out.old) (O.faults out.old) in
-        let new = output (O.written out.new) (O.faults out.new) in
-        Tells old line.entry new result (head_text (header_of head.now)) }
+    ensures { TellsTo O.written O.faults out.old out.new line.entry result (head_text (header_of head.now)) }
 {
     let line = tell_string(head.name, push_type(line.make_room(out), head.mtype), out);
     push_sequence(line.make_room(out), head.seq)

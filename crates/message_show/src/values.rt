@@ -7,7 +7,7 @@ ghost use Rattle.protocol_traits.specs.Stack.{first_of};
 ghost use Rattle.message_show.specs.Inside.{IsSound, Passes};
 ghost use Rattle.message_show.specs.Texts.{is_plain, upper_byte, byte_text, quoted};
 ghost use Rattle.message_show.specs.Line.{value_text, mark_before, closing, item_text, field_name, field_text, name_text, kind_text, map_text, list_text};
-ghost use Rattle.message_show.specs.Pieces.{Tells, output};
+ghost use Rattle.message_show.specs.Pieces.{TellsTo};
 
 use crate::levels::{closing, push_lead};
 use crate::line::{EVENT_ROOM, Line, NUMBER_ROOM, ROOM, SPARE};
@@ -26,9 +26,7 @@ const PIECE: usize = 512;
 #[tactic(auto, unfolding(crate::specs::Line::struct_text, crate::specs::Line::empty_map_text), using(crate::proofs::Told::tells_behind))]
 pub fn tell_value<'c, O: Sink>(event: &Event<'_>, line: Line<'c>, out: &mut O) -> Line<'c>
     requires { length line.bytes + EVENT_ROOM ≤ ROOM }
-    ensures told { let old = output (O.written out.old) (O.faults out.old) in
-        let new = output (O.written out.new) (O.faults out.new) in
-        Tells old line.entry new result (value_text (item_of event.now)) }
+    ensures told { TellsTo O.written O.faults out.old out.new line.entry result (value_text (item_of event.now)) }
 {
     match *event {
         Event::Bool(value) => line.push(bool_word(value)),
@@ -84,10 +82,7 @@ pub fn tell_field<'c, O: Sink>(
     out: &mut O,
 ) -> Line<'c>
     requires { length line.bytes + SPARE ≤ ROOM }
-    ensures told { let old = output (O.written out.old) (O.faults out.old) in
-        let new = output (O.written out.new) (O.faults out.new) in
-        Tells old line.entry new result
-        (mark_before first (Some level) ++ field_text id (field_name (option_copied field.entry)) kind) }
+    ensures told { TellsTo O.written O.faults out.old out.new line.entry result (mark_before first (Some level) ++ field_text id (field_name (option_copied field.entry)) kind) }
 {
     let line = tell_number(id, field, push_lead(line, level, first), out);
     push_kind(line.make_room(out), kind)
@@ -102,10 +97,7 @@ fn tell_number<'c, O: Sink>(
     out: &mut O,
 ) -> Line<'c>
     requires { length line.bytes + EVENT_ROOM ≤ ROOM }
-    ensures told { let old = output (O.written out.old) (O.faults out.old) in
-        let new = output (O.written out.new) (O.faults out.new) in
-        Tells old line.entry new result
-        (signed_decimal id ++ name_text (field_name (option_copied field.entry))) }
+    ensures told { TellsTo O.written O.faults out.old out.new line.entry result (signed_decimal id ++ name_text (field_name (option_copied field.entry))) }
 {
     match short_name(id, field, &line) {
         Some((digit, name)) => line.push_named(digit, name),
@@ -184,10 +176,7 @@ fn push_kind<'c>(line: Line<'c>, kind: Kind) -> Line<'c>
 #[inline(always)]
 fn tell_name<'c, O: Sink>(field: Option<&FieldInfo>, line: Line<'c>, out: &mut O) -> Line<'c>
     requires { length line.bytes + 1 ≤ ROOM }
-    ensures told { let old = output (O.written out.old) (O.faults out.old) in
-        let new = output (O.written out.new) (O.faults out.new) in
-        Tells old line.entry new result
-        (name_text (field_name (option_copied field.entry))) }
+    ensures told { TellsTo O.written O.faults out.old out.new line.entry result (name_text (field_name (option_copied field.entry))) }
 {
     match field {
         Some(field) => line.push_byte(b':').put(field.name.as_slice(), out),
@@ -198,9 +187,7 @@ fn tell_name<'c, O: Sink>(field: Option<&FieldInfo>, line: Line<'c>, out: &mut O
 /// Tells a string between quotes.
 #[tactic(auto, unfolding(crate::specs::Texts::quoted))]
 pub fn tell_string<'c, O: Sink>(bytes: &[u8], line: Line<'c>, out: &mut O) -> Line<'c>
-    ensures told { let old = output (O.written out.old) (O.faults out.old) in
-        let new = output (O.written out.new) (O.faults out.new) in
-        Tells old line.entry new result (quoted bytes.now) }
+    ensures told { TellsTo O.written O.faults out.old out.new line.entry result (quoted bytes.now) }
 {
     if line.has_room_for(bytes.len()) {
         line.push_byte(b'"').push_printed(bytes).push_byte(b'"')
@@ -213,9 +200,7 @@ pub fn tell_string<'c, O: Sink>(bytes: &[u8], line: Line<'c>, out: &mut O) -> Li
 #[inline(never)]
 #[tactic(auto, unfolding(crate::specs::Texts::quoted))]
 fn tell_long<'c, O: Sink>(bytes: &[u8], line: Line<'c>, out: &mut O) -> Line<'c>
-    ensures told { let old = output (O.written out.old) (O.faults out.old) in
-        let new = output (O.written out.new) (O.faults out.new) in
-        Tells old line.entry new result (quoted bytes.now) }
+    ensures told { TellsTo O.written O.faults out.old out.new line.entry result (quoted bytes.now) }
 {
     let line = tell_bytes(bytes, line.make_room(out).push_byte(b'"'), out);
     line.make_room(out).push_byte(b'"')
@@ -223,9 +208,7 @@ fn tell_long<'c, O: Sink>(bytes: &[u8], line: Line<'c>, out: &mut O) -> Line<'c>
 
 /// Tells the bytes of a string, piece by piece.
 fn tell_bytes<'c, O: Sink>(bytes: &[u8], line: Line<'c>, out: &mut O) -> Line<'c>
-    ensures told { let old = output (O.written out.old) (O.faults out.old) in
-        let new = output (O.written out.new) (O.faults out.new) in
-        Tells old line.entry new result (flat_map byte_text bytes.now) }
+    ensures told { TellsTo O.written O.faults out.old out.new line.entry result (flat_map byte_text bytes.now) }
 {
     let mut line = line;
     let mut at = 0;
@@ -240,9 +223,7 @@ fn tell_bytes<'c, O: Sink>(bytes: &[u8], line: Line<'c>, out: &mut O) -> Line<'c
 /// Tells so few bytes that they fit where nothing waits.
 fn tell_piece<'c, O: Sink>(bytes: &[u8], line: Line<'c>, out: &mut O) -> Line<'c>
     requires { length bytes.now ≤ PIECE }
-    ensures told { let old = output (O.written out.old) (O.faults out.old) in
-        let new = output (O.written out.new) (O.faults out.new) in
-        Tells old line.entry new result (flat_map byte_text bytes.now) }
+    ensures told { TellsTo O.written O.faults out.old out.new line.entry result (flat_map byte_text bytes.now) }
 {
     if line.has_room_for(bytes.len()) {
         line.push_printed(bytes)

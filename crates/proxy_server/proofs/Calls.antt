@@ -93,16 +93,16 @@ turned_more J rules set begun spent held past at e e' told told' was number same
       },
     )
 
-fits_at : (set : Setting) (rules : Rules) (limit most : ℕ) (h : History) (s : Standing) → rules ≡ set.rules → limit ≡ set.limit → most ≡ set.most → Fits rules limit most h s → Fits set.rules set.limit set.most h s
-fits_at set rules limit most h s a b d fits =
-    subst (λ (r : Rules). Fits r set.limit set.most h s) a (subst (λ (k : ℕ). Fits rules k set.most h s) b (subst (λ (k : ℕ). Fits rules limit k h s) d fits))
+fits_at : (set : Setting) (rules : Rules) (limit max_calls : ℕ) (h : History) (s : Standing) → rules ≡ set.rules → limit ≡ set.limit → max_calls ≡ set.max_calls → Fits rules limit max_calls h s → Fits set.rules set.limit set.max_calls h s
+fits_at set rules limit max_calls h s a b d fits =
+    subst (λ (r : Rules). Fits r set.limit set.max_calls h s) a (subst (λ (k : ℕ). Fits rules k set.max_calls h s) b (subst (λ (k : ℕ). Fits rules limit k h s) d fits))
 
-outcome_at : (set : Setting) (rules : Rules) (limit most : ℕ) (s : Standing) → rules ≡ set.rules → limit ≡ set.limit → most ≡ set.most → outcome_of rules limit most s ≡ outcome_of set.rules set.limit set.most s
-outcome_at set rules limit most s a b d = ap (λ (r : Rules). outcome_of r limit most s) a ∙ (ap (λ (k : ℕ). outcome_of set.rules k most s) b ∙ ap (λ (k : ℕ). outcome_of set.rules set.limit k s) d)
+outcome_at : (set : Setting) (rules : Rules) (limit max_calls : ℕ) (s : Standing) → rules ≡ set.rules → limit ≡ set.limit → max_calls ≡ set.max_calls → outcome_of rules limit max_calls s ≡ outcome_of set.rules set.limit set.max_calls s
+outcome_at set rules limit max_calls s a b d = ap (λ (r : Rules). outcome_of r limit max_calls s) a ∙ (ap (λ (k : ℕ). outcome_of set.rules k max_calls s) b ∙ ap (λ (k : ℕ). outcome_of set.rules set.limit k s) d)
 
 ends_so : (J : Type 0) (rules : J → Rules) (set : Setting) (session : Seen J) (k : ℕ) (o : Outcome) (made : List HubCall) (s t : Told) → IsHeld J rules set session t → ((x : Side) → HasFailed x s → ⊥) → EndsBy k session.outcome o made s t → IsOutcome set o t
-ends_so J rules set session k o made s t h calm (ByLink x is last f others) = LinkFailed x session.standing is f (λ y other g. calm y (others y other g)) (fits_at set (rules session.judge) session.limit session.most _ _ h.judged h.limited h.calls h.matches.fits)
-ends_so J rules set session k o made s t h calm (BySession is own none) = OfItself session.standing (sym (outcome_at set (rules session.judge) session.limit session.most session.standing h.judged h.limited h.calls) ∙ (sym h.matches.rest.outcome_is ∙ is)) (λ x f. calm x (was_failed s t none x f)) (fits_at set (rules session.judge) session.limit session.most _ _ h.judged h.limited h.calls h.matches.fits)
+ends_so J rules set session k o made s t h calm (ByLink x is last f others) = LinkFailed x session.standing is f (λ y other g. calm y (others y other g)) (fits_at set (rules session.judge) session.limit session.max_calls _ _ h.judged h.limited h.calls h.matches.fits)
+ends_so J rules set session k o made s t h calm (BySession is own none) = OfItself session.standing (sym (outcome_at set (rules session.judge) session.limit session.max_calls session.standing h.judged h.limited h.calls) ∙ (sym h.matches.rest.outcome_is ∙ is)) (λ x f. calm x (was_failed s t none x f)) (fits_at set (rules session.judge) session.limit session.max_calls _ _ h.judged h.limited h.calls h.matches.fits)
 
 abbrev is_link : Outcome → Bool
 is_link outcome.Clean = false
@@ -505,7 +505,7 @@ left_so : (J : Type 0) (rules : J → Rules) (set : Setting) (result : Served) (
 left_so J rules set result begun spent held past busy last calls n all going l = record {
   settled = λ off i e p. l.stands.settled i e p (λ is. absurd (omega (arith, all off, is, get_within held i e p)));
   going = λ i e p. let h = l.stands.each i e p in
-      sym (outcome_at set (rules e.session.judge) e.session.limit e.session.most e.session.standing h.judged h.limited h.calls) ∙ (sym h.matches.rest.outcome_is ∙ goes_on i e p (decide i busy));
+      sym (outcome_at set (rules e.session.judge) e.session.limit e.session.max_calls e.session.standing h.judged h.limited h.calls) ∙ (sym h.matches.rest.outcome_is ∙ goes_on i e p (decide i busy));
   unfailed = l.unfailed;
 }
   where

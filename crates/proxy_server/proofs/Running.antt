@@ -28,21 +28,21 @@ use Rattle.proxy_server.specs.declared.waiting.Waits.{Waits}
 -- ---- the session
 
 -- a session with the same judge, limit, number of calls and rooms
-pub matches_at : (J : Type 0) (rules : J → Rules) (a b : Seen J) (h : History) → IsSame J a b → Fits (rules a.judge) a.limit a.most h b.standing → IsAtRest (rules a.judge) a.limit a.most b.standing b.outcome → Matches J rules b h
+pub matches_at : (J : Type 0) (rules : J → Rules) (a b : Seen J) (h : History) → IsSame J a b → Fits (rules a.judge) a.limit a.max_calls h b.standing → IsAtRest (rules a.judge) a.limit a.max_calls b.standing b.outcome → Matches J rules b h
 matches_at J rules a b h same fits rest = record {
-  fits = subst (λ (j : J). Fits (rules j) b.limit b.most h b.standing) (sym same.judge)
-      (subst (λ (n : ℕ). Fits (rules a.judge) n b.most h b.standing) (sym same.limit)
-      (subst (λ (n : ℕ). Fits (rules a.judge) a.limit n h b.standing) (sym same.most) fits));
-  rest = subst (λ (j : J). IsAtRest (rules j) b.limit b.most b.standing b.outcome) (sym same.judge)
-      (subst (λ (n : ℕ). IsAtRest (rules a.judge) n b.most b.standing b.outcome) (sym same.limit)
-      (subst (λ (n : ℕ). IsAtRest (rules a.judge) a.limit n b.standing b.outcome) (sym same.most) rest));
+  fits = subst (λ (j : J). Fits (rules j) b.limit b.max_calls h b.standing) (sym same.judge)
+      (subst (λ (n : ℕ). Fits (rules a.judge) n b.max_calls h b.standing) (sym same.limit)
+      (subst (λ (n : ℕ). Fits (rules a.judge) a.limit n h b.standing) (sym same.max_calls) fits));
+  rest = subst (λ (j : J). IsAtRest (rules j) b.limit b.max_calls b.standing b.outcome) (sym same.judge)
+      (subst (λ (n : ℕ). IsAtRest (rules a.judge) n b.max_calls b.standing b.outcome) (sym same.limit)
+      (subst (λ (n : ℕ). IsAtRest (rules a.judge) a.limit n b.standing b.outcome) (sym same.max_calls) rest));
 }
 
 pub all_taken : (n : ℕ) (bytes : List ℕ) → n ≡ length bytes → take n bytes ≡ bytes
 all_taken n bytes is = take_all n bytes (omega (arith, is))
 
 pub same_on : (J : Type 0) (a b c : Seen J) → IsSame J a b → IsSame J b c → IsSame J a c
-same_on J a b c p q = record { judge = q.judge ∙ p.judge; limit = q.limit ∙ p.limit; most = q.most ∙ p.most; rooms = q.rooms ∙ p.rooms }
+same_on J a b c p q = record { judge = q.judge ∙ p.judge; limit = q.limit ∙ p.limit; max_calls = q.max_calls ∙ p.max_calls; rooms = q.rooms ∙ p.rooms }
 
 -- ---- from the hub's clause to the turn's words
 

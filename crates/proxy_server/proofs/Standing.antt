@@ -335,7 +335,7 @@ refuses J rules set begun spent held past k o m n a why change = record {
     by j announced (inr other) = known j (s.covers j (ap (λ (u : Told). u.announced) (sym (change.others j other)) ∙ announced))
 
 -- or is opened
-opens : (J : Type 0) (rules : J → Rules) (set : Setting) (begun : Meaning) (spent : ℕ) (held : List (Entry J)) (past : List Closing) (e : Entry J) (m : Meaning) → Awaits J rules set begun spent e.number held past m → rules e.session.judge ≡ set.rules → e.session.limit ≡ set.limit → e.session.most ≡ set.most → Matches J rules e.session nothing → e.session.rooms ≡ rooms_for set.limit set.most → HoldsWithin e.session → Stands J rules set no_more (held ++ e ∷ []) past (length held) 0 m
+opens : (J : Type 0) (rules : J → Rules) (set : Setting) (begun : Meaning) (spent : ℕ) (held : List (Entry J)) (past : List Closing) (e : Entry J) (m : Meaning) → Awaits J rules set begun spent e.number held past m → rules e.session.judge ≡ set.rules → e.session.limit ≡ set.limit → e.session.max_calls ≡ set.max_calls → Matches J rules e.session nothing → e.session.rooms ≡ rooms_for set.limit set.max_calls → HoldsWithin e.session → Stands J rules set no_more (held ++ e ∷ []) past (length held) 0 m
 opens J rules set begun spent held past e m a judged limited calls matches rooms holds = record {
   started = s.started;
   rising = rises;
@@ -465,7 +465,7 @@ names J rules set begun spent held past k m n waits open_at comes = known (s.cov
     known (inr (IsEndedOne i c p q)) = absurd (two_numbers m c.0 k (s.ended i c p).closed open_at.1 q)
 
 -- a session that was just opened is turned
-pub opens_busy : (J : Type 0) (rules : J → Rules) (set : Setting) (begun : Meaning) (spent : ℕ) (held : List (Entry J)) (past : List Closing) (e : Entry J) (m : Meaning) → Awaits J rules set begun spent e.number held past m → rules e.session.judge ≡ set.rules → e.session.limit ≡ set.limit → e.session.most ≡ set.most → Matches J rules e.session nothing → e.session.rooms ≡ rooms_for set.limit set.most → HoldsWithin e.session → e.session.outcome ≡ None → length held < set.sessions → IsBusy J rules set begun spent (length held) (held ++ e ∷ []) past m
+pub opens_busy : (J : Type 0) (rules : J → Rules) (set : Setting) (begun : Meaning) (spent : ℕ) (held : List (Entry J)) (past : List Closing) (e : Entry J) (m : Meaning) → Awaits J rules set begun spent e.number held past m → rules e.session.judge ≡ set.rules → e.session.limit ≡ set.limit → e.session.max_calls ≡ set.max_calls → Matches J rules e.session nothing → e.session.rooms ≡ rooms_for set.limit set.max_calls → HoldsWithin e.session → e.session.outcome ≡ None → length held < set.sessions → IsBusy J rules set begun spent (length held) (held ++ e ∷ []) past m
 opens_busy J rules set begun spent held past e m a judged limited calls matches rooms holds going few = record {
   stands = opens J rules set begun spent held past e m a judged limited calls matches rooms holds;
   going = λ d got. subst (λ (f : Entry J). f.session.outcome ≡ None) (some_same (slice_get (held ++ e ∷ []) (length held)) e d (get_last held e) got) going;
@@ -490,7 +490,7 @@ turns_on J rules set held past at e e' T m n was number same holds s matches gro
         announced = grows.announced ∙ h.announced;
         judged = ap rules same.judge ∙ h.judged;
         limited = same.limit ∙ h.limited;
-        calls = same.most ∙ h.calls;
+        calls = same.max_calls ∙ h.calls;
         matches = matches;
         rooms = same.rooms ∙ h.rooms;
         holds = holds;

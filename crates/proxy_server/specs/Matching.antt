@@ -27,12 +27,12 @@ and_received side.Upstream h bytes = record h { from_upstream = h.from_upstream 
 
 -- the session fits what came and went, and no step is left to it
 pub record Matches (J : Type 0) (rules : J → Rules) (session : Seen J) (h : History) : Type 0 where
-  pub fits : Fits (rules session.judge) session.limit session.most h session.standing
-  pub rest : IsAtRest (rules session.judge) session.limit session.most session.standing session.outcome
+  pub fits : Fits (rules session.judge) session.limit session.max_calls h session.standing
+  pub rest : IsAtRest (rules session.judge) session.limit session.max_calls session.standing session.outcome
 
 -- the same judge, limit, number of calls and rooms
 pub record IsSame (J : Type 0) (a b : Seen J) : Type 0 where
   pub judge : b.judge ≡ a.judge
   pub limit : b.limit ≡ a.limit
-  pub most : b.most ≡ a.most
+  pub max_calls : b.max_calls ≡ a.max_calls
   pub rooms : b.rooms ≡ a.rooms

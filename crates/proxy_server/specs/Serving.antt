@@ -26,7 +26,7 @@ use Rattle.proxy_server.specs.Turning.{IsSettled, HasFailed}
 pub record Setting : Type 0 where
   pub rules : Rules
   pub limit : ℕ
-  pub most : ℕ
+  pub max_calls : ℕ
   pub sessions : ℕ
   pub events : ℕ
 
@@ -45,17 +45,17 @@ pub record IsHeld (J : Type 0) (rules : J → Rules) (set : Setting) (session : 
   pub announced : t.announced ≡ true
   pub judged : rules session.judge ≡ set.rules
   pub limited : session.limit ≡ set.limit
-  pub calls : session.most ≡ set.most
+  pub calls : session.max_calls ≡ set.max_calls
   pub matches : Matches J rules session (history_of t)
-  pub rooms : session.rooms ≡ rooms_for set.limit set.most
+  pub rooms : session.rooms ≡ rooms_for set.limit set.max_calls
   pub holds : HoldsWithin session
 
 -- why a session has this outcome: it was not opened, and nothing was received or sent; the last call of a kind on this side
 -- failed, and none on the other; or no such call failed, and it is the outcome of a session that fits what came and went
 pub data IsOutcome (set : Setting) (o : Outcome) (t : Told) : Type 0 where
   NotOpened : (o ≡ outcome.Full) ⊎ (o ≡ outcome.NoMemory) → history_of t ≡ nothing → ((x : Side) → HasFailed x t → ⊥) → IsOutcome set o t
-  LinkFailed : (x : Side) (s : Standing) → o ≡ outcome.LinkFault x → HasFailed x t → ((y : Side) → y ≢ x → HasFailed y t → ⊥) → Fits set.rules set.limit set.most (history_of t) s → IsOutcome set o t
-  OfItself : (s : Standing) → outcome_of set.rules set.limit set.most s ≡ Some o → ((x : Side) → HasFailed x t → ⊥) → Fits set.rules set.limit set.most (history_of t) s → IsOutcome set o t
+  LinkFailed : (x : Side) (s : Standing) → o ≡ outcome.LinkFault x → HasFailed x t → ((y : Side) → y ≢ x → HasFailed y t → ⊥) → Fits set.rules set.limit set.max_calls (history_of t) s → IsOutcome set o t
+  OfItself : (s : Standing) → outcome_of set.rules set.limit set.max_calls s ≡ Some o → ((x : Side) → HasFailed x t → ⊥) → Fits set.rules set.limit set.max_calls (history_of t) s → IsOutcome set o t
 
 -- a session that has ended, and was closed
 pub record HasClosed (set : Setting) (o : Outcome) (t : Told) : Type 0 where

@@ -31,7 +31,7 @@ pub record AreGood (limits : Limits) (room : ℕ) : Type 0 where
   pub serves : limits.frame ≤ room
 
 abbrev pub setting_of : Rules → Limits → Setting
-setting_of rules limits = record { rules = rules; limit = limits.frame; most = limits.calls; sessions = limits.sessions; events = limits.events }
+setting_of rules limits = record { rules = rules; limit = limits.frame; max_calls = limits.calls; sessions = limits.sessions; events = limits.events }
 
 -- all of these lines were written, or a front of them
 abbrev pub Writes : Wrote → Option (List ℕ) → Option (List ℕ) → List ℕ → Type 0
@@ -172,7 +172,7 @@ IsNotAskedAgain {J} lines ended held calls =
 -- where the budget is spent. `next` may stop or fail at any wait and changes no session by that, so this holds at each wait
 pub record IsLeft (J : Type 0) (rules : J → Rules) (set : Setting) (result : Served) (held : List (Entry J)) (m : Meaning) : Type 0 where
   pub settled : (result ≡ served.Budget → ⊥) → (i : ℕ) (e : Entry J) → slice_get held i ≡ Some e → IsSettled J rules e.session (m.session e.number)
-  pub going : (i : ℕ) (e : Entry J) → slice_get held i ≡ Some e → outcome_of set.rules set.limit set.most e.session.standing ≡ None
+  pub going : (i : ℕ) (e : Entry J) → slice_get held i ≡ Some e → outcome_of set.rules set.limit set.max_calls e.session.standing ≡ None
   pub unfailed : AreUnfailed held m
 
 -- what was done in all: which sessions found the server full, and how much was spent, as it goes with how the server ended

@@ -66,7 +66,7 @@ pub data ReadsNoMore (limit : ℕ) (held : List ℕ) (link : Link) : Type 0 wher
 -- not ready, and no more can be read
 pub record IsSettled (J : Type 0) (rules : J → Rules) (session : Seen J) (t : Told) : Type 0 where
   pub going : session.outcome ≡ None
-  pub still : IsStill (rules session.judge) session.limit session.most session.standing
+  pub still : IsStill (rules session.judge) session.limit session.max_calls session.standing
   pub writes : (x : Side) → (due_to x session.standing ≡ []) ⊎ ((link_of t x).last_write ≡ Some put.NotReady)
   pub reads : (x : Side) → ReadsNoMore session.limit (held_of_side x session.standing) (link_of t x)
 

@@ -2,24 +2,23 @@
 ghost use Rattle.std.specs.Prelude.{◌≡◌, ◌+◌, ◌≤◌, ◌++◌, length};
 ghost use Rattle.proxy_server.specs.Lines.{halt_text, side_text, open_calls_text, unsolicited_text, link_fault_text, outcome_text, ending_text, line_text};
 
+use decimal_words::push_number;
 use gate_hub::Side;
 use gate_io::Out;
-use itoa::{Buffer, Integer};
 use session_core::{Halt, Outcome};
 use translate_core::Cause;
 
 /// The room for a line.
 pub const LINE_ROOM: usize = 192;
 
-/// Appends a number in digits.
-fn push_number<I: Integer>(line: &mut Out, number: I)
-    requires { length line.old.bytes + 40 ≤ line.old.room }
-    ensures text { line.new ≡ record line.old { bytes = line.old.bytes ++ I.text number } }
-    ensures short { length line.new.bytes ≤ length line.old.bytes + 40 }
-{
-    let mut digits = Buffer::new();
-    line.push(digits.format(number).as_bytes());
-}
+/// The room for how a session ended.
+const OUTCOME_ROOM: usize = 130;
+
+/// The room for why a side halted.
+const HALT_ROOM: usize = 62;
+
+/// The room for the name of a side.
+const SIDE_ROOM: usize = 8;
 
 /// Makes the line of session `number`: how it ended, or that it was left open.
 #[tactic(auto, unfolding(crate::specs::Lines::line_text))]
@@ -38,9 +37,9 @@ pub fn put_line(line: &mut Out, number: u64, ending: Option<Outcome>)
 /// Appends how a session ended.
 #[tactic(auto, unfolding(crate::specs::Lines::ending_text))]
 fn push_ending(line: &mut Out, ending: Option<Outcome>)
-    requires { length line.old.bytes + 130 ≤ line.old.room }
+    requires { length line.old.bytes + OUTCOME_ROOM ≤ line.old.room }
     ensures text { line.new ≡ record line.old { bytes = line.old.bytes ++ ending_text ending } }
-    ensures short { length line.new.bytes ≤ length line.old.bytes + 130 }
+    ensures short { length line.new.bytes ≤ length line.old.bytes + OUTCOME_ROOM }
 {
     match ending {
         None => line.push(b"left open"),
@@ -51,9 +50,9 @@ fn push_ending(line: &mut Out, ending: Option<Outcome>)
 /// Appends the outcome of a session.
 #[tactic(auto, unfolding(crate::specs::Lines::outcome_text))]
 fn push_outcome(line: &mut Out, outcome: Outcome)
-    requires { length line.old.bytes + 130 ≤ line.old.room }
+    requires { length line.old.bytes + OUTCOME_ROOM ≤ line.old.room }
     ensures text { line.new ≡ record line.old { bytes = line.old.bytes ++ outcome_text outcome } }
-    ensures short { length line.new.bytes ≤ length line.old.bytes + 130 }
+    ensures short { length line.new.bytes ≤ length line.old.bytes + OUTCOME_ROOM }
 {
     match outcome {
         Outcome::Clean => line.push(b"clean"),
@@ -80,9 +79,9 @@ fn push_outcome(line: &mut Out, outcome: Outcome)
 /// Appends that the upstream ended with so many calls open.
 #[tactic(auto, unfolding(crate::specs::Lines::open_calls_text))]
 fn push_open_calls(line: &mut Out, calls: u64)
-    requires { length line.old.bytes + 130 ≤ line.old.room }
+    requires { length line.old.bytes + OUTCOME_ROOM ≤ line.old.room }
     ensures text { line.new ≡ record line.old { bytes = line.old.bytes ++ open_calls_text calls } }
-    ensures short { length line.new.bytes ≤ length line.old.bytes + 130 }
+    ensures short { length line.new.bytes ≤ length line.old.bytes + OUTCOME_ROOM }
 {
     line.push(b"upstream ended: open calls ");
     push_number(line, calls);
@@ -91,9 +90,9 @@ fn push_open_calls(line: &mut Out, calls: u64)
 /// Appends that the upstream answered more than it was asked.
 #[tactic(auto, unfolding(crate::specs::Lines::unsolicited_text))]
 fn push_unsolicited(line: &mut Out, answer: u64, calls: u64)
-    requires { length line.old.bytes + 130 ≤ line.old.room }
+    requires { length line.old.bytes + OUTCOME_ROOM ≤ line.old.room }
     ensures text { line.new ≡ record line.old { bytes = line.old.bytes ++ unsolicited_text answer calls } }
-    ensures short { length line.new.bytes ≤ length line.old.bytes + 130 }
+    ensures short { length line.new.bytes ≤ length line.old.bytes + OUTCOME_ROOM }
 {
     line.push(b"unsolicited: answer ");
     push_number(line, answer);
@@ -105,9 +104,9 @@ fn push_unsolicited(line: &mut Out, answer: u64, calls: u64)
 /// Appends that a call on a side failed.
 #[tactic(auto, unfolding(crate::specs::Lines::link_fault_text))]
 fn push_link_fault(line: &mut Out, side: Side)
-    requires { length line.old.bytes + 130 ≤ line.old.room }
+    requires { length line.old.bytes + OUTCOME_ROOM ≤ line.old.room }
     ensures text { line.new ≡ record line.old { bytes = line.old.bytes ++ link_fault_text side } }
-    ensures short { length line.new.bytes ≤ length line.old.bytes + 130 }
+    ensures short { length line.new.bytes ≤ length line.old.bytes + OUTCOME_ROOM }
 {
     line.push(b"link fault: ");
     line.push(side_name(side));
@@ -117,7 +116,7 @@ fn push_link_fault(line: &mut Out, side: Side)
 #[tactic(auto, unfolding(crate::specs::Lines::side_text))]
 fn side_name(side: Side) -> &'static [u8]
     ensures text { result.now ≡ side_text side }
-    ensures short { length result.now ≤ 8 }
+    ensures short { length result.now ≤ SIDE_ROOM }
 {
     match side {
         Side::Client => b"client",
@@ -128,9 +127,9 @@ fn side_name(side: Side) -> &'static [u8]
 /// Appends why a side halted.
 #[tactic(auto, unfolding(crate::specs::Lines::halt_text))]
 fn push_halt(line: &mut Out, halt: Halt)
-    requires { length line.old.bytes + 62 ≤ line.old.room }
+    requires { length line.old.bytes + HALT_ROOM ≤ line.old.room }
     ensures text { line.new ≡ record line.old { bytes = line.old.bytes ++ halt_text halt } }
-    ensures short { length line.new.bytes ≤ length line.old.bytes + 62 }
+    ensures short { length line.new.bytes ≤ length line.old.bytes + HALT_ROOM }
 {
     match halt {
         Halt::Unread(fault) => {

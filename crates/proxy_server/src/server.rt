@@ -96,6 +96,7 @@ impl<J: Judge> Server<J> {
             (λ begun. Waits J J.rules set begun self.old.spent self.old.sessions.items) self.new.spent self.new.sessions.items (Err result) }
         ensures spends { SpendsBy (served_by result Wrote.All) self.new.spent self.old.limits.events }
         ensures later { Later (H.counts hub.old) (H.counts hub.new) }
+        ensures kept { H.kept hub.new ≡ H.kept hub.old }
         ensures output_later { O.faults output.old ≤ O.faults output.new }
         ensures hub_cause { result ≡ End.HubFault → Rose (H.counts hub.old).faults (H.counts hub.new).faults }
         ensures cause { result ≡ End.WriteFault → Rose (O.faults output.old) (O.faults output.new) }
@@ -120,6 +121,7 @@ impl<J: Judge> Server<J> {
             let leaves = Leaves J J.rules set begun spent self.old.sessions.items past busy last calls in
             Keeps (H.tells hub.old) (H.tells hub.new) (leaves 0) (leaves (length self.old.sessions.items)) }
         ensures later { Later (H.counts hub.old) (H.counts hub.new) }
+        ensures kept { H.kept hub.new ≡ H.kept hub.old }
         ensures output_later { O.faults output.old ≤ O.faults output.new }
         ensures cause { result ≡ Wrote.Failed → (first ≡ Wrote.Failed) ⊎ Rose (O.faults output.old) (O.faults output.new) }
     {
@@ -150,6 +152,7 @@ impl<J: Judge> Server<J> {
             let leaves = Leaves J J.rules set begun spent self.old.sessions.items past busy last calls in
             Keeps (H.tells hub.old) (H.tells hub.new) (leaves at) (leaves (at + 1)) }
         ensures later { Later (H.counts hub.old) (H.counts hub.new) }
+        ensures kept { H.kept hub.new ≡ H.kept hub.old }
         ensures output_later { O.faults output.old ≤ O.faults output.new }
         ensures cause { result ≡ Wrote.Failed → (wrote ≡ Wrote.Failed) ⊎ Rose (O.faults output.old) (O.faults output.new) }
     {
@@ -179,6 +182,7 @@ impl<J: Judge> Server<J> {
             Goes J J.rules set (moment hub.old output.old) (moment hub.new output.new)
             (λ begun. Awaits J J.rules set begun self.old.spent number self.old.sessions.items) self.new.spent self.new.sessions.items result }
         ensures later { Later (H.counts hub.old) (H.counts hub.new) }
+        ensures kept { H.kept hub.new ≡ H.kept hub.old }
         ensures output_later { O.faults output.old ≤ O.faults output.new }
         ensures cause { result ≡ Err End.WriteFault → Rose (O.faults output.old) (O.faults output.new) }
     {
@@ -205,6 +209,7 @@ impl<J: Judge> Server<J> {
             Goes J J.rules set (record (moment hub.old output.old) { counts = from }) (moment hub.new output.new)
             (λ begun. HasEndedAt J J.rules set begun self.old.spent at outcome self.old.sessions.items) self.new.spent self.new.sessions.items result }
         ensures later { Later (H.counts hub.old) (H.counts hub.new) }
+        ensures kept { H.kept hub.new ≡ H.kept hub.old }
         ensures output_later { O.faults output.old ≤ O.faults output.new }
         ensures cause { result ≡ Err End.WriteFault → Rose (O.faults output.old) (O.faults output.new) }
     {
@@ -225,6 +230,7 @@ impl<J: Judge> Server<J> {
             Goes J J.rules set (moment hub.old output.old) (moment hub.new output.new)
             (λ begun. IsBusy J J.rules set begun self.old.spent at self.old.sessions.items) self.new.spent self.new.sessions.items result }
         ensures later { Later (H.counts hub.old) (H.counts hub.new) }
+        ensures kept { H.kept hub.new ≡ H.kept hub.old }
         ensures output_later { O.faults output.old ≤ O.faults output.new }
         ensures cause { result ≡ Err End.WriteFault → Rose (O.faults output.old) (O.faults output.new) }
     {
@@ -258,6 +264,7 @@ impl<J: Judge> Server<J> {
             Goes J J.rules set (moment hub.old output.old) (moment hub.new output.new)
             (λ begun. Awaits J J.rules set begun self.old.spent number self.old.sessions.items) self.new.spent self.new.sessions.items result }
         ensures later { Later (H.counts hub.old) (H.counts hub.new) }
+        ensures kept { H.kept hub.new ≡ H.kept hub.old }
         ensures output_later { O.faults output.old ≤ O.faults output.new }
         ensures cause { result ≡ Err End.WriteFault → Rose (O.faults output.old) (O.faults output.new) }
     {
@@ -301,6 +308,7 @@ impl<J: Judge> Server<J> {
             Goes J J.rules set (moment hub.old output.old) (moment hub.new output.new)
             (λ begun. IsNamed J J.rules set begun self.old.spent number self.old.sessions.items) self.new.spent self.new.sessions.items result }
         ensures later { Later (H.counts hub.old) (H.counts hub.new) }
+        ensures kept { H.kept hub.new ≡ H.kept hub.old }
         ensures output_later { O.faults output.old ≤ O.faults output.new }
         ensures cause { result ≡ Err End.WriteFault → Rose (O.faults output.old) (O.faults output.new) }
     {
@@ -329,6 +337,7 @@ impl<J: Judge> Server<J> {
             Goes J J.rules set (moment hub.old output.old) (moment hub.new output.new)
             (λ begun. Waits J J.rules set begun self.old.spent self.old.sessions.items) self.new.spent self.new.sessions.items result }
         ensures later { Later (H.counts hub.old) (H.counts hub.new) }
+        ensures kept { H.kept hub.new ≡ H.kept hub.old }
         ensures output_later { O.faults output.old ≤ O.faults output.new }
         ensures hub_cause { result ≡ Err End.HubFault → Rose (H.counts hub.old).faults (H.counts hub.new).faults }
         ensures cause { result ≡ Err End.WriteFault → Rose (O.faults output.old) (O.faults output.new) }

@@ -34,6 +34,7 @@ pub fn serve<J: Judge, P: Judges<J>, H: Hub, O: Sink>(
     ensures serves { let moment = outside H.tells H.counts O.written O.faults in
         Serves J J.rules (setting_of (P.rules judges.now) limits) (moment hub.old output.old) (moment hub.new output.new) result }
     ensures later { Later (H.counts hub.old) (H.counts hub.new) }
+    ensures kept { H.kept hub.new ≡ H.kept hub.old }
     ensures output_later { O.faults output.old ≤ O.faults output.new }
     ensures hub_fault { result ≡ Served.HubFault → Rose (H.counts hub.old).faults (H.counts hub.new).faults }
     ensures write_fault { result ≡ Served.WriteFault → Rose (O.faults output.old) (O.faults output.new) }

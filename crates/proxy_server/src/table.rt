@@ -56,6 +56,7 @@ impl<J: Judge> OpenSession<J> {
         ensures same { IsSame J self.old.session self.new.session }
         ensures holds { HoldsWithin self.new.session }
         ensures later { Later (H.counts hub.old) (H.counts hub.new) }
+        ensures kept { H.kept hub.new ≡ H.kept hub.old }
         ensures cause { (side : Side) → result ≡ Turn.Ended (Outcome.LinkFault side) →
             Rose ((H.counts hub.old).link_faults self.old.number side) ((H.counts hub.new).link_faults self.old.number side) }
     {
@@ -70,7 +71,7 @@ pub fn open_session<J: Judge, P: Judges<J>>(
     limits: Limits,
 ) -> Result<Session<J>, OutOfMemory>
     requires { AreGood limits (P.longest judges.now) }
-    ensures given { IfOk result (λ s. (J.rules s.judge ≡ P.rules judges.now) × (s.limit ≡ limits.frame) × (s.most ≡ limits.calls)) }
+    ensures given { IfOk result (λ s. (J.rules s.judge ≡ P.rules judges.now) × (s.limit ≡ limits.frame) × (s.max_calls ≡ limits.calls)) }
     ensures matches { IfOk result (λ s. Matches J J.rules s nothing) }
     ensures going { IfOk result (λ s. s.outcome ≡ None) }
     ensures rooms { IfOk result (λ s. s.rooms ≡ rooms_for limits.frame limits.calls) }

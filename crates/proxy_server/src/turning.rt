@@ -37,6 +37,7 @@ pub fn turn<H: Hub, J: Judge>(session: &mut Session<J>, hub: &mut H, k: u64) -> 
     ensures same { IsSame J session.old session.new }
     ensures holds { HoldsWithin session.old × HoldsWithin session.new }
     ensures later { Later (H.counts hub.old) (H.counts hub.new) }
+    ensures kept { H.kept hub.new ≡ H.kept hub.old }
     ensures cause { (side : Side) → result ≡ Turn.Ended (Outcome.LinkFault side) →
         Rose ((H.counts hub.old).link_faults k side) ((H.counts hub.new).link_faults k side) }
 {
@@ -79,6 +80,7 @@ fn round<H: Hub, J: Judge>(
     ensures same { IsSame J session.old session.new }
     ensures holds { HoldsWithin session.new }
     ensures later { Later (H.counts hub.old) (H.counts hub.new) }
+    ensures kept { H.kept hub.new ≡ H.kept hub.old }
     ensures cause { IfErr result (λ x. Rose ((H.counts hub.old).link_faults k x) ((H.counts hub.new).link_faults k x)) }
     ensures quiet { result ≡ Ok 0 →
         (session.new ≡ session.old) × IsQuiet session.new.limit session.new.standing session.new.outcome waits.new }
@@ -119,6 +121,7 @@ fn write<H: Hub, J: Judge>(
     ensures same { IsSame J session.old session.new }
     ensures holds { HoldsWithin session.new }
     ensures later { Later (H.counts hub.old) (H.counts hub.new) }
+    ensures kept { H.kept hub.new ≡ H.kept hub.old }
     ensures cause { IfErr result (λ x. Rose ((H.counts hub.old).link_faults k x) ((H.counts hub.new).link_faults k x)) }
     ensures quiet { result ≡ Ok 0 →
         (session.new ≡ session.old) × ((due_to side session.new.standing ≡ []) ⊎ (write_waits waits.new side ≡ true)) }
@@ -161,6 +164,7 @@ fn read<H: Hub, J: Judge>(
     ensures same { IsSame J session.old session.new }
     ensures holds { HoldsWithin session.new }
     ensures later { Later (H.counts hub.old) (H.counts hub.new) }
+    ensures kept { H.kept hub.new ≡ H.kept hub.old }
     ensures cause { IfErr result (λ x. Rose ((H.counts hub.old).link_faults k x) ((H.counts hub.new).link_faults k x)) }
     ensures quiet { result ≡ Ok 0 →
         (session.new ≡ session.old) × ((room_of session.new.limit session.new.standing (is_some session.new.outcome) side ≡ 0) ⊎ (read_waits waits.new side ≡ true)) }

@@ -6,14 +6,14 @@ use Rattle.session_core.specs.Rules.{Rules}
 use Rattle.session_core.specs.Standing.{Standing}
 use Rattle.session_core.specs.Fits.{told}
 use Rattle.session_core.specs.Steps.{Waits, is_none, of_client, of_upstream, ByUpstream, ByClient, IsStill, outcome_of, by_both}
-use Rattle.session_core.specs.Working.{Stops, Goes, Took, ending_of, ending_by}
+use Rattle.session_core.specs.Working.{StandsStill, Goes, Took, ending_of, ending_by}
 use Rattle.session_core.specs.Working.{ByUpstream as took_upstream, ByClient as took_client}
 use Rattle.session_core.specs.Ends.{IsAtRest}
 use Rattle.session_core.specs.Session.{due_to}
 use Rattle.gate_hub.specs.declared.hub.Side.{Side}
 use Rattle.gate_hub.specs.declared.hub.Side.TheVariants as side
-use Rattle.session_core.specs.declared.state.Stop.{Stop}
-use Rattle.session_core.specs.declared.state.Stop.TheVariants as stop
+use Rattle.session_core.specs.declared.state.Standstill.{Standstill}
+use Rattle.session_core.specs.declared.state.Standstill.TheVariants as standstill
 use Rattle.session_core.specs.declared.outcome.Outcome.{Outcome}
 use Rattle.session_core.proofs.Fitting.{client_took_rests, upstream_took_rests}
 
@@ -21,49 +21,49 @@ pub is_none_tests : {X : Type 0} (xs : List X) → is_none xs ≡ (length xs == 
 is_none_tests [] = refl
 is_none_tests (x ∷ xs) = grind (arith, nat_tests)
 
-pub still : (rules : Rules) (limit most : ℕ) (s : Standing) (why : Stop) → Stops rules limit most s why → IsStill rules limit most s
-still rules limit most s (stop.Upstream h) e t (ByUpstream m) = cc
-still rules limit most s (stop.Upstream h) e t (ByClient none m) = none h e
-still rules limit most s (stop.Client h) e t (ByUpstream m) = cc
-still rules limit most s (stop.Client h) e t (ByClient none m) = cc
-still rules limit most s stop.Waits e t (ByUpstream m) = cc
-still rules limit most s stop.Waits e t (ByClient none m) = cc
+pub still : (rules : Rules) (limit max_calls : ℕ) (s : Standing) (why : Standstill) → StandsStill rules limit max_calls s why → IsStill rules limit max_calls s
+still rules limit max_calls s (standstill.Upstream h) e t (ByUpstream m) = cc
+still rules limit max_calls s (standstill.Upstream h) e t (ByClient none m) = none h e
+still rules limit max_calls s (standstill.Client h) e t (ByUpstream m) = cc
+still rules limit max_calls s (standstill.Client h) e t (ByClient none m) = cc
+still rules limit max_calls s standstill.Waits e t (ByUpstream m) = cc
+still rules limit max_calls s standstill.Waits e t (ByClient none m) = cc
 
-by_stop : (rules : Rules) (limit most : ℕ) (s : Standing) (why : Stop) → Stops rules limit most s why → by_both limit s (of_upstream rules limit s) (of_client rules limit most s) ≡ ending_by limit s why
-by_stop rules limit most s (stop.Upstream h) e = ap (λ m. by_both limit s m (of_client rules limit most s)) e
-by_stop rules limit most s (stop.Client h) e = ap (λ m. by_both limit s m (of_client rules limit most s)) e.0 ∙ ap (λ m. by_both limit s Waits m) e.1
-by_stop rules limit most s stop.Waits e = ap (λ m. by_both limit s m (of_client rules limit most s)) e.0 ∙ ap (λ m. by_both limit s Waits m) e.1
+by_stop : (rules : Rules) (limit max_calls : ℕ) (s : Standing) (why : Standstill) → StandsStill rules limit max_calls s why → by_both limit s (of_upstream rules limit s) (of_client rules limit max_calls s) ≡ ending_by limit s why
+by_stop rules limit max_calls s (standstill.Upstream h) e = ap (λ m. by_both limit s m (of_client rules limit max_calls s)) e
+by_stop rules limit max_calls s (standstill.Client h) e = ap (λ m. by_both limit s m (of_client rules limit max_calls s)) e.0 ∙ ap (λ m. by_both limit s Waits m) e.1
+by_stop rules limit max_calls s standstill.Waits e = ap (λ m. by_both limit s m (of_client rules limit max_calls s)) e.0 ∙ ap (λ m. by_both limit s Waits m) e.1
 
-pub ended_by : (rules : Rules) (limit most : ℕ) (s : Standing) (why : Stop) → Stops rules limit most s why → ending_of limit s why ≡ outcome_of rules limit most s
+pub ended_by : (rules : Rules) (limit max_calls : ℕ) (s : Standing) (why : Standstill) → StandsStill rules limit max_calls s why → ending_of limit s why ≡ outcome_of rules limit max_calls s
 unfolding outcome_of
-ended_by rules limit most s why e = ap (λ (o : Option Outcome). if is_none s.to_client && is_none s.to_upstream then o else None) (sym (by_stop rules limit most s why e))
+ended_by rules limit max_calls s why e = ap (λ (o : Option Outcome). if is_none s.to_client && is_none s.to_upstream then o else None) (sym (by_stop rules limit max_calls s why e))
 
 framed_longer : (limit : ℕ) (held frame rest : List ℕ) → IsCut limit held frame rest → length rest < length held
 unfolding framed
 framed_longer limit held frame rest cut = rw (cut.whole) (omega (arith, length-append frame rest))
 
-pub falls : (rules : Rules) (limit most : ℕ) (s t : Standing) → Took rules limit most s t → length t.client + length t.upstream < length s.client + length s.upstream
-falls rules limit most s t (took_upstream e cuts) =
+pub falls : (rules : Rules) (limit max_calls : ℕ) (s t : Standing) → Took rules limit max_calls s t → length t.client + length t.upstream < length s.client + length s.upstream
+falls rules limit max_calls s t (took_upstream e cuts) =
     let r = upstream_took_rests rules limit s t e in
     omega (arith, framed_longer limit s.upstream r.0 r.1 (cuts r.0 r.1 r.2), ap length r.3, ap length r.4)
-falls rules limit most s t (took_client w e cuts) =
-    let r = client_took_rests rules limit most s t e in
+falls rules limit max_calls s t (took_client w e cuts) =
+    let r = client_took_rests rules limit max_calls s t e in
     omega (arith, framed_longer limit s.client r.0 r.1 (cuts r.0 r.1 r.2), ap length r.3, ap length r.4)
 
 -- ---- at the limits of the call
 
-pub goes_at : (rules others : Rules) (limit k most m : ℕ) (s t : Standing) (why : Option Stop) → others ≡ rules → k ≡ limit → m ≡ most → Goes others k m s t why → Goes rules limit most s t why
-goes_at rules others limit k most m s t why a b d h =
-    subst (λ (r : Rules). Goes r limit most s t why) a
-    (subst (λ (n : ℕ). Goes others n most s t why) b
+pub goes_at : (rules others : Rules) (limit k max_calls m : ℕ) (s t : Standing) (why : Option Standstill) → others ≡ rules → k ≡ limit → m ≡ max_calls → Goes others k m s t why → Goes rules limit max_calls s t why
+goes_at rules others limit k max_calls m s t why a b d h =
+    subst (λ (r : Rules). Goes r limit max_calls s t why) a
+    (subst (λ (n : ℕ). Goes others n max_calls s t why) b
     (subst (λ (n : ℕ). Goes others k n s t why) d h))
 
-pub outcome_at : (rules : Rules) (limit k most : ℕ) (s t : Standing) (why : Stop) (result : Option Outcome) → Goes rules limit most s t (Some why) → k ≡ limit → result ≡ ending_of k t why → result ≡ outcome_of rules limit most t
-outcome_at rules limit k most s t why result goes e is =
-    is ∙ (ap (λ n. ending_of n t why) e ∙ ended_by rules limit most t why (subst (λ (x : Standing). Stops rules limit most x why) (sym goes.0) goes.1))
+pub outcome_at : (rules : Rules) (limit k max_calls : ℕ) (s t : Standing) (why : Standstill) (result : Option Outcome) → Goes rules limit max_calls s t (Some why) → k ≡ limit → result ≡ ending_of k t why → result ≡ outcome_of rules limit max_calls t
+outcome_at rules limit k max_calls s t why result goes e is =
+    is ∙ (ap (λ n. ending_of n t why) e ∙ ended_by rules limit max_calls t why (subst (λ (x : Standing). StandsStill rules limit max_calls x why) (sym goes.0) goes.1))
 
-pub still_at : (rules : Rules) (limit most : ℕ) (s t : Standing) (why : Stop) → Goes rules limit most s t (Some why) → IsStill rules limit most t
-still_at rules limit most s t why goes = still rules limit most t why (subst (λ (x : Standing). Stops rules limit most x why) (sym goes.0) goes.1)
+pub still_at : (rules : Rules) (limit max_calls : ℕ) (s t : Standing) (why : Standstill) → Goes rules limit max_calls s t (Some why) → IsStill rules limit max_calls t
+still_at rules limit max_calls s t why goes = still rules limit max_calls t why (subst (λ (x : Standing). StandsStill rules limit max_calls x why) (sym goes.0) goes.1)
 
 -- ---- once there is an outcome nothing is due
 
@@ -76,14 +76,14 @@ none_due [] [] found outcome e some = (refl, refl)
 none_due [] (x ∷ b) found outcome e some = absurd (not_some outcome e some)
 none_due (x ∷ a) b found outcome e some = absurd (not_some outcome e some)
 
-pub over_owes_nothing : (rules : Rules) (limit most : ℕ) (s : Standing) (outcome : Option Outcome) → IsAtRest rules limit most s outcome → is_some outcome ≡ true → (s.to_client ≡ []) × (s.to_upstream ≡ [])
+pub over_owes_nothing : (rules : Rules) (limit max_calls : ℕ) (s : Standing) (outcome : Option Outcome) → IsAtRest rules limit max_calls s outcome → is_some outcome ≡ true → (s.to_client ≡ []) × (s.to_upstream ≡ [])
 unfolding outcome_of
-over_owes_nothing rules limit most s outcome rest some = none_due s.to_client s.to_upstream _ outcome rest.outcome_is some
+over_owes_nothing rules limit max_calls s outcome rest some = none_due s.to_client s.to_upstream _ outcome rest.outcome_is some
 
 by_side : (side : Side) (s : Standing) → (s.to_client ≡ []) × (s.to_upstream ≡ []) → due_to side s ≡ []
 by_side side.Client s none = none.0
 by_side side.Upstream s none = none.1
 
-pub over_due : (rules : Rules) (limit most : ℕ) (s t : Standing) (outcome told : Option Outcome) (side : Side) → IsAtRest rules limit most s outcome → s ≡ t → outcome ≡ told → is_some told ≡ true → due_to side t ≡ []
-over_due rules limit most s t outcome told side rest a b some =
-    by_side side t (subst (λ (x : Standing). (x.to_client ≡ []) × (x.to_upstream ≡ [])) a (over_owes_nothing rules limit most s outcome rest (ap is_some b ∙ some)))
+pub over_due : (rules : Rules) (limit max_calls : ℕ) (s t : Standing) (outcome told : Option Outcome) (side : Side) → IsAtRest rules limit max_calls s outcome → s ≡ t → outcome ≡ told → is_some told ≡ true → due_to side t ≡ []
+over_due rules limit max_calls s t outcome told side rest a b some =
+    by_side side t (subst (λ (x : Standing). (x.to_client ≡ []) × (x.to_upstream ≡ [])) a (over_owes_nothing rules limit max_calls s outcome rest (ap is_some b ∙ some)))

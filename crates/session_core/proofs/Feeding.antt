@@ -7,14 +7,12 @@ use Rattle.session_core.specs.Rules.{Rules}
 use Rattle.session_core.specs.Standing.{Standing, History}
 use Rattle.session_core.specs.Stands.{IsTaken}
 use Rattle.session_core.specs.Fits.{Fits}
-use Rattle.session_core.specs.Working.{IsReady, IsSettled}
-use Rattle.session_core.specs.declared.state.State.{State}
 
 taken_fed : (limit : ℕ) (bytes : List ℕ) (xs : List (List ℕ)) (rest more : List ℕ) → IsTaken limit bytes xs rest → IsTaken limit (bytes ++ more) xs (rest ++ more)
 taken_fed limit bytes xs rest more t = record { each = t.each; whole = ap (λ b. b ++ more) t.whole ∙ append_assoc (flat_map framed xs) rest more }
 
-pub fed_client : (rules : Rules) (limit most : ℕ) (h : History) (s : Standing) (piece : List ℕ) → Fits rules limit most h s → Fits rules limit most (record h { from_client = h.from_client ++ piece }) (record s { client = s.client ++ piece })
-fed_client rules limit most h s piece f = record {
+pub fed_client : (rules : Rules) (limit max_calls : ℕ) (h : History) (s : Standing) (piece : List ℕ) → Fits rules limit max_calls h s → Fits rules limit max_calls (record h { from_client = h.from_client ++ piece }) (record s { client = s.client ++ piece })
+fed_client rules limit max_calls h s piece f = record {
   xs = f.xs;
   ys = f.ys;
   lawful = f.lawful;
@@ -29,8 +27,8 @@ fed_client rules limit most h s piece f = record {
   upstream_ended = f.upstream_ended;
 }
 
-pub fed_upstream : (rules : Rules) (limit most : ℕ) (h : History) (s : Standing) (piece : List ℕ) → Fits rules limit most h s → Fits rules limit most (record h { from_upstream = h.from_upstream ++ piece }) (record s { upstream = s.upstream ++ piece })
-fed_upstream rules limit most h s piece f = record {
+pub fed_upstream : (rules : Rules) (limit max_calls : ℕ) (h : History) (s : Standing) (piece : List ℕ) → Fits rules limit max_calls h s → Fits rules limit max_calls (record h { from_upstream = h.from_upstream ++ piece }) (record s { upstream = s.upstream ++ piece })
+fed_upstream rules limit max_calls h s piece f = record {
   xs = f.xs;
   ys = f.ys;
   lawful = f.lawful;
@@ -48,8 +46,8 @@ fed_upstream rules limit most h s piece f = record {
 moved : (before due : List ℕ) (n : ℕ) → (before ++ take n due) ++ drop n due ≡ before ++ due
 moved before due n = append_assoc before (take n due) (drop n due) ∙ ap (λ b. before ++ b) (take-append-drop n due)
 
-pub sent_client : (rules : Rules) (limit most : ℕ) (h : History) (s : Standing) (n : ℕ) → Fits rules limit most h s → Fits rules limit most (record h { to_client = h.to_client ++ take n s.to_client }) (record s { to_client = drop n s.to_client })
-sent_client rules limit most h s n f = record {
+pub sent_client : (rules : Rules) (limit max_calls : ℕ) (h : History) (s : Standing) (n : ℕ) → Fits rules limit max_calls h s → Fits rules limit max_calls (record h { to_client = h.to_client ++ take n s.to_client }) (record s { to_client = drop n s.to_client })
+sent_client rules limit max_calls h s n f = record {
   xs = f.xs;
   ys = f.ys;
   lawful = f.lawful;
@@ -64,8 +62,8 @@ sent_client rules limit most h s n f = record {
   upstream_ended = f.upstream_ended;
 }
 
-pub sent_upstream : (rules : Rules) (limit most : ℕ) (h : History) (s : Standing) (n : ℕ) → Fits rules limit most h s → Fits rules limit most (record h { to_upstream = h.to_upstream ++ take n s.to_upstream }) (record s { to_upstream = drop n s.to_upstream })
-sent_upstream rules limit most h s n f = record {
+pub sent_upstream : (rules : Rules) (limit max_calls : ℕ) (h : History) (s : Standing) (n : ℕ) → Fits rules limit max_calls h s → Fits rules limit max_calls (record h { to_upstream = h.to_upstream ++ take n s.to_upstream }) (record s { to_upstream = drop n s.to_upstream })
+sent_upstream rules limit max_calls h s n f = record {
   xs = f.xs;
   ys = f.ys;
   lawful = f.lawful;
@@ -80,8 +78,8 @@ sent_upstream rules limit most h s n f = record {
   upstream_ended = f.upstream_ended;
 }
 
-pub ended_client : (rules : Rules) (limit most : ℕ) (h : History) (s : Standing) → Fits rules limit most h s → Fits rules limit most (record h { client_ended = true }) (record s { client_ended = true })
-ended_client rules limit most h s f = record {
+pub ended_client : (rules : Rules) (limit max_calls : ℕ) (h : History) (s : Standing) → Fits rules limit max_calls h s → Fits rules limit max_calls (record h { client_ended = true }) (record s { client_ended = true })
+ended_client rules limit max_calls h s f = record {
   xs = f.xs;
   ys = f.ys;
   lawful = f.lawful;
@@ -96,8 +94,8 @@ ended_client rules limit most h s f = record {
   upstream_ended = f.upstream_ended;
 }
 
-pub ended_upstream : (rules : Rules) (limit most : ℕ) (h : History) (s : Standing) → Fits rules limit most h s → Fits rules limit most (record h { upstream_ended = true }) (record s { upstream_ended = true })
-ended_upstream rules limit most h s f = record {
+pub ended_upstream : (rules : Rules) (limit max_calls : ℕ) (h : History) (s : Standing) → Fits rules limit max_calls h s → Fits rules limit max_calls (record h { upstream_ended = true }) (record s { upstream_ended = true })
+ended_upstream rules limit max_calls h s f = record {
   xs = f.xs;
   ys = f.ys;
   lawful = f.lawful;
@@ -126,10 +124,10 @@ take_on (suc n) k (x ∷ bytes) =
     ap (λ t. x ∷ t) (take_on n k bytes) ∙ ap (λ i. take i (x ∷ bytes)) (sym e)
 
 -- what is fed of the rest goes on from what was taken
-pub piece_on : (before bytes : List ℕ) (n k : ℕ) → n ≤ length bytes → k ≤ length bytes - n → (before ++ take n bytes) ++ take k (take (length bytes - n) (drop n bytes)) ≡ before ++ take (n + k) bytes
-piece_on before bytes n k within fits =
+pub take_pieces : (bytes : List ℕ) (n k : ℕ) → n ≤ length bytes → k ≤ length bytes - n → take n bytes ++ take k (take (length bytes - n) (drop n bytes)) ≡ take (n + k) bytes
+take_pieces bytes n k within fits =
     let whole : take (length bytes - n) (drop n bytes) ≡ drop n bytes = take_all (length bytes - n) (drop n bytes) (omega (arith, length-drop n bytes)) in
-    append_assoc before (take n bytes) (take k (take (length bytes - n) (drop n bytes))) ∙ (ap (λ d. before ++ (take n bytes ++ take k d)) whole ∙ ap (λ d. before ++ d) (take_on n k bytes))
+    ap (λ d. take n bytes ++ take k d) whole ∙ take_on n k bytes
 
 pub count_within : (bytes : List ℕ) (taken count room : ℕ) → taken ≤ length bytes → count ≡ min (length (take (length bytes - taken) (drop taken bytes))) room → count ≤ length bytes - taken
 count_within bytes taken count room within is =
@@ -149,34 +147,3 @@ feeds_some bytes taken count limit held room left is some fed = omega (arith, le
 pub feeds_whole : (bytes : List ℕ) (taken count limit limit' held held' : ℕ) → taken < length bytes → count ≡ min (length (take (length bytes - taken) (drop taken bytes))) (limit' + 4 - held') → limit' ≡ limit → (taken ≡ 0 → held' ≡ held) → (length bytes + held ≤ limit + 4 → 0 < taken → taken ≡ length bytes) → length bytes + held ≤ limit + 4 → taken + count ≡ length bytes
 feeds_whole bytes zero count limit limit' held held' left fed is start whole fits = omega (arith, left, fed, is, start refl, fits, rest_length bytes zero)
 feeds_whole bytes (suc n) count limit limit' held held' left fed is start whole fits = absurd (omega (arith, left, whole fits (omega arith)))
-
--- ---- a piece is fed, and the session settles
-
-fits_at : (rules others : Rules) (limit k most m : ℕ) (s t : Standing) → others ≡ rules → k ≡ limit → m ≡ most → ((h : History) → Fits others k m h s → Fits others k m h t) → (h : History) → Fits rules limit most h s → Fits rules limit most h t
-fits_at rules others limit k most m s t a b d go =
-    subst (λ (r : Rules). (h : History) → Fits r limit most h s → Fits r limit most h t) a
-    (subst (λ (n : ℕ). (h : History) → Fits others n most h s → Fits others n most h t) b
-    (subst (λ (n : ℕ). (h : History) → Fits others k n h s → Fits others k n h t) d go))
-
-pub client_piece : (rules others : Rules) (limit k most m taken count : ℕ) (h : History) (s mid t : Standing) (bytes : List ℕ) → others ≡ rules → k ≡ limit → m ≡ most → taken ≤ length bytes → count ≤ length bytes - taken → mid ≡ record s { client = s.client ++ take count (take (length bytes - taken) (drop taken bytes)) } → ((h : History) → Fits others k m h mid → Fits others k m h t) → Fits rules limit most (record h { from_client = h.from_client ++ take taken bytes }) s → Fits rules limit most (record h { from_client = h.from_client ++ take (taken + count) bytes }) t
-client_piece rules others limit k most m taken count h s mid t bytes a b d within fits is go f =
-    let piece = take count (take (length bytes - taken) (drop taken bytes)) in
-    let fed = fed_client rules limit most (record h { from_client = h.from_client ++ take taken bytes }) s piece f in
-    fits_at rules others limit k most m mid t a b d go (record h { from_client = h.from_client ++ take (taken + count) bytes })
-    (subst (λ (u : Standing). Fits rules limit most (record h { from_client = h.from_client ++ take (taken + count) bytes }) u) (sym is)
-    (subst (λ (l : List ℕ). Fits rules limit most (record h { from_client = l }) (record s { client = s.client ++ piece })) (piece_on h.from_client bytes taken count within fits) fed))
-
-pub upstream_piece : (rules others : Rules) (limit k most m taken count : ℕ) (h : History) (s mid t : Standing) (bytes : List ℕ) → others ≡ rules → k ≡ limit → m ≡ most → taken ≤ length bytes → count ≤ length bytes - taken → mid ≡ record s { upstream = s.upstream ++ take count (take (length bytes - taken) (drop taken bytes)) } → ((h : History) → Fits others k m h mid → Fits others k m h t) → Fits rules limit most (record h { from_upstream = h.from_upstream ++ take taken bytes }) s → Fits rules limit most (record h { from_upstream = h.from_upstream ++ take (taken + count) bytes }) t
-upstream_piece rules others limit k most m taken count h s mid t bytes a b d within fits is go f =
-    let piece = take count (take (length bytes - taken) (drop taken bytes)) in
-    let fed = fed_upstream rules limit most (record h { from_upstream = h.from_upstream ++ take taken bytes }) s piece f in
-    fits_at rules others limit k most m mid t a b d go (record h { from_upstream = h.from_upstream ++ take (taken + count) bytes })
-    (subst (λ (u : Standing). Fits rules limit most (record h { from_upstream = h.from_upstream ++ take (taken + count) bytes }) u) (sym is)
-    (subst (λ (l : List ℕ). Fits rules limit most (record h { from_upstream = l }) (record s { upstream = s.upstream ++ piece })) (piece_on h.from_upstream bytes taken count within fits) fed))
-
-pub ready_at : (limit k most m : ℕ) (s : State) → k ≡ limit → m ≡ most → IsReady k m s → IsReady limit most s
-ready_at limit k most m s a b h = subst (λ (n : ℕ). IsReady n most s) a (subst (λ (n : ℕ). IsReady k n s) b h)
-
-pub settled_at : (rules others : Rules) (limit k most m : ℕ) (s : State) → others ≡ rules → k ≡ limit → m ≡ most → IsSettled others k m s → IsSettled rules limit most s
-settled_at rules others limit k most m s a b d h =
-    subst (λ (r : Rules). IsSettled r limit most s) a (subst (λ (n : ℕ). IsSettled others n most s) b (subst (λ (n : ℕ). IsSettled others k n s) d h))

@@ -46,10 +46,10 @@ clash rules y call other halt calls k e f a b =
 dropped_more : {X : Type 0} (xs : List X) (n m : ℕ) (x : X) (rest : List X) → drop n xs ≡ x ∷ rest → m ≡ n + 1 → drop m xs ≡ rest
 dropped_more xs n m x rest e k = ap (λ i. drop i xs) k ∙ (sym (drop-drop 1 n xs) ∙ ap (drop 1) e)
 
-pub lawful_client : (rules : Rules) (most : ℕ) (xs ys : List (List ℕ)) (x : List ℕ) → IsLawful rules most xs ys → ((halt : Halt) → rules.judged x ≡ client.Halts halt → ⊥) → length (calls_of rules xs) < most + length ys → ((cause : Cause) → rules.judged x ≡ client.Refused cause → length (calls_of rules xs) ≤ length ys) → IsLawful rules most (xs ++ x ∷ []) ys
-lawful_client rules most xs ys x l passes few turn = record {
+pub lawful_client : (rules : Rules) (max_calls : ℕ) (xs ys : List (List ℕ)) (x : List ℕ) → IsLawful rules max_calls xs ys → ((halt : Halt) → rules.judged x ≡ client.Halts halt → ⊥) → length (calls_of rules xs) < max_calls + length ys → ((cause : Cause) → rules.judged x ≡ client.Refused cause → length (calls_of rules xs) ≤ length ys) → IsLawful rules max_calls (xs ++ x ∷ []) ys
+lawful_client rules max_calls xs ys x l passes few turn = record {
   passes = λ early late y h e j. each_more (λ before z. (halt : Halt) → rules.judged z ≡ client.Halts halt → ⊥) xs x (λ a b z f k i. l.passes a b z k f i) passes early late y e h j;
-  few = λ early late y e. each_more (λ before z. length (calls_of rules before) < most + length ys) xs x (λ a b z f. l.few a b z f) few early late y e;
+  few = λ early late y e. each_more (λ before z. length (calls_of rules before) < max_calls + length ys) xs x (λ a b z f. l.few a b z f) few early late y e;
   in_turn = λ early late y cause e j. each_more (λ before z. (k : Cause) → rules.judged z ≡ client.Refused k → length (calls_of rules before) ≤ length ys) xs x (λ a b z f k i. l.in_turn a b z k f i) turn early late y e cause j;
   paired = omega (arith, l.paired, ap length (calls_more rules xs x), length-append (calls_of rules xs) (opened (rules.judged x)));
   replies = λ early late y call h e at j.
@@ -57,8 +57,8 @@ lawful_client rules most xs ys x l passes few turn = record {
       l.replies early late y call h e (sym (get_front (calls_of rules xs) (opened (rules.judged x)) (length early) inside) ∙ (ap (λ cs. slice_get cs (length early)) (sym (calls_more rules xs x)) ∙ at)) j;
 }
 
-pub lawful_upstream : (rules : Rules) (most : ℕ) (xs ys : List (List ℕ)) (y : List ℕ) (call : Call) (calls : List Call) → IsLawful rules most xs ys → drop (length ys) (calls_of rules xs) ≡ call ∷ calls → rules.replied call y ≡ upstream.Answers → IsLawful rules most xs (ys ++ y ∷ [])
-lawful_upstream rules most xs ys y call calls l is_open replied = record {
+pub lawful_upstream : (rules : Rules) (max_calls : ℕ) (xs ys : List (List ℕ)) (y : List ℕ) (call : Call) (calls : List Call) → IsLawful rules max_calls xs ys → drop (length ys) (calls_of rules xs) ≡ call ∷ calls → rules.replied call y ≡ upstream.Answers → IsLawful rules max_calls xs (ys ++ y ∷ [])
+lawful_upstream rules max_calls xs ys y call calls l is_open replied = record {
   passes = l.passes;
   few = λ early late x e. omega (arith, l.few early late x e, length-append ys (y ∷ []));
   in_turn = λ early late x cause e j. omega (arith, l.in_turn early late x cause e j, length-append ys (y ∷ []));
@@ -74,13 +74,13 @@ taken_more limit bytes xs held x rest taken cut = record {
 
 -- ---- a frame of the client
 
-client_on : (rules : Rules) (limit most : ℕ) (h : History) (s t : Standing) (frame rest : List ℕ) (f : Fits rules limit most h s) → IsCut limit s.client frame rest → ((halt : Halt) → rules.judged frame ≡ client.Halts halt → ⊥) → length s.calls < most → ((cause : Cause) → rules.judged frame ≡ client.Refused cause → s.calls ≡ []) → s.to_upstream ≡ [] → t.client ≡ rest → t.upstream ≡ s.upstream → t.to_upstream ≡ sent_on (rules.judged frame) (rules.output frame) → h.to_client ++ t.to_client ≡ back rules (f.xs ++ frame ∷ []) f.ys → t.calls ≡ s.calls ++ opened (rules.judged frame) → t.taken ≡ told (s.taken + 1) → t.answered ≡ s.answered → t.client_ended ≡ s.client_ended → t.upstream_ended ≡ s.upstream_ended → Fits rules limit most h t
-client_on rules limit most h s t frame rest f cut passes few turn none held other out back calls taken answered ends upstream_ends =
+client_on : (rules : Rules) (limit max_calls : ℕ) (h : History) (s t : Standing) (frame rest : List ℕ) (f : Fits rules limit max_calls h s) → IsCut limit s.client frame rest → ((halt : Halt) → rules.judged frame ≡ client.Halts halt → ⊥) → length s.calls < max_calls → ((cause : Cause) → rules.judged frame ≡ client.Refused cause → s.calls ≡ []) → s.to_upstream ≡ [] → t.client ≡ rest → t.upstream ≡ s.upstream → t.to_upstream ≡ sent_on (rules.judged frame) (rules.output frame) → h.to_client ++ t.to_client ≡ back rules (f.xs ++ frame ∷ []) f.ys → t.calls ≡ s.calls ++ opened (rules.judged frame) → t.taken ≡ told (s.taken + 1) → t.answered ≡ s.answered → t.client_ended ≡ s.client_ended → t.upstream_ended ≡ s.upstream_ended → Fits rules limit max_calls h t
+client_on rules limit max_calls h s t frame rest f cut passes few turn none held other out back calls taken answered ends upstream_ends =
     let long : length s.calls ≡ length (calls_of rules f.xs) - length f.ys = ap length f.calls ∙ length-drop (length f.ys) (calls_of rules f.xs) in
     record {
       xs = f.xs ++ frame ∷ [];
       ys = f.ys;
-      lawful = lawful_client rules most f.xs f.ys frame f.lawful passes (omega (arith, long, few, f.lawful.paired)) (λ cause j. omega (arith, long, ap length (turn cause j), f.lawful.paired));
+      lawful = lawful_client rules max_calls f.xs f.ys frame f.lawful passes (omega (arith, long, few, f.lawful.paired)) (λ cause j. omega (arith, long, ap length (turn cause j), f.lawful.paired));
       client = subst (λ b. IsTaken limit h.from_client (f.xs ++ frame ∷ []) b) (sym held) (taken_more limit h.from_client f.xs s.client frame rest f.client cut);
       upstream = subst (λ b. IsTaken limit h.from_upstream f.ys b) (sym other) f.upstream;
       to_client = back;
@@ -98,27 +98,27 @@ client_on rules limit most h s t frame rest f cut passes few turn none held othe
       upstream_ended = upstream_ends ∙ f.upstream_ended;
     }
 
-record ClientTook (rules : Rules) (limit most : ℕ) (s t : Standing) : Type 0 where
+record ClientTook (rules : Rules) (limit max_calls : ℕ) (s t : Standing) : Type 0 where
   frame : List ℕ
   rest : List ℕ
   none : s.to_upstream ≡ []
-  few : length s.calls < most
+  few : length s.calls < max_calls
   whole : front limit s.client ≡ Whole frame rest
   moves : by_judged (rules.judged frame) s (rules.output frame) (rules.answer frame) rest ≡ Takes t
 
-client_by_front : (rules : Rules) (limit most : ℕ) (s t : Standing) (f : Front) → s.to_upstream ≡ [] → length s.calls < most → front limit s.client ≡ f → client_front rules s f ≡ Takes t → ClientTook rules limit most s t
-client_by_front rules limit most s t Part none few e m = absurd (cc)
-client_by_front rules limit most s t (Large n) none few e m = absurd (cc)
-client_by_front rules limit most s t (Whole frame rest) none few e m = record { frame = frame; rest = rest; none = none; few = few; whole = e; moves = m }
+client_by_front : (rules : Rules) (limit max_calls : ℕ) (s t : Standing) (f : Front) → s.to_upstream ≡ [] → length s.calls < max_calls → front limit s.client ≡ f → client_front rules s f ≡ Takes t → ClientTook rules limit max_calls s t
+client_by_front rules limit max_calls s t Part none few e m = absurd (cc)
+client_by_front rules limit max_calls s t (Large n) none few e m = absurd (cc)
+client_by_front rules limit max_calls s t (Whole frame rest) none few e m = record { frame = frame; rest = rest; none = none; few = few; whole = e; moves = m }
 
-client_by_tests : (rules : Rules) (limit most : ℕ) (s t : Standing) (due : List ℕ) (b : Bool) → s.to_upstream ≡ due → nat_lt (length s.calls) most ≡ b → (if is_none due && b then client_front rules s (front limit s.client) else Waits) ≡ Takes t → ClientTook rules limit most s t
-client_by_tests rules limit most s t [] true none e m = client_by_front rules limit most s t (front limit s.client) none (grind (arith, nat_tests)) refl m
-client_by_tests rules limit most s t [] false none e m = absurd (cc)
-client_by_tests rules limit most s t (d ∷ due) b none e m = absurd (cc)
+client_by_tests : (rules : Rules) (limit max_calls : ℕ) (s t : Standing) (due : List ℕ) (b : Bool) → s.to_upstream ≡ due → nat_lt (length s.calls) max_calls ≡ b → (if is_none due && b then client_front rules s (front limit s.client) else Waits) ≡ Takes t → ClientTook rules limit max_calls s t
+client_by_tests rules limit max_calls s t [] true none e m = client_by_front rules limit max_calls s t (front limit s.client) none (grind (arith, nat_tests)) refl m
+client_by_tests rules limit max_calls s t [] false none e m = absurd (cc)
+client_by_tests rules limit max_calls s t (d ∷ due) b none e m = absurd (cc)
 
-client_took : (rules : Rules) (limit most : ℕ) (s t : Standing) → of_client rules limit most s ≡ Takes t → ClientTook rules limit most s t
+client_took : (rules : Rules) (limit max_calls : ℕ) (s t : Standing) → of_client rules limit max_calls s ≡ Takes t → ClientTook rules limit max_calls s t
 unfolding of_client
-client_took rules limit most s t e = client_by_tests rules limit most s t s.to_upstream (nat_lt (length s.calls) most) refl refl e
+client_took rules limit max_calls s t e = client_by_tests rules limit max_calls s t s.to_upstream (nat_lt (length s.calls) max_calls) refl refl e
 
 inner : (s t : Standing) → Takes s ≡ Takes t → s ≡ t
 inner s t e = cc
@@ -129,32 +129,32 @@ refused_by s t output answer rest [] [] c d m = (c, d, inner _ _ m)
 refused_by s t output answer rest [] (x ∷ due) c d m = absurd (cc)
 refused_by s t output answer rest (x ∷ calls) due c d m = absurd (cc)
 
-quiet_back : (rules : Rules) (limit most : ℕ) (h : History) (s : Standing) (frame : List ℕ) (f : Fits rules limit most h s) → ((cause : Cause) → rules.judged frame ≡ client.Refused cause → ⊥) → h.to_client ++ s.to_client ≡ back rules (f.xs ++ frame ∷ []) f.ys
-quiet_back rules limit most h s frame f quiet = f.to_client ∙ sym (back_more rules f.xs f.ys frame quiet f.lawful.paired)
+quiet_back : (rules : Rules) (limit max_calls : ℕ) (h : History) (s : Standing) (frame : List ℕ) (f : Fits rules limit max_calls h s) → ((cause : Cause) → rules.judged frame ≡ client.Refused cause → ⊥) → h.to_client ++ s.to_client ≡ back rules (f.xs ++ frame ∷ []) f.ys
+quiet_back rules limit max_calls h s frame f quiet = f.to_client ∙ sym (back_more rules f.xs f.ys frame quiet f.lawful.paired)
 
-fits_by : (rules : Rules) (limit most : ℕ) (h : History) (s t : Standing) (frame rest : List ℕ) (v : ClientJudged) (f : Fits rules limit most h s) → IsCut limit s.client frame rest → length s.calls < most → s.to_upstream ≡ [] → rules.judged frame ≡ v → by_judged v s (rules.output frame) (rules.answer frame) rest ≡ Takes t → Fits rules limit most h t
-fits_by rules limit most h s t frame rest (client.Halts halt) f cut few none j m = absurd (cc)
-fits_by rules limit most h s t frame rest (client.Opens call) f cut few none j m =
-    subst (λ u. Fits rules limit most h u) (inner _ _ m)
-    (client_on rules limit most h s _ frame rest f cut (λ k i. cc) few (λ k i. absurd (cc)) none refl refl (ap (λ u. sent_on u (rules.output frame)) (sym j)) (quiet_back rules limit most h s frame f (λ k i. cc)) (ap (λ u. s.calls ++ opened u) (sym j)) refl refl refl refl)
-fits_by rules limit most h s t frame rest client.Goes f cut few none j m =
-    subst (λ u. Fits rules limit most h u) (inner _ _ m)
-    (client_on rules limit most h s _ frame rest f cut (λ k i. cc) few (λ k i. absurd (cc)) none refl refl (ap (λ u. sent_on u (rules.output frame)) (sym j)) (quiet_back rules limit most h s frame f (λ k i. cc)) (sym (append-nil s.calls) ∙ ap (λ u. s.calls ++ opened u) (sym j)) refl refl refl refl)
-fits_by rules limit most h s t frame rest (client.Refused cause) f cut few none j m =
+fits_by : (rules : Rules) (limit max_calls : ℕ) (h : History) (s t : Standing) (frame rest : List ℕ) (v : ClientJudged) (f : Fits rules limit max_calls h s) → IsCut limit s.client frame rest → length s.calls < max_calls → s.to_upstream ≡ [] → rules.judged frame ≡ v → by_judged v s (rules.output frame) (rules.answer frame) rest ≡ Takes t → Fits rules limit max_calls h t
+fits_by rules limit max_calls h s t frame rest (client.Halts halt) f cut few none j m = absurd (cc)
+fits_by rules limit max_calls h s t frame rest (client.Opens call) f cut few none j m =
+    subst (λ u. Fits rules limit max_calls h u) (inner _ _ m)
+    (client_on rules limit max_calls h s _ frame rest f cut (λ k i. cc) few (λ k i. absurd (cc)) none refl refl (ap (λ u. sent_on u (rules.output frame)) (sym j)) (quiet_back rules limit max_calls h s frame f (λ k i. cc)) (ap (λ u. s.calls ++ opened u) (sym j)) refl refl refl refl)
+fits_by rules limit max_calls h s t frame rest client.Goes f cut few none j m =
+    subst (λ u. Fits rules limit max_calls h u) (inner _ _ m)
+    (client_on rules limit max_calls h s _ frame rest f cut (λ k i. cc) few (λ k i. absurd (cc)) none refl refl (ap (λ u. sent_on u (rules.output frame)) (sym j)) (quiet_back rules limit max_calls h s frame f (λ k i. cc)) (sym (append-nil s.calls) ∙ ap (λ u. s.calls ++ opened u) (sym j)) refl refl refl refl)
+fits_by rules limit max_calls h s t frame rest (client.Refused cause) f cut few none j m =
     let parts = refused_by s t (rules.output frame) (rules.answer frame) rest s.calls s.to_client refl refl m in
     let long : length s.calls ≡ length (calls_of rules f.xs) - length f.ys = ap length f.calls ∙ length-drop (length f.ys) (calls_of rules f.xs) in
     let all : length f.ys ≡ length (calls_of rules f.xs) = omega (arith, long, ap length parts.0, f.lawful.paired) in
     let sent : h.to_client ≡ back rules f.xs f.ys = sym (append-nil h.to_client) ∙ (ap (λ b. h.to_client ++ b) (sym parts.1) ∙ f.to_client) in
-    subst (λ u. Fits rules limit most h u) parts.2
-    (client_on rules limit most h s _ frame rest f cut (λ k i. cc) few (λ k i. parts.0) none refl refl (none ∙ ap (λ u. sent_on u (rules.output frame)) (sym j)) (ap (λ b. b ++ framed (rules.answer frame)) sent ∙ sym (back_answered rules f.xs f.ys frame cause j all)) (sym (append-nil s.calls) ∙ ap (λ u. s.calls ++ opened u) (sym j)) refl refl refl refl)
-fits_by rules limit most h s t frame rest client.Dropped f cut few none j m =
-    subst (λ u. Fits rules limit most h u) (inner _ _ m)
-    (client_on rules limit most h s _ frame rest f cut (λ k i. cc) few (λ k i. absurd (cc)) none refl refl (none ∙ ap (λ u. sent_on u (rules.output frame)) (sym j)) (quiet_back rules limit most h s frame f (λ k i. cc)) (sym (append-nil s.calls) ∙ ap (λ u. s.calls ++ opened u) (sym j)) refl refl refl refl)
+    subst (λ u. Fits rules limit max_calls h u) parts.2
+    (client_on rules limit max_calls h s _ frame rest f cut (λ k i. cc) few (λ k i. parts.0) none refl refl (none ∙ ap (λ u. sent_on u (rules.output frame)) (sym j)) (ap (λ b. b ++ framed (rules.answer frame)) sent ∙ sym (back_answered rules f.xs f.ys frame cause j all)) (sym (append-nil s.calls) ∙ ap (λ u. s.calls ++ opened u) (sym j)) refl refl refl refl)
+fits_by rules limit max_calls h s t frame rest client.Dropped f cut few none j m =
+    subst (λ u. Fits rules limit max_calls h u) (inner _ _ m)
+    (client_on rules limit max_calls h s _ frame rest f cut (λ k i. cc) few (λ k i. absurd (cc)) none refl refl (none ∙ ap (λ u. sent_on u (rules.output frame)) (sym j)) (quiet_back rules limit max_calls h s frame f (λ k i. cc)) (sym (append-nil s.calls) ∙ ap (λ u. s.calls ++ opened u) (sym j)) refl refl refl refl)
 
-pub fits_client : (rules : Rules) (limit most : ℕ) (h : History) (s t : Standing) → of_client rules limit most s ≡ Takes t → Cuts limit s.client → Fits rules limit most h s → Fits rules limit most h t
-fits_client rules limit most h s t e cuts f =
-    let took = client_took rules limit most s t e in
-    fits_by rules limit most h s t took.frame took.rest (rules.judged took.frame) f (cuts took.frame took.rest took.whole) took.few took.none refl took.moves
+pub fits_client : (rules : Rules) (limit max_calls : ℕ) (h : History) (s t : Standing) → of_client rules limit max_calls s ≡ Takes t → Cuts limit s.client → Fits rules limit max_calls h s → Fits rules limit max_calls h t
+fits_client rules limit max_calls h s t e cuts f =
+    let took = client_took rules limit max_calls s t e in
+    fits_by rules limit max_calls h s t took.frame took.rest (rules.judged took.frame) f (cuts took.frame took.rest took.whole) took.few took.none refl took.moves
 
 -- ---- a frame of the upstream
 
@@ -199,17 +199,17 @@ upstream_took : (rules : Rules) (limit : ℕ) (s t : Standing) → of_upstream r
 unfolding of_upstream
 upstream_took rules limit s t e = upstream_by_calls rules limit s t s.calls refl e
 
-pub fits_upstream : (rules : Rules) (limit most : ℕ) (h : History) (s t : Standing) → of_upstream rules limit s ≡ Takes t → Cuts limit s.upstream → Fits rules limit most h s → Fits rules limit most h t
-fits_upstream rules limit most h s t e cuts f =
+pub fits_upstream : (rules : Rules) (limit max_calls : ℕ) (h : History) (s t : Standing) → of_upstream rules limit s ≡ Takes t → Cuts limit s.upstream → Fits rules limit max_calls h s → Fits rules limit max_calls h t
+fits_upstream rules limit max_calls h s t e cuts f =
     let took = upstream_took rules limit s t e in
     let open_is : drop (length f.ys) (calls_of rules f.xs) ≡ took.call ∷ took.calls = sym f.calls ∙ took.opened in
     let sent : h.to_client ≡ back rules f.xs f.ys = sym (append-nil h.to_client) ∙ (ap (λ b. h.to_client ++ b) (sym took.none) ∙ f.to_client) in
     let left : drop (length (f.ys ++ took.frame ∷ [])) (calls_of rules f.xs) ≡ took.calls = dropped_more (calls_of rules f.xs) (length f.ys) (length (f.ys ++ took.frame ∷ [])) took.call took.calls open_is (length-append f.ys (took.frame ∷ [])) in
-    subst (λ u. Fits rules limit most h u) took.after
+    subst (λ u. Fits rules limit max_calls h u) took.after
     (record {
       xs = f.xs;
       ys = f.ys ++ took.frame ∷ [];
-      lawful = lawful_upstream rules most f.xs f.ys took.frame took.call took.calls f.lawful open_is took.answers;
+      lawful = lawful_upstream rules max_calls f.xs f.ys took.frame took.call took.calls f.lawful open_is took.answers;
       client = f.client;
       upstream = taken_more limit h.from_upstream f.ys s.upstream took.frame took.rest f.upstream (cuts took.frame took.rest took.whole);
       to_client = ap (λ b. b ++ framed (rules.reply took.call took.frame)) sent ∙ sym (back_replied rules f.xs f.ys took.frame took.call took.calls open_is f.lawful.in_turn);
@@ -221,9 +221,9 @@ fits_upstream rules limit most h s t e cuts f =
       upstream_ended = f.upstream_ended;
     })
 
-pub fits_on : (rules : Rules) (limit most : ℕ) (h : History) (s t : Standing) → Took rules limit most s t → Fits rules limit most h s → Fits rules limit most h t
-fits_on rules limit most h s t (ByUpstream e cuts) f = fits_upstream rules limit most h s t e cuts f
-fits_on rules limit most h s t (ByClient w e cuts) f = fits_client rules limit most h s t e cuts f
+pub fits_on : (rules : Rules) (limit max_calls : ℕ) (h : History) (s t : Standing) → Took rules limit max_calls s t → Fits rules limit max_calls h s → Fits rules limit max_calls h t
+fits_on rules limit max_calls h s t (ByUpstream e cuts) f = fits_upstream rules limit max_calls h s t e cuts f
+fits_on rules limit max_calls h s t (ByClient w e cuts) f = fits_client rules limit max_calls h s t e cuts f
 
 -- ---- what is held after a step
 
@@ -236,9 +236,9 @@ rests_by s t (client.Refused cause) output answer rest m =
     (ap (λ (u : Standing). u.client) (sym e), ap (λ (u : Standing). u.upstream) (sym e))
 rests_by s t client.Dropped output answer rest m = let e = inner _ _ m in (ap (λ (u : Standing). u.client) (sym e), ap (λ (u : Standing). u.upstream) (sym e))
 
-pub client_took_rests : (rules : Rules) (limit most : ℕ) (s t : Standing) → of_client rules limit most s ≡ Takes t → (frame : List ℕ) × (rest : List ℕ) × (front limit s.client ≡ Whole frame rest) × (t.client ≡ rest) × (t.upstream ≡ s.upstream)
-client_took_rests rules limit most s t e =
-    let took = client_took rules limit most s t e in
+pub client_took_rests : (rules : Rules) (limit max_calls : ℕ) (s t : Standing) → of_client rules limit max_calls s ≡ Takes t → (frame : List ℕ) × (rest : List ℕ) × (front limit s.client ≡ Whole frame rest) × (t.client ≡ rest) × (t.upstream ≡ s.upstream)
+client_took_rests rules limit max_calls s t e =
+    let took = client_took rules limit max_calls s t e in
     let r = rests_by s t (rules.judged took.frame) (rules.output took.frame) (rules.answer took.frame) took.rest took.moves in
     (took.frame, took.rest, took.whole, r.0, r.1)
 

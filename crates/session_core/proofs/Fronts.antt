@@ -62,15 +62,15 @@ get_some (x ∷ xs) (suc k) h = get_some xs k (omega (arith, h))
 
 -- ---- all frames go on from those that were taken
 
-client_goes_on : (rules : Rules) (limit most : ℕ) (h : History) (s : Standing) (f : Fits rules limit most h s) (zs : List (List ℕ)) (all : IsAllOfClient rules limit h.from_client zs) → Compared limit zs f.xs all.rest → (more : List (List ℕ)) × (zs ≡ f.xs ++ more)
-client_goes_on rules limit most h s f zs all (inl (more, e)) = (more, e)
-client_goes_on rules limit most h s f zs all (inr (x, more, behind, e, w)) =
+client_goes_on : (rules : Rules) (limit max_calls : ℕ) (h : History) (s : Standing) (f : Fits rules limit max_calls h s) (zs : List (List ℕ)) (all : IsAllOfClient rules limit h.from_client zs) → Compared limit zs f.xs all.rest → (more : List (List ℕ)) × (zs ≡ f.xs ++ more)
+client_goes_on rules limit max_calls h s f zs all (inl (more, e)) = (more, e)
+client_goes_on rules limit max_calls h s f zs all (inr (x, more, behind, e, w)) =
     let halts = all.last x behind w in
     absurd (f.lawful.passes zs more x halts.0 e halts.1)
 
-upstream_goes_on : (rules : Rules) (limit most : ℕ) (h : History) (s : Standing) (f : Fits rules limit most h s) (zs ws more : List (List ℕ)) → zs ≡ f.xs ++ more → (all : IsAllOfUpstream rules limit (calls_of rules zs) h.from_upstream ws) → Compared limit ws f.ys all.rest → (w : List (List ℕ)) × (ws ≡ f.ys ++ w)
-upstream_goes_on rules limit most h s f zs ws more d all (inl (w, e)) = (w, e)
-upstream_goes_on rules limit most h s f zs ws more d all (inr (y, late, behind, e, v)) =
+upstream_goes_on : (rules : Rules) (limit max_calls : ℕ) (h : History) (s : Standing) (f : Fits rules limit max_calls h s) (zs ws more : List (List ℕ)) → zs ≡ f.xs ++ more → (all : IsAllOfUpstream rules limit (calls_of rules zs) h.from_upstream ws) → Compared limit ws f.ys all.rest → (w : List (List ℕ)) × (ws ≡ f.ys ++ w)
+upstream_goes_on rules limit max_calls h s f zs ws more d all (inl (w, e)) = (w, e)
+upstream_goes_on rules limit max_calls h s f zs ws more d all (inr (y, late, behind, e, v)) =
     let inside : length ws < length (calls_of rules f.xs) = omega (arith, f.lawful.paired, ap length e, length-append ws (y ∷ late)) in
     let at = get_some (calls_of rules f.xs) (length ws) inside in
     let same : slice_get (calls_of rules zs) (length ws) ≡ Some at.0 =
@@ -78,10 +78,10 @@ upstream_goes_on rules limit most h s f zs ws more d all (inr (y, late, behind, 
     let halts = all.last y behind at.0 v same in
     absurd (f.lawful.replies ws late y at.0 halts.0 e at.1 halts.1)
 
-pub fronts : StandsAtFront → (rules : Rules) (limit most : ℕ) (h : History) (s : Standing) (zs ws : List (List ℕ)) → limit < 2 ^ 31 → Fits rules limit most h s → IsAllOfClient rules limit h.from_client zs → IsAllOfUpstream rules limit (calls_of rules zs) h.from_upstream ws → IsFrontOf h.to_client (back rules zs ws) × IsFrontOf h.to_upstream (onward rules zs)
-fronts law rules limit most h s zs ws small f client_all upstream_all =
-    let more = client_goes_on rules limit most h s f zs client_all (compared limit h.from_client zs f.xs client_all.rest s.client law small client_all.taken f.client) in
-    let w = upstream_goes_on rules limit most h s f zs ws more.0 more.1 upstream_all (compared limit h.from_upstream ws f.ys upstream_all.rest s.upstream law small upstream_all.taken f.upstream) in
+pub fronts : StandsAtFront → (rules : Rules) (limit max_calls : ℕ) (h : History) (s : Standing) (zs ws : List (List ℕ)) → limit < 2 ^ 31 → Fits rules limit max_calls h s → IsAllOfClient rules limit h.from_client zs → IsAllOfUpstream rules limit (calls_of rules zs) h.from_upstream ws → IsFrontOf h.to_client (back rules zs ws) × IsFrontOf h.to_upstream (onward rules zs)
+fronts law rules limit max_calls h s zs ws small f client_all upstream_all =
+    let more = client_goes_on rules limit max_calls h s f zs client_all (compared limit h.from_client zs f.xs client_all.rest s.client law small client_all.taken f.client) in
+    let w = upstream_goes_on rules limit max_calls h s f zs ws more.0 more.1 upstream_all (compared limit h.from_upstream ws f.ys upstream_all.rest s.upstream law small upstream_all.taken f.upstream) in
     let taken : IsFrontOf (back rules f.xs f.ys) (back rules zs ws) =
     subst (λ z. IsFrontOf (back rules f.xs f.ys) (back rules z ws)) (sym more.1)
     (subst (λ y. IsFrontOf (back rules f.xs f.ys) (back rules (f.xs ++ more.0) y)) (sym w.1)
@@ -96,8 +96,8 @@ same_length limit xs zs rest a b (inl ([], e)) = e ∙ append-nil zs
 same_length limit xs zs rest a b (inl (m ∷ more, e)) = absurd (omega (arith, ap length e, length-append zs (m ∷ more)))
 same_length limit xs zs rest a b (inr (x, more, behind, e, w)) = absurd (omega (arith, ap length e, length-append xs (x ∷ more)))
 
-pub one_due : StandsAtFront → (rules : Rules) (limit most : ℕ) (from_client from_upstream a b c d : List ℕ) → limit < 2 ^ 31 → IsDue rules limit most from_client from_upstream a b → IsDue rules limit most from_client from_upstream c d → (a ≡ c) × (b ≡ d)
-one_due law rules limit most from_client from_upstream a b c d small p q =
+pub one_due : StandsAtFront → (rules : Rules) (limit max_calls : ℕ) (from_client from_upstream a b c d : List ℕ) → limit < 2 ^ 31 → IsDue rules limit max_calls from_client from_upstream a b → IsDue rules limit max_calls from_client from_upstream c d → (a ≡ c) × (b ≡ d)
+one_due law rules limit max_calls from_client from_upstream a b c d small p q =
     let more = p.greatest q.at in
     let less = q.greatest p.at in
     let xs : p.at.xs ≡ q.at.xs = same_length limit p.at.xs q.at.xs p.at.client_rest less.0 more.0 (compared limit from_client p.at.xs q.at.xs p.at.client_rest q.at.client_rest law small p.at.client q.at.client) in

@@ -18,12 +18,9 @@ use Rattle.session_core.specs.declared.judge.ClientJudged.{ClientJudged}
 use Rattle.session_core.specs.declared.judge.ClientJudged.TheVariants as client
 use Rattle.session_core.specs.declared.judge.UpstreamJudged.{UpstreamJudged}
 use Rattle.session_core.specs.declared.judge.UpstreamJudged.TheVariants as upstream
+pub use Rattle.session_core.proofs.Moves.{StandsAtFront}
 use Rattle.session_core.proofs.Moves.{judges, answers}
 use Rattle.session_core.proofs.Fitting.{get_front, get_dropped}
-
--- a frame on the stream stands at its front
-abbrev pub StandsAtFront : Type 0
-StandsAtFront = (limit : ℕ) (frame rest : List ℕ) → limit < 2 ^ 31 → length frame ≤ limit → front limit (framed frame ++ rest) ≡ Whole frame rest
 
 -- of two lists of frames of the same bytes one goes on from the other
 abbrev pub Compared : ℕ → List (List ℕ) → List (List ℕ) → List ℕ → Type 0
@@ -63,20 +60,20 @@ is_answer : (v : UpstreamJudged) → ((halt : Halt) → v ≡ upstream.Halts hal
 is_answer (upstream.Halts halt) quiet = absurd (quiet halt refl)
 is_answer upstream.Answers quiet = refl
 
-no_reply_left : (rules : Rules) (limit most : ℕ) (s : Standing) (call : Call) (calls : List Call) (y rest : List ℕ) → IsStill rules limit most s → s.calls ≡ call ∷ calls → s.to_client ≡ [] → front limit s.upstream ≡ Whole y rest → ((halt : Halt) → rules.replied call y ≡ upstream.Halts halt → ⊥) → ⊥
-no_reply_left rules limit most s call calls y rest still open_is none whole quiet =
+no_reply_left : (rules : Rules) (limit max_calls : ℕ) (s : Standing) (call : Call) (calls : List Call) (y rest : List ℕ) → IsStill rules limit max_calls s → s.calls ≡ call ∷ calls → s.to_client ≡ [] → front limit s.upstream ≡ Whole y rest → ((halt : Halt) → rules.replied call y ≡ upstream.Halts halt → ⊥) → ⊥
+no_reply_left rules limit max_calls s call calls y rest still open_is none whole quiet =
     still _ (ByUpstream (answers rules limit s call calls y rest upstream.Answers open_is none whole (is_answer (rules.replied call y) quiet)))
 
 -- ---- no frame of the client is left
 
-no_halt : (rules : Rules) (limit most : ℕ) (s : Standing) (halt : Halt) → None ≡ outcome_of rules limit most s → s.to_client ≡ [] → s.to_upstream ≡ [] → of_upstream rules limit s ≡ Halts halt → ⊥
+no_halt : (rules : Rules) (limit max_calls : ℕ) (s : Standing) (halt : Halt) → None ≡ outcome_of rules limit max_calls s → s.to_client ≡ [] → s.to_upstream ≡ [] → of_upstream rules limit s ≡ Halts halt → ⊥
 unfolding outcome_of
-no_halt rules limit most s halt none due other e =
+no_halt rules limit max_calls s halt none due other e =
     let a : is_none s.to_client ≡ true = ap is_none due in
     let b : is_none s.to_upstream ≡ true = ap is_none other in
-    let both = by_both limit s (of_upstream rules limit s) (of_client rules limit most s) in
+    let both = by_both limit s (of_upstream rules limit s) (of_client rules limit max_calls s) in
     let told : (if is_none s.to_client && is_none s.to_upstream then both else None) ≡ Some (by_upstream halt s) =
-    ap (λ t. if t && is_none s.to_upstream then both else None) a ∙ (ap (λ t. if t then both else None) b ∙ ap (λ m. by_both limit s m (of_client rules limit most s)) e) in
+    ap (λ t. if t && is_none s.to_upstream then both else None) a ∙ (ap (λ t. if t then both else None) b ∙ ap (λ m. by_both limit s m (of_client rules limit max_calls s)) e) in
     let clash : None ≡ Some (by_upstream halt s) = none ∙ told in
     cc
 
@@ -91,11 +88,11 @@ taken_by (client.Refused cause) s output answer rest quiet turn due =
     )
 taken_by client.Dropped s output answer rest quiet turn due = (_, refl)
 
-no_call_left : (rules : Rules) (limit most : ℕ) (s : Standing) (x rest : List ℕ) → IsAtRest rules limit most s None → s.to_client ≡ [] → s.to_upstream ≡ [] → length s.calls < most → front limit s.client ≡ Whole x rest → ((halt : Halt) → rules.judged x ≡ client.Halts halt → ⊥) → ((cause : Cause) → rules.judged x ≡ client.Refused cause → s.calls ≡ []) → ⊥
-no_call_left rules limit most s x rest at due other few whole quiet turn =
+no_call_left : (rules : Rules) (limit max_calls : ℕ) (s : Standing) (x rest : List ℕ) → IsAtRest rules limit max_calls s None → s.to_client ≡ [] → s.to_upstream ≡ [] → length s.calls < max_calls → front limit s.client ≡ Whole x rest → ((halt : Halt) → rules.judged x ≡ client.Halts halt → ⊥) → ((cause : Cause) → rules.judged x ≡ client.Refused cause → s.calls ≡ []) → ⊥
+no_call_left rules limit max_calls s x rest at due other few whole quiet turn =
     let took = taken_by (rules.judged x) s (rules.output x) (rules.answer x) rest quiet turn due in
-    at.still took.0 (ByClient (λ halt e. no_halt rules limit most s halt at.outcome_is due other e)
-    (judges rules limit most s x rest (rules.judged x) other few whole refl ∙ took.1))
+    at.still took.0 (ByClient (λ halt e. no_halt rules limit max_calls s halt at.outcome_is due other e)
+    (judges rules limit max_calls s x rest (rules.judged x) other few whole refl ∙ took.1))
 
 -- ---- the greatest stand
 
@@ -104,50 +101,50 @@ none_of [] h = refl
 none_of (x ∷ xs) h = absurd (omega (arith, h))
 
 -- a reply is left where the other stand has one more and a call is open
-more_replies : (rules : Rules) (limit most : ℕ) (h : History) (s : Standing) (f : Fits rules limit most h s) (zs ws : List (List ℕ)) (call : Call) (calls : List Call) (y : List ℕ) (more : List (List ℕ)) (rest : List ℕ) → IsStill rules limit most s → s.to_client ≡ [] → IsLawful rules most zs ws → ws ≡ f.ys ++ y ∷ more → front limit s.upstream ≡ Whole y rest → s.calls ≡ call ∷ calls → slice_get (calls_of rules zs) (length f.ys) ≡ slice_get (calls_of rules f.xs) (length f.ys) → ⊥
-more_replies rules limit most h s f zs ws call calls y more rest still due other e whole open_is same =
+more_replies : (rules : Rules) (limit max_calls : ℕ) (h : History) (s : Standing) (f : Fits rules limit max_calls h s) (zs ws : List (List ℕ)) (call : Call) (calls : List Call) (y : List ℕ) (more : List (List ℕ)) (rest : List ℕ) → IsStill rules limit max_calls s → s.to_client ≡ [] → IsLawful rules max_calls zs ws → ws ≡ f.ys ++ y ∷ more → front limit s.upstream ≡ Whole y rest → s.calls ≡ call ∷ calls → slice_get (calls_of rules zs) (length f.ys) ≡ slice_get (calls_of rules f.xs) (length f.ys) → ⊥
+more_replies rules limit max_calls h s f zs ws call calls y more rest still due other e whole open_is same =
     let at : slice_get (calls_of rules f.xs) (length f.ys) ≡ Some call = get_dropped (calls_of rules f.xs) (length f.ys) call calls (sym f.calls ∙ open_is) in
-    no_reply_left rules limit most s call calls y rest still open_is due whole
+    no_reply_left rules limit max_calls s call calls y rest still open_is due whole
     (λ halt j. other.replies f.ys more y call halt e (same ∙ at) j)
 
 -- a call is left where the other stand has one more
-more_calls : (rules : Rules) (limit most : ℕ) (h : History) (s : Standing) (f : Fits rules limit most h s) (zs ws : List (List ℕ)) (x : List ℕ) (more : List (List ℕ)) (rest : List ℕ) → IsAtRest rules limit most s None → s.to_client ≡ [] → s.to_upstream ≡ [] → IsLawful rules most zs ws → zs ≡ f.xs ++ x ∷ more → front limit s.client ≡ Whole x rest → length s.calls < most → ((cause : Cause) → rules.judged x ≡ client.Refused cause → s.calls ≡ []) → ⊥
-more_calls rules limit most h s f zs ws x more rest at due other lawful e whole few turn =
-    no_call_left rules limit most s x rest at due other few whole (λ halt j. lawful.passes f.xs more x halt e j) turn
+more_calls : (rules : Rules) (limit max_calls : ℕ) (h : History) (s : Standing) (f : Fits rules limit max_calls h s) (zs ws : List (List ℕ)) (x : List ℕ) (more : List (List ℕ)) (rest : List ℕ) → IsAtRest rules limit max_calls s None → s.to_client ≡ [] → s.to_upstream ≡ [] → IsLawful rules max_calls zs ws → zs ≡ f.xs ++ x ∷ more → front limit s.client ≡ Whole x rest → length s.calls < max_calls → ((cause : Cause) → rules.judged x ≡ client.Refused cause → s.calls ≡ []) → ⊥
+more_calls rules limit max_calls h s f zs ws x more rest at due other lawful e whole few turn =
+    no_call_left rules limit max_calls s x rest at due other few whole (λ halt j. lawful.passes f.xs more x halt e j) turn
 
-open_count : (rules : Rules) (limit most : ℕ) (h : History) (s : Standing) (f : Fits rules limit most h s) → length s.calls + length f.ys ≡ length (calls_of rules f.xs)
-open_count rules limit most h s f = omega (arith, ap length f.calls, length-drop (length f.ys) (calls_of rules f.xs), f.lawful.paired)
+open_count : (rules : Rules) (limit max_calls : ℕ) (h : History) (s : Standing) (f : Fits rules limit max_calls h s) → length s.calls + length f.ys ≡ length (calls_of rules f.xs)
+open_count rules limit max_calls h s f = omega (arith, ap length f.calls, length-drop (length f.ys) (calls_of rules f.xs), f.lawful.paired)
 
 -- the other stand is no greater, by how both compare
-by_both_sides : (rules : Rules) (limit most : ℕ) (h : History) (s : Standing) (f : Fits rules limit most h s) (zs ws : List (List ℕ)) (calls : List Call) → 0 < most → IsAtRest rules limit most s None → s.to_client ≡ [] → s.to_upstream ≡ [] → IsLawful rules most zs ws → s.calls ≡ calls → Compared limit f.xs zs s.client → Compared limit f.ys ws s.upstream → (length zs ≤ length f.xs) × (length ws ≤ length f.ys)
-by_both_sides rules limit most h s f zs ws calls some at due other lawful c (inl (p, d)) (inl (q, e)) =
+by_both_sides : (rules : Rules) (limit max_calls : ℕ) (h : History) (s : Standing) (f : Fits rules limit max_calls h s) (zs ws : List (List ℕ)) (calls : List Call) → 0 < max_calls → IsAtRest rules limit max_calls s None → s.to_client ≡ [] → s.to_upstream ≡ [] → IsLawful rules max_calls zs ws → s.calls ≡ calls → Compared limit f.xs zs s.client → Compared limit f.ys ws s.upstream → (length zs ≤ length f.xs) × (length ws ≤ length f.ys)
+by_both_sides rules limit max_calls h s f zs ws calls some at due other lawful c (inl (p, d)) (inl (q, e)) =
     (omega (arith, ap length d, length-append zs p), omega (arith, ap length e, length-append ws q))
-by_both_sides rules limit most h s f zs ws [] some at due other lawful c (inl (p, d)) (inr (y, more, rest, e, w)) =
-    absurd (omega (arith, open_count rules limit most h s f, ap length c, lawful.paired, ap length e, length-append f.ys (y ∷ more), ap (λ t. length (calls_of rules t)) d, ap length (calls_append rules zs p), length-append (calls_of rules zs) (calls_of rules p)))
-by_both_sides rules limit most h s f zs ws (call ∷ calls) some at due other lawful c (inl (p, d)) (inr (y, more, rest, e, w)) =
+by_both_sides rules limit max_calls h s f zs ws [] some at due other lawful c (inl (p, d)) (inr (y, more, rest, e, w)) =
+    absurd (omega (arith, open_count rules limit max_calls h s f, ap length c, lawful.paired, ap length e, length-append f.ys (y ∷ more), ap (λ t. length (calls_of rules t)) d, ap length (calls_append rules zs p), length-append (calls_of rules zs) (calls_of rules p)))
+by_both_sides rules limit max_calls h s f zs ws (call ∷ calls) some at due other lawful c (inl (p, d)) (inr (y, more, rest, e, w)) =
     let inside : length f.ys < length (calls_of rules zs) = omega (arith, lawful.paired, ap length e, length-append f.ys (y ∷ more)) in
     let same : slice_get (calls_of rules zs) (length f.ys) ≡ slice_get (calls_of rules f.xs) (length f.ys) =
     sym (ap (λ t. slice_get (calls_of rules t) (length f.ys)) d ∙ (ap (λ t. slice_get t (length f.ys)) (calls_append rules zs p) ∙ get_front (calls_of rules zs) (calls_of rules p) (length f.ys) inside)) in
-    absurd (more_replies rules limit most h s f zs ws call calls y more rest at.still due lawful e w c same)
-by_both_sides rules limit most h s f zs ws calls some at due other lawful c (inr (x, more, rest, d, w)) (inl (q, e)) =
-    let few : length s.calls < most = omega (arith, open_count rules limit most h s f, lawful.few f.xs more x d, ap length e, length-append ws q) in
-    absurd (more_calls rules limit most h s f zs ws x more rest at due other lawful d w few
-    (λ cause j. none_of s.calls (omega (arith, open_count rules limit most h s f, lawful.in_turn f.xs more x cause d j, ap length e, length-append ws q))))
-by_both_sides rules limit most h s f zs ws [] some at due other lawful c (inr (x, more, rest, d, w)) (inr (y, m, r, e, v)) =
-    absurd (more_calls rules limit most h s f zs ws x more rest at due other lawful d w (omega (arith, ap length c, some)) (λ cause j. c))
-by_both_sides rules limit most h s f zs ws (call ∷ calls) some at due other lawful c (inr (x, more, rest, d, w)) (inr (y, m, r, e, v)) =
-    let inside : length f.ys < length (calls_of rules f.xs) = omega (arith, open_count rules limit most h s f, ap length c) in
+    absurd (more_replies rules limit max_calls h s f zs ws call calls y more rest at.still due lawful e w c same)
+by_both_sides rules limit max_calls h s f zs ws calls some at due other lawful c (inr (x, more, rest, d, w)) (inl (q, e)) =
+    let few : length s.calls < max_calls = omega (arith, open_count rules limit max_calls h s f, lawful.few f.xs more x d, ap length e, length-append ws q) in
+    absurd (more_calls rules limit max_calls h s f zs ws x more rest at due other lawful d w few
+    (λ cause j. none_of s.calls (omega (arith, open_count rules limit max_calls h s f, lawful.in_turn f.xs more x cause d j, ap length e, length-append ws q))))
+by_both_sides rules limit max_calls h s f zs ws [] some at due other lawful c (inr (x, more, rest, d, w)) (inr (y, m, r, e, v)) =
+    absurd (more_calls rules limit max_calls h s f zs ws x more rest at due other lawful d w (omega (arith, ap length c, some)) (λ cause j. c))
+by_both_sides rules limit max_calls h s f zs ws (call ∷ calls) some at due other lawful c (inr (x, more, rest, d, w)) (inr (y, m, r, e, v)) =
+    let inside : length f.ys < length (calls_of rules f.xs) = omega (arith, open_count rules limit max_calls h s f, ap length c) in
     let same : slice_get (calls_of rules zs) (length f.ys) ≡ slice_get (calls_of rules f.xs) (length f.ys) =
     ap (λ t. slice_get (calls_of rules t) (length f.ys)) d ∙ (ap (λ t. slice_get t (length f.ys)) (calls_append rules f.xs (x ∷ more)) ∙ get_front (calls_of rules f.xs) (calls_of rules (x ∷ more)) (length f.ys) inside) in
-    absurd (more_replies rules limit most h s f zs ws call calls y m r at.still due lawful e v c same)
+    absurd (more_replies rules limit max_calls h s f zs ws call calls y m r at.still due lawful e v c same)
 
 all_sent : (sent due whole : List ℕ) → due ≡ [] → sent ++ due ≡ whole → sent ≡ whole
 all_sent sent due whole e h = sym (append-nil sent) ∙ (ap (λ b. sent ++ b) (sym e) ∙ h)
 
-pub all_due : StandsAtFront → (rules : Rules) (limit most : ℕ) (h : History) (s : Standing) → limit < 2 ^ 31 → 0 < most → Fits rules limit most h s → IsAtRest rules limit most s None → s.to_client ≡ [] → s.to_upstream ≡ [] → IsDue rules limit most h.from_client h.from_upstream h.to_client h.to_upstream
-all_due law rules limit most h s small some f at due other = record {
+pub all_due : StandsAtFront → (rules : Rules) (limit max_calls : ℕ) (h : History) (s : Standing) → limit < 2 ^ 31 → 0 < max_calls → Fits rules limit max_calls h s → IsAtRest rules limit max_calls s None → s.to_client ≡ [] → s.to_upstream ≡ [] → IsDue rules limit max_calls h.from_client h.from_upstream h.to_client h.to_upstream
+all_due law rules limit max_calls h s small some f at due other = record {
   at = record { xs = f.xs; ys = f.ys; client_rest = s.client; upstream_rest = s.upstream; lawful = f.lawful; client = f.client; upstream = f.upstream };
-  greatest = λ o. by_both_sides rules limit most h s f o.xs o.ys s.calls some at due other o.lawful refl
+  greatest = λ o. by_both_sides rules limit max_calls h s f o.xs o.ys s.calls some at due other o.lawful refl
       (compared limit h.from_client f.xs o.xs s.client o.client_rest law small f.client o.client)
       (compared limit h.from_upstream f.ys o.ys s.upstream o.upstream_rest law small f.upstream o.upstream);
   answers = all_sent h.to_client s.to_client (back rules f.xs f.ys) due f.to_client;

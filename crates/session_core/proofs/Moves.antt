@@ -7,18 +7,22 @@ use Rattle.session_core.specs.Standing.{Standing}
 use Rattle.session_core.specs.Steps.{Move, Waits, Halts, Takes, is_none, of_client, client_front, by_judged, of_upstream, upstream_by, upstream_front, upstream_move, by_reply}
 use Rattle.session_core.specs.Fits.{told}
 use Rattle.framed_transport.specs.Frames.{framed, IsCut}
-use Rattle.framed_transport.specs.Held.{Held}
-use Rattle.session_core.specs.Working.{Turns, ends_turn, Cuts, Took, ByUpstream, ByClient, Knows, IsFound, judged_as}
+use Rattle.session_core.specs.Working.{limit_of, Comes, ends_step, Cuts, Took, ByUpstream, ByClient, Knows, IsFound, judged_as}
+use Rattle.session_core.specs.declared.half.Half.{Half}
 use Rattle.session_core.specs.declared.state.State.{State}
 use Rattle.session_core.specs.declared.state.Waiting.{Waiting}
 use Rattle.session_core.specs.declared.state.Waiting.TheVariants as waiting
 use Rattle.session_core.specs.declared.outcome.Halt.{Halt}
-use Rattle.session_core.specs.declared.state.Turn.{Turn}
+use Rattle.session_core.specs.declared.state.SessionStep.{SessionStep}
 use Rattle.translate_core.specs.declared.verdict.Cause.{Cause}
 use Rattle.session_core.specs.declared.judge.ClientJudged.TheVariants as client
 use Rattle.session_core.specs.declared.judge.Call.{Call}
 use Rattle.session_core.specs.declared.judge.ClientJudged.{ClientJudged}
 use Rattle.session_core.specs.declared.judge.UpstreamJudged.{UpstreamJudged}
+
+-- a frame on the stream stands at its front
+abbrev pub StandsAtFront : Type 0
+StandsAtFront = (limit : ℕ) (frame rest : List ℕ) → limit < 2 ^ 31 → length frame ≤ limit → front limit (framed frame ++ rest) ≡ Whole frame rest
 
 pub none_of : {X : Type 0} (xs : List X) → length xs ≡ 0 → xs ≡ []
 none_of [] e = refl
@@ -42,30 +46,30 @@ no_first (y ∷ xs) e = absurd (cc)
 -- ---- the client
 
 -- it is looked at
-pub looks : (rules : Rules) (limit most : ℕ) (s : Standing) (f : Front) → s.to_upstream ≡ [] → length s.calls < most → front limit s.client ≡ f → of_client rules limit most s ≡ client_front rules s f
+pub looks : (rules : Rules) (limit max_calls : ℕ) (s : Standing) (f : Front) → s.to_upstream ≡ [] → length s.calls < max_calls → front limit s.client ≡ f → of_client rules limit max_calls s ≡ client_front rules s f
 unfolding of_client
-looks rules limit most s f none few e =
-    let lt : nat_lt (length s.calls) most ≡ true = grind (arith, nat_tests) in
+looks rules limit max_calls s f none few e =
+    let lt : nat_lt (length s.calls) max_calls ≡ true = grind (arith, nat_tests) in
     rw (none, lt, e) refl
 
 -- and judged
-pub judges : (rules : Rules) (limit most : ℕ) (s : Standing) (frame rest : List ℕ) (v : ClientJudged) → s.to_upstream ≡ [] → length s.calls < most → front limit s.client ≡ Whole frame rest → rules.judged frame ≡ v → of_client rules limit most s ≡ by_judged v s (rules.output frame) (rules.answer frame) rest
-judges rules limit most s frame rest v none few e j =
-    looks rules limit most s (Whole frame rest) none few e ∙ ap (λ (w : ClientJudged). by_judged w s (rules.output frame) (rules.answer frame) rest) j
+pub judges : (rules : Rules) (limit max_calls : ℕ) (s : Standing) (frame rest : List ℕ) (v : ClientJudged) → s.to_upstream ≡ [] → length s.calls < max_calls → front limit s.client ≡ Whole frame rest → rules.judged frame ≡ v → of_client rules limit max_calls s ≡ by_judged v s (rules.output frame) (rules.answer frame) rest
+judges rules limit max_calls s frame rest v none few e j =
+    looks rules limit max_calls s (Whole frame rest) none few e ∙ ap (λ (w : ClientJudged). by_judged w s (rules.output frame) (rules.answer frame) rest) j
 
-pub waits_for_upstream : (rules : Rules) (limit most : ℕ) (s : Standing) → 0 < length s.to_upstream → of_client rules limit most s ≡ Waits
+pub waits_for_upstream : (rules : Rules) (limit max_calls : ℕ) (s : Standing) → 0 < length s.to_upstream → of_client rules limit max_calls s ≡ Waits
 unfolding of_client
-waits_for_upstream rules limit most s some = rw (some_of s.to_upstream some) refl
+waits_for_upstream rules limit max_calls s some = rw (some_of s.to_upstream some) refl
 
 by_test : {X : Type 0} (a b : Bool) (x y : X) → b ≡ false → (if a && b then x else y) ≡ y
 by_test true b x y e = rw e refl
 by_test false b x y e = refl
 
-pub waits_for_call : (rules : Rules) (limit most : ℕ) (s : Standing) → most ≤ length s.calls → of_client rules limit most s ≡ Waits
+pub waits_for_call : (rules : Rules) (limit max_calls : ℕ) (s : Standing) → max_calls ≤ length s.calls → of_client rules limit max_calls s ≡ Waits
 unfolding of_client
-waits_for_call rules limit most s many =
-    let no : nat_lt (length s.calls) most ≡ false = grind (arith, nat_tests) in
-    by_test (is_none s.to_upstream) (nat_lt (length s.calls) most) (client_front rules s (front limit s.client)) Waits no
+waits_for_call rules limit max_calls s many =
+    let no : nat_lt (length s.calls) max_calls ≡ false = grind (arith, nat_tests) in
+    by_test (is_none s.to_upstream) (nat_lt (length s.calls) max_calls) (client_front rules s (front limit s.client)) Waits no
 
 -- ---- the upstream
 
@@ -82,25 +86,25 @@ answers rules limit s call calls frame rest v e none g j =
     asks rules limit s call calls (Whole frame rest) e none g ∙ ap (λ (w : UpstreamJudged). by_reply w s calls (rules.reply call frame) rest) j
 
 -- the upstream's end alone halts where something is due to the client
-ends_by : (part ended : Bool) (m : Move) (s : Standing) → Turns (ends_turn part ended) (upstream_move false part ended m) s s
+ends_by : (part ended : Bool) (m : Move) (s : Standing) → Comes (ends_step part ended) (upstream_move false part ended m) s s
 ends_by true true m s = (refl, refl)
 ends_by true false m s = (refl, refl)
 ends_by false ended m s = (refl, refl)
 
-pub due_first : (rules : Rules) (limit : ℕ) (s : Standing) (call : Call) (calls : List Call) → s.calls ≡ call ∷ calls → 0 < length s.to_client → Turns (ends_turn (is_part (front limit s.upstream)) s.upstream_ended) (of_upstream rules limit s) s s
+pub due_first : (rules : Rules) (limit : ℕ) (s : Standing) (call : Call) (calls : List Call) → s.calls ≡ call ∷ calls → 0 < length s.to_client → Comes (ends_step (is_part (front limit s.upstream)) s.upstream_ended) (of_upstream rules limit s) s s
 unfolding of_upstream
 due_first rules limit s call calls e some =
     let part = is_part (front limit s.upstream) in
     let move = upstream_front rules s call calls (front limit s.upstream) in
-    subst (λ (cs : List Call). Turns (ends_turn part s.upstream_ended) (upstream_by rules limit s cs) s s) (sym e)
-    (subst (λ (b : Bool). Turns (ends_turn part s.upstream_ended) (upstream_move b part s.upstream_ended move) s s) (sym (some_of s.to_client some))
+    subst (λ (cs : List Call). Comes (ends_step part s.upstream_ended) (upstream_by rules limit s cs) s s) (sym e)
+    (subst (λ (b : Bool). Comes (ends_step part s.upstream_ended) (upstream_move b part s.upstream_ended move) s s) (sym (some_of s.to_client some))
     (ends_by part s.upstream_ended move s))
 
-part_by : (ended : Bool) (s : Standing) → Turns (ends_turn true ended) (if ended then Halts Rattle.session_core.specs.declared.outcome.Halt.TheVariants.Inside else Waits) s s
+part_by : (ended : Bool) (s : Standing) → Comes (ends_step true ended) (if ended then Halts Rattle.session_core.specs.declared.outcome.Halt.TheVariants.Inside else Waits) s s
 part_by true s = (refl, refl)
 part_by false s = (refl, refl)
 
-pub no_reply : (rules : Rules) (limit : ℕ) (s : Standing) (call : Call) (calls : List Call) → s.calls ≡ call ∷ calls → s.to_client ≡ [] → front limit s.upstream ≡ Part → Turns (ends_turn (is_part (front limit s.upstream)) s.upstream_ended) (of_upstream rules limit s) s s
+pub no_reply : (rules : Rules) (limit : ℕ) (s : Standing) (call : Call) (calls : List Call) → s.calls ≡ call ∷ calls → s.to_client ≡ [] → front limit s.upstream ≡ Part → Comes (ends_step (is_part (front limit s.upstream)) s.upstream_ended) (of_upstream rules limit s) s s
 no_reply rules limit s call calls e none g =
     rw (asks rules limit s call calls Part e none g, g) (part_by s.upstream_ended s)
 
@@ -112,12 +116,20 @@ empty_is r xs ys t e same = none_of ys (grind (arith, nat_tests, ap length same)
 pub some_is : (r : Bool) (xs ys : List ℕ) → r ≡ false → r ≡ (length xs == 0) → xs ≡ ys → 0 < length ys
 some_is r xs ys t e same = grind (arith, nat_tests, ap length same)
 
+pub paid_none : {X : Type 0} (r : Bool) (xs : List X) → r ≡ true → r ≡ is_none xs → xs ≡ []
+paid_none r [] t e = refl
+paid_none r (x ∷ xs) t e = absurd (cc)
+
+pub owed_some : {X : Type 0} (r : Bool) (xs : List X) → r ≡ false → r ≡ is_none xs → 0 < length xs
+owed_some r [] t e = absurd (cc)
+owed_some r (x ∷ xs) t e = omega arith
+
 pub behind_whole : (limit : ℕ) (held frame rest : List ℕ) → front limit held ≡ Whole frame rest → behind held (front limit held) ≡ rest
 behind_whole limit held frame rest e = ap (behind held) e
 
-pub pushed : (xs : List Call) (x : Call) (most : ℕ) → length xs < most → drop (length (xs ++ x ∷ []) - most) (xs ++ x ∷ []) ≡ xs ++ x ∷ []
-pushed xs x most few =
-    let e : length (xs ++ x ∷ []) - most ≡ 0 = omega (arith, length-append xs (x ∷ [])) in
+pub pushed : (xs : List Call) (x : Call) (max_calls : ℕ) → length xs < max_calls → drop (length (xs ++ x ∷ []) - max_calls) (xs ++ x ∷ []) ≡ xs ++ x ∷ []
+pushed xs x max_calls few =
+    let e : length (xs ++ x ∷ []) - max_calls ≡ 0 = omega (arith, length-append xs (x ∷ [])) in
     ap (λ n. drop n (xs ++ x ∷ [])) e
 
 pub other_limit : (limit other : ℕ) (held : List ℕ) (f : Front) → other ≡ limit → front other held ≡ f → front limit held ≡ f
@@ -132,52 +144,48 @@ pub after_upstream : (s t : Standing) (held rest out bytes : List ℕ) (calls mo
 after_upstream s t held rest out bytes calls more e a b d = rw (← a, ← b, ← d) (sym e)
 
 -- the answer's turn, once nothing is written to the upstream
-pub refused_turn : (turn : Turn) (rules : Rules) (limit most : ℕ) (s mid t : Standing) (frame rest answer : List ℕ) (cause : Cause) → s.to_upstream ≡ [] → length s.calls < most → front limit s.client ≡ Whole frame rest → rules.judged frame ≡ client.Refused cause → mid ≡ s → answer ≡ rules.answer frame → Turns turn (by_judged (client.Refused cause) mid [] answer rest) mid t → Turns turn (of_client rules limit most s) s t
-refused_turn turn rules limit most s mid t frame rest answer cause none few e j same is h =
-    subst (λ (m : Move). Turns turn m s t) (sym (judges rules limit most s frame rest (client.Refused cause) none few e j))
-    (subst (λ (m : Standing). Turns turn (by_judged (client.Refused cause) m (rules.output frame) (rules.answer frame) rest) m t) same
-    (subst (λ (a : List ℕ). Turns turn (by_judged (client.Refused cause) mid (rules.output frame) a rest) mid t) is h))
+pub refused_step : (came : SessionStep) (rules : Rules) (limit max_calls : ℕ) (s mid t : Standing) (frame rest answer : List ℕ) (cause : Cause) → s.to_upstream ≡ [] → length s.calls < max_calls → front limit s.client ≡ Whole frame rest → rules.judged frame ≡ client.Refused cause → mid ≡ s → answer ≡ rules.answer frame → Comes came (by_judged (client.Refused cause) mid [] answer rest) mid t → Comes came (of_client rules limit max_calls s) s t
+refused_step came rules limit max_calls s mid t frame rest answer cause none few e j same is h =
+    subst (λ (m : Move). Comes came m s t) (sym (judges rules limit max_calls s frame rest (client.Refused cause) none few e j))
+    (subst (λ (m : Standing). Comes came (by_judged (client.Refused cause) m (rules.output frame) (rules.answer frame) rest) m t) same
+    (subst (λ (a : List ℕ). Comes came (by_judged (client.Refused cause) mid (rules.output frame) a rest) mid t) is h))
 
 -- ---- a step was taken
 
-pub took_upstream : (rules : Rules) (limit other most : ℕ) (s t : Standing) → other ≡ limit → of_upstream rules limit s ≡ Takes t → Cuts other s.upstream → Took rules limit most s t
-took_upstream rules limit other most s t same e cut = ByUpstream e (subst (λ (k : ℕ). Cuts k s.upstream) same cut)
+pub took_upstream : (rules : Rules) (limit other max_calls : ℕ) (s t : Standing) → other ≡ limit → of_upstream rules limit s ≡ Takes t → Cuts other s.upstream → Took rules limit max_calls s t
+took_upstream rules limit other max_calls s t same e cut = ByUpstream e (subst (λ (k : ℕ). Cuts k s.upstream) same cut)
 
-pub took_client : (rules others : Rules) (limit k most m : ℕ) (s mid t : Standing) → of_upstream rules limit s ≡ Waits → mid ≡ s → others ≡ rules → k ≡ limit → m ≡ most → of_client others k m mid ≡ Takes t → Cuts k mid.client → Took rules limit most s t
-took_client rules others limit k most m s mid t waits same judge limits many e cut =
+pub took_client : (rules others : Rules) (limit k max_calls m : ℕ) (s mid t : Standing) → of_upstream rules limit s ≡ Waits → mid ≡ s → others ≡ rules → k ≡ limit → m ≡ max_calls → of_client others k m mid ≡ Takes t → Cuts k mid.client → Took rules limit max_calls s t
+took_client rules others limit k max_calls m s mid t waits same judge limits many e cut =
     ByClient waits (cc)
     (subst (λ (n : ℕ). Cuts n s.client) limits (subst (λ (x : Standing). Cuts k x.client) same cut))
 
 -- ---- what is known of a frame that waits
 
-pub knows_at : (rules others : Rules) (s : State) → others ≡ rules → Knows others s → Knows rules s
-knows_at rules others s same known = subst (λ (r : Rules). Knows r s) same known
-
 pub knows_nothing : (rules : Rules) (s : State) → s.known ≡ None → Knows rules s
-knows_nothing rules s none = subst (λ (o : Option Waiting). IfSome o (λ found. IsFound rules s.client.limit s.client.held found)) (sym none) tt
+knows_nothing rules s none = subst (λ (o : Option Waiting). IfSome o (λ found. IsFound rules (limit_of s) s.client.held.held found)) (sym none) tt
 
-pub found_refused : (rules : Rules) (limit : ℕ) (held : List ℕ) (w : Waiting) (cause : Cause) → IsFound rules limit held w → w ≡ waiting.Refused cause → (frame rest : List ℕ) → front limit held ≡ Whole frame rest → rules.judged frame ≡ client.Refused cause
-found_refused rules limit held w cause f is frame rest e =
-    let both : Whole f.frame f.rest ≡ Whole frame rest = sym f.stands ∙ e in
-    let same : f.frame ≡ frame = cc in
-    ap rules.judged (sym same) ∙ f.judged ∙ ap judged_as is
+pub found_refused : (rules : Rules) (limit : ℕ) (held : List ℕ) (w : Waiting) (cause : Cause) → IsFound rules limit held w → w ≡ waiting.Refused cause → IsFound rules limit held (waiting.Refused cause)
+found_refused rules limit held w cause f is = subst (λ (x : Waiting). IsFound rules limit held x) is f
+
+-- what stands at the front is the frame that was found
+pub same_found : (rules : Rules) (limit : ℕ) (held : List ℕ) (w : Waiting) (frame rest : List ℕ) → (f : IsFound rules limit held w) → front limit held ≡ Whole frame rest → (f.frame ≡ frame) × (f.rest ≡ rest)
+same_found rules limit held w frame rest f e = let both : Whole f.frame f.rest ≡ Whole frame rest = sym f.stands ∙ e in (cc, cc)
 
 pub found_cuts : (rules : Rules) (limit : ℕ) (held : List ℕ) (w : Waiting) → IsFound rules limit held w → Cuts limit held
 found_cuts rules limit held w f = λ frame rest e.
-    let both : Whole f.frame f.rest ≡ Whole frame rest = sym f.stands ∙ e in
-    let same : f.frame ≡ frame = cc in
-    let behind : f.rest ≡ rest = cc in
-    subst (λ (x : List ℕ). IsCut limit held x rest) same (subst (λ (x : List ℕ). IsCut limit held f.frame x) behind f.cut)
+    let same = same_found rules limit held w frame rest f e in
+    subst (λ (x : List ℕ). IsCut limit held x rest) same.0 (subst (λ (x : List ℕ). IsCut limit held f.frame x) same.1 f.cut)
 
-pub waits_halted : (rules : Rules) (limit most : ℕ) (s : Standing) (w : Waiting) (h : Halt) → s.to_upstream ≡ [] → length s.calls < most → IsFound rules limit s.client w → w ≡ waiting.Halts h → of_client rules limit most s ≡ Halts h
-waits_halted rules limit most s w h none few f is = judges rules limit most s f.frame f.rest (client.Halts h) none few f.stands (f.judged ∙ ap judged_as is)
+pub waits_halted : (rules : Rules) (limit max_calls : ℕ) (s : Standing) (w : Waiting) (h : Halt) → s.to_upstream ≡ [] → length s.calls < max_calls → IsFound rules limit s.client w → w ≡ waiting.Halts h → of_client rules limit max_calls s ≡ Halts h
+waits_halted rules limit max_calls s w h none few f is = judges rules limit max_calls s f.frame f.rest (client.Halts h) none few f.stands (f.judged ∙ ap judged_as is)
 
-pub waits_refused : (turn : Turn) (rules : Rules) (limit most : ℕ) (s t : Standing) (w : Waiting) (cause : Cause) → s.to_upstream ≡ [] → length s.calls < most → (f : IsFound rules limit s.client w) → w ≡ waiting.Refused cause → Turns turn (by_judged (client.Refused cause) s [] (rules.answer f.frame) f.rest) s t → Turns turn (of_client rules limit most s) s t
-waits_refused turn rules limit most s t w cause none few f is h =
-    refused_turn turn rules limit most s s t f.frame f.rest (rules.answer f.frame) cause none few f.stands (f.judged ∙ ap judged_as is) refl refl h
+pub waits_refused : (came : SessionStep) (rules : Rules) (limit max_calls : ℕ) (s t : Standing) (w : Waiting) (cause : Cause) → s.to_upstream ≡ [] → length s.calls < max_calls → (f : IsFound rules limit s.client w) → w ≡ waiting.Refused cause → Comes came (by_judged (client.Refused cause) s [] (rules.answer f.frame) f.rest) s t → Comes came (of_client rules limit max_calls s) s t
+waits_refused came rules limit max_calls s t w cause none few f is h =
+    refused_step came rules limit max_calls s s t f.frame f.rest (rules.answer f.frame) cause none few f.stands (f.judged ∙ ap judged_as is) refl refl h
 
 -- more bytes behind it change nothing
-pub found_fed : (rules : Rules) (limit : ℕ) (held more : List ℕ) (w : Waiting) → ((limit : ℕ) (frame rest : List ℕ) → limit < 2 ^ 31 → length frame ≤ limit → front limit (framed frame ++ rest) ≡ Whole frame rest) → limit < 2 ^ 31 → IsFound rules limit held w → IsFound rules limit (held ++ more) w
+pub found_fed : (rules : Rules) (limit : ℕ) (held more : List ℕ) (w : Waiting) → StandsAtFront → limit < 2 ^ 31 → IsFound rules limit held w → IsFound rules limit (held ++ more) w
 found_fed rules limit held more w law small f =
     let whole : held ++ more ≡ framed f.frame ++ (f.rest ++ more) = ap (λ (xs : List ℕ). xs ++ more) f.cut.whole ∙ append_assoc (framed f.frame) f.rest more in
     record {
@@ -188,24 +196,32 @@ found_fed rules limit held more w law small f =
       judged = f.judged;
     }
 
-fed_by : (o : Option Waiting) (rules : Rules) (limit : ℕ) (held more : List ℕ) → ((limit : ℕ) (frame rest : List ℕ) → limit < 2 ^ 31 → length frame ≤ limit → front limit (framed frame ++ rest) ≡ Whole frame rest) → limit < 2 ^ 31 → IfSome o (λ w. IsFound rules limit held w) → IfSome o (λ w. IsFound rules limit (held ++ more) w)
+pub fed_by : (o : Option Waiting) (rules : Rules) (limit : ℕ) (held more : List ℕ) → StandsAtFront → limit < 2 ^ 31 → IfSome o (λ w. IsFound rules limit held w) → IfSome o (λ w. IsFound rules limit (held ++ more) w)
 fed_by None rules limit held more law small known = tt
 fed_by (Some w) rules limit held more law small known = found_fed rules limit held more w law small known
 
-pub knows_fed : (rules : Rules) (s t : State) (limit : ℕ) (more : List ℕ) → ((limit : ℕ) (frame rest : List ℕ) → limit < 2 ^ 31 → length frame ≤ limit → front limit (framed frame ++ rest) ≡ Whole frame rest) → s.client.limit ≡ limit → limit < 2 ^ 24 → t.known ≡ s.known → t.client ≡ record s.client { held = s.client.held ++ more } → Knows rules s → Knows rules t
-knows_fed rules s t limit more law is small known fed k =
-    subst (λ (o : Option Waiting). IfSome o (λ w. IsFound rules t.client.limit t.client.held w)) (sym known)
-    (subst (λ (b : Held). IfSome s.known (λ w. IsFound rules b.limit b.held w)) (sym fed)
-    (fed_by s.known rules s.client.limit s.client.held more law (omega (arith, is, small)) k))
+pub knows_kept : (rules : Rules) (s t : State) → t.known ≡ s.known → t.client ≡ s.client → Knows rules s → Knows rules t
+knows_kept rules s t known kept k =
+    subst (λ (o : Option Waiting). IfSome o (λ w. IsFound rules (limit_of t) t.client.held.held w)) (sym known)
+    (subst (λ (b : Half). IfSome s.known (λ w. IsFound rules b.held.limit b.held.held w)) (sym kept) k)
 
-pub knows_kept : (rules others : Rules) (s t : State) → others ≡ rules → t.known ≡ s.known → t.client ≡ s.client → Knows rules s → Knows others t
-knows_kept rules others s t same known kept k =
-    subst (λ (r : Rules). Knows r t) (sym same)
-    (subst (λ (o : Option Waiting). IfSome o (λ w. IsFound rules t.client.limit t.client.held w)) (sym known)
-    (subst (λ (b : Held). IfSome s.known (λ w. IsFound rules b.limit b.held w)) (sym kept) k))
+pub knows_found : (rules : Rules) (s : State) (w : Waiting) → s.known ≡ Some w → IsFound rules (limit_of s) s.client.held.held w → Knows rules s
+knows_found rules s w known f = subst (λ (o : Option Waiting). IfSome o (λ found. IsFound rules (limit_of s) s.client.held.held found)) (sym known) f
 
-pub knows_found : (rules : Rules) (s : State) (w : Waiting) → s.known ≡ Some w → IsFound rules s.client.limit s.client.held w → Knows rules s
-knows_found rules s w known f = subst (λ (o : Option Waiting). IfSome o (λ found. IsFound rules s.client.limit s.client.held found)) (sym known) f
+pub found_of : (rules : Rules) (s : State) (w : Waiting) → s.known ≡ Some w → Knows rules s → IsFound rules (limit_of s) s.client.held.held w
+found_of rules s w known k = subst (λ (o : Option Waiting). IfSome o (λ found. IsFound rules (limit_of s) s.client.held.held found)) known k
 
-pub found_of : (rules : Rules) (s : State) (w : Waiting) → s.known ≡ Some w → Knows rules s → IsFound rules s.client.limit s.client.held w
-found_of rules s w known k = subst (λ (o : Option Waiting). IfSome o (λ found. IsFound rules s.client.limit s.client.held found)) known k
+-- ---- a frame that was judged just now
+
+pub found_at : (rules : Rules) (limit : ℕ) (held frame rest : List ℕ) (w : Waiting) → front limit held ≡ Whole frame rest → Cuts limit held → rules.judged frame ≡ judged_as w → IsFound rules limit held w
+found_at rules limit held frame rest w stands cuts judged = record { frame = frame; rest = rest; stands = stands; cut = cuts frame rest stands; judged = judged }
+
+pub refused_at : (rules : Rules) (limit : ℕ) (held : List ℕ) (cause : Cause) (frame rest : List ℕ) → IsFound rules limit held (waiting.Refused cause) → front limit held ≡ Whole frame rest → rules.judged frame ≡ client.Refused cause
+refused_at rules limit held cause frame rest f e = ap rules.judged (sym (same_found rules limit held (waiting.Refused cause) frame rest f e).0) ∙ f.judged
+
+-- the same by the judge before, which is the same
+pub found_by : (J : Type 0) (rules : J → Rules) (j k : J) (limit : ℕ) (held : List ℕ) (w : Waiting) → k ≡ j → IsFound (rules j) limit held w → IsFound (rules k) limit held w
+found_by J rules j k limit held w same f = subst (λ (x : J). IsFound (rules x) limit held w) (sym same) f
+
+pub knows_by : (J : Type 0) (rules : J → Rules) (j k : J) (s : State) → k ≡ j → Knows (rules k) s → Knows (rules j) s
+knows_by J rules j k s same known = subst (λ (x : J). Knows (rules x) s) same known

@@ -17,8 +17,8 @@ none_before early late x e = omega (arith, ap length e, length-append early (x �
 taken_none : (limit : ℕ) → IsTaken limit [] [] []
 taken_none limit = record { each = All-nil (λ frame. length frame ≤ limit); whole = refl }
 
-begun_fits : (rules : Rules) (limit most : ℕ) → Fits rules limit most nothing begun
-begun_fits rules limit most = record {
+begun_fits : (rules : Rules) (limit max_calls : ℕ) → Fits rules limit max_calls nothing begun
+begun_fits rules limit max_calls = record {
   xs = [];
   ys = [];
   lawful = record {
@@ -47,18 +47,18 @@ upstream_waits : (rules : Rules) (limit : ℕ) → of_upstream rules limit begun
 unfolding of_upstream
 upstream_waits rules limit = refl
 
-still_begun : (rules : Rules) (limit most : ℕ) → 0 < most → IsStill rules limit most begun
-still_begun rules limit most some t (ByUpstream e) = let w = upstream_waits rules limit in cc
-still_begun rules limit most some t (ByClient n e) = let w = looks rules limit most begun Part refl some (nothing_stands limit) in cc
+still_begun : (rules : Rules) (limit max_calls : ℕ) → 0 < max_calls → IsStill rules limit max_calls begun
+still_begun rules limit max_calls some t (ByUpstream e) = let w = upstream_waits rules limit in cc
+still_begun rules limit max_calls some t (ByClient n e) = let w = looks rules limit max_calls begun Part refl some (nothing_stands limit) in cc
 
-open_begun : (rules : Rules) (limit most : ℕ) → 0 < most → None ≡ outcome_of rules limit most begun
+open_begun : (rules : Rules) (limit max_calls : ℕ) → 0 < max_calls → None ≡ outcome_of rules limit max_calls begun
 unfolding outcome_of
-open_begun rules limit most some = rw (upstream_waits rules limit, looks rules limit most begun Part refl some (nothing_stands limit)) refl
+open_begun rules limit max_calls some = rw (upstream_waits rules limit, looks rules limit max_calls begun Part refl some (nothing_stands limit)) refl
 
-pub opened_fits : (rules : Rules) (limit most : ℕ) (s : Standing) → s ≡ begun → Fits rules limit most nothing s
-opened_fits rules limit most s e = subst (λ (x : Standing). Fits rules limit most nothing x) (sym e) (begun_fits rules limit most)
+pub opened_fits : (rules : Rules) (limit max_calls : ℕ) (s : Standing) → s ≡ begun → Fits rules limit max_calls nothing s
+opened_fits rules limit max_calls s e = subst (λ (x : Standing). Fits rules limit max_calls nothing x) (sym e) (begun_fits rules limit max_calls)
 
-pub opened_rests : (rules : Rules) (limit most : ℕ) (s : Standing) (outcome : Option Outcome) → 0 < most → s ≡ begun → outcome ≡ None → IsAtRest rules limit most s outcome
-opened_rests rules limit most s outcome some e o =
-    subst (λ (x : Standing). IsAtRest rules limit most x outcome) (sym e)
-    (record { still = still_begun rules limit most some; outcome_is = o ∙ open_begun rules limit most some })
+pub opened_rests : (rules : Rules) (limit max_calls : ℕ) (s : Standing) (outcome : Option Outcome) → 0 < max_calls → s ≡ begun → outcome ≡ None → IsAtRest rules limit max_calls s outcome
+opened_rests rules limit max_calls s outcome some e o =
+    subst (λ (x : Standing). IsAtRest rules limit max_calls x outcome) (sym e)
+    (record { still = still_begun rules limit max_calls some; outcome_is = o ∙ open_begun rules limit max_calls some })

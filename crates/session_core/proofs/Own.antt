@@ -36,9 +36,9 @@ by_both_own limit s (Halts h) b = by_upstream_own h s
 by_both_own limit s Waits b = maybe (is_none s.calls) _ (by_client_own limit s b)
 by_both_own limit s (Takes t) b = maybe (is_none s.calls) _ (by_client_own limit s b)
 
-own : (rules : Rules) (limit most : ℕ) (s : Standing) → AreOwn (outcome_of rules limit most s)
+own : (rules : Rules) (limit max_calls : ℕ) (s : Standing) → AreOwn (outcome_of rules limit max_calls s)
 unfolding outcome_of
-own rules limit most s = maybe (is_none s.to_client && is_none s.to_upstream) _ (by_both_own limit s (of_upstream rules limit s) (of_client rules limit most s))
+own rules limit max_calls s = maybe (is_none s.to_client && is_none s.to_upstream) _ (by_both_own limit s (of_upstream rules limit s) (of_client rules limit max_calls s))
 
-pub own_outcome : (rules : Rules) (limit most : ℕ) (s : Standing) (outcome : Option Outcome) → IsAtRest rules limit most s outcome → AreOwn outcome
-own_outcome rules limit most s outcome rest = subst AreOwn (sym rest.outcome_is) (own rules limit most s)
+pub own_outcome : (rules : Rules) (limit max_calls : ℕ) (s : Standing) (outcome : Option Outcome) → IsAtRest rules limit max_calls s outcome → AreOwn outcome
+own_outcome rules limit max_calls s outcome rest = subst AreOwn (sym rest.outcome_is) (own rules limit max_calls s)

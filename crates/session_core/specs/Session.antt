@@ -1,7 +1,10 @@
 -- A session as its callers see it.
 use Rattle.std.specs.Prelude.{ℕ, ◌+◌, ◌*◌, ◌-◌, ◌≤◌, List, ◌++◌, length, Bool, true, ◌||◌, if◌then◌else◌, Option}
+use Rattle.session_core.specs.Rules.{Rules}
 use Rattle.session_core.specs.Standing.{Standing, History}
+use Rattle.session_core.specs.Fits.{Fits}
 use Rattle.session_core.specs.Ends.{held_of, most_held}
+use Rattle.session_core.specs.Rooms.{due_room}
 use Rattle.session_core.specs.declared.outcome.Outcome.{Outcome}
 use Rattle.gate_hub.specs.declared.hub.Side.{Side}
 use Rattle.gate_hub.specs.declared.hub.Side.TheVariants as side
@@ -16,12 +19,18 @@ pub record Rooms : Type 0 where
 
 -- the rooms for frames of at most so many bytes, and so many open calls
 abbrev pub rooms_for : ℕ → ℕ → Rooms
-rooms_for limit most = record { client = limit + 4; upstream = limit + 4; to_client = 24 * limit + 260; to_upstream = 24 * limit + 260; calls = most }
+rooms_for limit max_calls = record {
+  client = limit + 4;
+  upstream = limit + 4;
+  to_client = due_room limit;
+  to_upstream = due_room limit;
+  calls = max_calls;
+}
 
 pub record Seen (J : Type 0) : Type 0 where
   pub judge : J
   pub limit : ℕ
-  pub most : ℕ
+  pub max_calls : ℕ
   pub rooms : Rooms
   pub standing : Standing
   pub outcome : Option Outcome
@@ -30,7 +39,12 @@ abbrev pub due_to : Side → Standing → List ℕ
 due_to side.Client s = s.to_client
 due_to side.Upstream s = s.to_upstream
 
--- so many bytes more were sent to a side
+-- these bytes more came of a side
+abbrev pub and_came : Side → History → List ℕ → History
+and_came side.Client h bytes = record h { from_client = h.from_client ++ bytes }
+and_came side.Upstream h bytes = record h { from_upstream = h.from_upstream ++ bytes }
+
+-- these bytes more were sent to a side
 abbrev pub and_sent : Side → History → List ℕ → History
 and_sent side.Client h bytes = record h { to_client = h.to_client ++ bytes }
 and_sent side.Upstream h bytes = record h { to_upstream = h.to_upstream ++ bytes }
@@ -47,4 +61,9 @@ room_of limit s over side.Upstream = if s.upstream_ended || over then 0 else lim
 
 -- the session holds no more than it may
 abbrev pub HoldsWithin : {J : Type 0} → Seen J → Type 0
-HoldsWithin s = held_of s.limit s.standing s.outcome ≤ most_held s.limit s.most
+HoldsWithin s = held_of s.limit s.standing s.outcome ≤ most_held s.limit s.max_calls
+
+-- what came and went fits the later session too, with what was added on the way
+abbrev pub FitsLater : {J : Type 0} → (J → Rules) → Seen J → Seen J → (History → History) → Type 0
+FitsLater rules old new on =
+    (h : History) → Fits (rules old.judge) old.limit old.max_calls h old.standing → Fits (rules old.judge) old.limit old.max_calls (on h) new.standing

@@ -53,11 +53,11 @@ back rules [] ys = []
 back rules (x ∷ xs) ys = back_by rules (rules.judged x) (rules.answer x) (λ zs. back rules xs zs) ys
 
 -- these frames may have been taken, with at most so many calls open
-pub record IsLawful (rules : Rules) (most : ℕ) (xs ys : List (List ℕ)) : Type 0 where
+pub record IsLawful (rules : Rules) (max_calls : ℕ) (xs ys : List (List ℕ)) : Type 0 where
   -- no frame of the client halts it
   pub passes : (early late : List (List ℕ)) (x : List ℕ) (halt : Halt) → xs ≡ early ++ x ∷ late → rules.judged x ≡ client.Halts halt → ⊥
   -- a call may open where fewer than the most are open
-  pub few : (early late : List (List ℕ)) (x : List ℕ) → xs ≡ early ++ x ∷ late → length (calls_of rules early) < most + length ys
+  pub few : (early late : List (List ℕ)) (x : List ℕ) → xs ≡ early ++ x ∷ late → length (calls_of rules early) < max_calls + length ys
   -- a refused call is answered once each call before it is
   pub in_turn : (early late : List (List ℕ)) (x : List ℕ) (cause : Cause) → xs ≡ early ++ x ∷ late → rules.judged x ≡ client.Refused cause → length (calls_of rules early) ≤ length ys
   -- each frame of the upstream answers a call
@@ -71,19 +71,19 @@ pub record IsTaken (limit : ℕ) (bytes : List ℕ) (frames : List (List ℕ)) (
   pub whole : bytes ≡ flat_map framed frames ++ rest
 
 -- a stand over the bytes that came: frames of each side that may have been taken
-pub record Stand (rules : Rules) (limit most : ℕ) (from_client from_upstream : List ℕ) : Type 0 where
+pub record Stand (rules : Rules) (limit max_calls : ℕ) (from_client from_upstream : List ℕ) : Type 0 where
   pub xs : List (List ℕ)
   pub ys : List (List ℕ)
   pub client_rest : List ℕ
   pub upstream_rest : List ℕ
-  pub lawful : IsLawful rules most xs ys
+  pub lawful : IsLawful rules max_calls xs ys
   pub client : IsTaken limit from_client xs client_rest
   pub upstream : IsTaken limit from_upstream ys upstream_rest
 
 -- what is due for the bytes that came: what the greatest stand gives
-pub record IsDue (rules : Rules) (limit most : ℕ) (from_client from_upstream to_client to_upstream : List ℕ) : Type 0 where
-  pub at : Stand rules limit most from_client from_upstream
-  pub greatest : (other : Stand rules limit most from_client from_upstream) → (length other.xs ≤ length at.xs) × (length other.ys ≤ length at.ys)
+pub record IsDue (rules : Rules) (limit max_calls : ℕ) (from_client from_upstream to_client to_upstream : List ℕ) : Type 0 where
+  pub at : Stand rules limit max_calls from_client from_upstream
+  pub greatest : (other : Stand rules limit max_calls from_client from_upstream) → (length other.xs ≤ length at.xs) × (length other.ys ≤ length at.ys)
   pub answers : to_client ≡ back rules at.xs at.ys
   pub calls : to_upstream ≡ onward rules at.xs
 

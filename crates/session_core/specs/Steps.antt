@@ -76,19 +76,19 @@ client_front rules s (Whole frame rest) = by_judged (rules.judged frame) s (rule
 
 -- the client's frame is looked at while nothing is due to the upstream, a call may open and the upstream does not halt
 unfoldable pub of_client : Rules → ℕ → ℕ → Standing → Move
-of_client rules limit most s =
-    if is_none s.to_upstream && nat_lt (length s.calls) most then client_front rules s (front limit s.client) else Waits
+of_client rules limit max_calls s =
+    if is_none s.to_upstream && nat_lt (length s.calls) max_calls then client_front rules s (front limit s.client) else Waits
 
 -- ---- what can be done
 
 -- a step: a frame of the upstream, or one of the client where the upstream does not halt
-pub data Steps (rules : Rules) (limit most : ℕ) (s t : Standing) : Type 0 where
-  ByUpstream : of_upstream rules limit s ≡ Takes t → Steps rules limit most s t
-  ByClient : ((h : Halt) → of_upstream rules limit s ≡ Halts h → ⊥) → of_client rules limit most s ≡ Takes t → Steps rules limit most s t
+pub data Steps (rules : Rules) (limit max_calls : ℕ) (s t : Standing) : Type 0 where
+  ByUpstream : of_upstream rules limit s ≡ Takes t → Steps rules limit max_calls s t
+  ByClient : ((h : Halt) → of_upstream rules limit s ≡ Halts h → ⊥) → of_client rules limit max_calls s ≡ Takes t → Steps rules limit max_calls s t
 
 -- no frame can be taken
 abbrev pub IsStill : Rules → ℕ → ℕ → Standing → Type 0
-IsStill rules limit most s = (t : Standing) → Steps rules limit most s t → ⊥
+IsStill rules limit max_calls s = (t : Standing) → Steps rules limit max_calls s t → ⊥
 
 -- ---- the outcome
 
@@ -119,6 +119,6 @@ by_both limit s (Takes t) move = if is_none s.calls then by_client limit s move 
 
 -- once all that was due is sent
 unfoldable pub outcome_of : Rules → ℕ → ℕ → Standing → Option Outcome
-outcome_of rules limit most s =
+outcome_of rules limit max_calls s =
     if is_none s.to_client && is_none s.to_upstream
-    then by_both limit s (of_upstream rules limit s) (of_client rules limit most s) else None
+    then by_both limit s (of_upstream rules limit s) (of_client rules limit max_calls s) else None

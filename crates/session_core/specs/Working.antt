@@ -11,115 +11,69 @@ use Rattle.session_core.specs.Ends.{IsAtRest}
 use Rattle.session_core.specs.Session.{Rooms}
 use Rattle.session_core.specs.declared.outcome.Outcome.{Outcome}
 use Rattle.session_core.specs.declared.state.State.{State}
-use Rattle.session_core.specs.declared.state.Turn.{Turn}
-use Rattle.session_core.specs.declared.state.Turn.TheVariants as turn
+use Rattle.session_core.specs.declared.half.Half.{Half}
+use Rattle.session_core.specs.declared.state.SessionStep.{SessionStep}
+use Rattle.session_core.specs.declared.state.SessionStep.TheVariants as step
+use Rattle.session_core.specs.declared.state.TheConstants.{MOST_CALLS}
+use Rattle.gate_hub.specs.declared.hub.Side.{Side}
+use Rattle.gate_hub.specs.declared.hub.Side.TheVariants as side
+use Rattle.session_core.specs.Halves.{HasRooms}
 use Rattle.session_core.specs.declared.state.Waiting.{Waiting}
 use Rattle.session_core.specs.declared.state.Waiting.TheVariants as waiting
 use Rattle.session_core.specs.declared.judge.ClientJudged.{ClientJudged}
 use Rattle.session_core.specs.declared.judge.ClientJudged.TheVariants as client
-use Rattle.session_core.specs.declared.state.Stop.{Stop}
-use Rattle.session_core.specs.declared.state.Stop.TheVariants as stop
+use Rattle.session_core.specs.declared.state.Standstill.{Standstill}
+use Rattle.session_core.specs.declared.state.Standstill.TheVariants as still
+
+-- the greatest length of a frame
+abbrev pub limit_of : State → ℕ
+limit_of s = s.client.held.limit
+
+abbrev pub half_of : Side → State → Half
+half_of side.Client s = s.client
+half_of side.Upstream s = s.upstream
+
+-- with this held of a side
+abbrev pub with_half : Side → State → Half → State
+with_half side.Client s half = record s { client = half }
+with_half side.Upstream s half = record s { upstream = half }
 
 abbrev pub standing : State → Standing
 standing s = record {
-  client = s.client.held;
-  upstream = s.upstream.held;
-  to_client = s.to_client.bytes;
-  to_upstream = s.to_upstream.bytes;
+  client = s.client.held.held;
+  upstream = s.upstream.held.held;
+  to_client = s.client.due.bytes;
+  to_upstream = s.upstream.due.bytes;
   calls = s.calls.items;
-  client_ended = s.client_ended;
-  upstream_ended = s.upstream_ended;
-  taken = s.taken;
-  answered = s.answered;
+  client_ended = s.client.ended;
+  upstream_ended = s.upstream.ended;
+  taken = s.client.count;
+  answered = s.upstream.count;
 }
 
 -- the rooms that it has
 abbrev pub rooms_in : State → Rooms
 rooms_in s = record {
-  client = s.client.limit + 4;
-  upstream = s.upstream.limit + 4;
-  to_client = s.to_client.room;
-  to_upstream = s.to_upstream.room;
+  client = limit_of s + 4;
+  upstream = s.upstream.held.limit + 4;
+  to_client = s.client.due.room;
+  to_upstream = s.upstream.due.room;
   calls = s.calls.capacity;
 }
 
 -- its rooms serve for frames of the limit and so many calls, and nothing in it passes its room
-pub record IsReady (limit most : ℕ) (s : State) : Type 0 where
-  pub client : s.client.limit ≡ limit
-  pub upstream : s.upstream.limit ≡ limit
+pub record IsReady (limit max_calls : ℕ) (s : State) : Type 0 where
+  pub client : HasRooms limit s.client
+  pub upstream : HasRooms limit s.upstream
   pub small : limit < 2 ^ 24
-  pub to_client : s.to_client.room ≡ 24 * limit + 260
-  pub to_upstream : s.to_upstream.room ≡ 24 * limit + 260
-  pub calls : s.calls.capacity ≡ most
-  pub some : 0 < most
-  pub few : most ≤ 65536
-  pub client_within : length s.client.held ≤ limit + 4
-  pub upstream_within : length s.upstream.held ≤ limit + 4
-  pub to_client_within : length s.to_client.bytes ≤ s.to_client.room
-  pub to_upstream_within : length s.to_upstream.bytes ≤ s.to_upstream.room
-  pub calls_within : length s.calls.items ≤ most
+  pub capacity : s.calls.capacity ≡ max_calls
+  pub some : 0 < max_calls
+  pub few : max_calls ≤ MOST_CALLS
+  pub calls_within : length s.calls.items ≤ max_calls
 
 -- its rooms serve for its own limit and number of calls
 abbrev pub IsSound : State → Type 0
-IsSound s = IsReady s.client.limit s.calls.capacity s
-
--- and later for the same
-abbrev pub StaysSound : State → State → Type 0
-StaysSound old new = IsReady old.client.limit old.calls.capacity new
-
--- what came and went fits the later state too, with what was added on the way
-abbrev pub FitsOn : Rules → State → State → (History → History) → Type 0
-FitsOn rules old new on =
-    (h : History) → Fits rules old.client.limit old.calls.capacity h (standing old) → Fits rules old.client.limit old.calls.capacity (on h) (standing new)
-
--- what came of a look at a side
-abbrev pub Turns : Turn → Move → Standing → Standing → Type 0
-Turns turn.Waits m old new = (m ≡ Waits) × (new ≡ old)
-Turns (turn.Halts h) m old new = (m ≡ Halts h) × (new ≡ old)
-Turns turn.Takes m old new = m ≡ Takes new
-
--- what the end of the upstream's bytes does to an open call
-abbrev pub ends_turn : Bool → Bool → Turn
-ends_turn true true = turn.Halts halt.Inside
-ends_turn true false = turn.Waits
-ends_turn false ended = turn.Waits
-
--- nothing more can be taken, and why
-abbrev pub Stops : Rules → ℕ → ℕ → Standing → Stop → Type 0
-Stops rules limit most s (stop.Upstream h) = of_upstream rules limit s ≡ Halts h
-Stops rules limit most s (stop.Client h) = (of_upstream rules limit s ≡ Waits) × (of_client rules limit most s ≡ Halts h)
-Stops rules limit most s stop.Waits = (of_upstream rules limit s ≡ Waits) × (of_client rules limit most s ≡ Waits)
-
--- a frame that stands at the front is cut from the bytes
-abbrev pub Cuts : ℕ → List ℕ → Type 0
-Cuts limit held = (frame rest : List ℕ) → front limit held ≡ Whole frame rest → IsCut limit held frame rest
-
--- a step was taken over a frame that is cut
-pub data Took (rules : Rules) (limit most : ℕ) (s t : Standing) : Type 0 where
-  ByUpstream : of_upstream rules limit s ≡ Takes t → Cuts limit s.upstream → Took rules limit most s t
-  ByClient : of_upstream rules limit s ≡ Waits → of_client rules limit most s ≡ Takes t → Cuts limit s.client → Took rules limit most s t
-
--- a step was taken, or none can be
-abbrev pub Goes : Rules → ℕ → ℕ → Standing → Standing → Option Stop → Type 0
-Goes rules limit most s t None = Took rules limit most s t
-Goes rules limit most s t (Some why) = (t ≡ s) × Stops rules limit most s why
-
--- the outcome, by why nothing more can be taken
-abbrev pub ending_by : ℕ → Standing → Stop → Option Outcome
-ending_by limit s (stop.Upstream h) = Some (by_upstream h s)
-ending_by limit s (stop.Client h) = if is_none s.calls then by_client limit s (Halts h) else None
-ending_by limit s stop.Waits = if is_none s.calls then by_client limit s Waits else None
-
-abbrev pub ending_of : ℕ → Standing → Stop → Option Outcome
-ending_of limit s why = if is_none s.to_client && is_none s.to_upstream then ending_by limit s why else None
-
--- between two calls the session is at rest
-abbrev pub IsSettled : Rules → ℕ → ℕ → State → Type 0
-IsSettled rules limit most s = IsAtRest rules limit most (standing s) s.outcome
-
--- so it is by the limit and the number of calls that it began with
-abbrev pub IsSettledBy : Rules → State → State → Type 0
-IsSettledBy rules old s = IsSettled rules old.client.limit old.calls.capacity s
+IsSound s = IsReady (limit_of s) s.calls.capacity s
 
 -- the verdict on a frame that waits
 abbrev pub judged_as : Waiting → ClientJudged
@@ -136,4 +90,80 @@ pub record IsFound (rules : Rules) (limit : ℕ) (held : List ℕ) (found : Wait
 
 -- what is known of the client's front frame is so
 abbrev pub Knows : Rules → State → Type 0
-Knows rules s = IfSome s.known (λ found. IsFound rules s.client.limit s.client.held found)
+Knows rules s = IfSome s.known (λ found. IsFound rules (limit_of s) s.client.held.held found)
+
+-- what each call rests on: rooms that serve, a judge that has room for its frames, and a stored verdict that is so
+pub record Works (rules : Rules) (longest : ℕ) (s : State) : Type 0 where
+  pub ready : IsSound s
+  pub fits : limit_of s ≤ longest
+  pub known : Knows rules s
+
+-- and what it leaves: rooms that serve for the same, and a stored verdict that is so
+pub record Keeps (rules : Rules) (old new : State) : Type 0 where
+  pub ready : IsReady (limit_of old) old.calls.capacity new
+  pub known : Knows rules new
+
+-- what came and went fits the later state too, with what was added on the way
+abbrev pub FitsOn : Rules → State → State → (History → History) → Type 0
+FitsOn rules old new on =
+    (h : History) → Fits rules (limit_of old) old.calls.capacity h (standing old) → Fits rules (limit_of old) old.calls.capacity (on h) (standing new)
+
+-- what the front frame of a side does
+abbrev pub of_upstream_in : Rules → State → Move
+of_upstream_in rules s = of_upstream rules (limit_of s) (standing s)
+
+abbrev pub of_client_in : Rules → State → Move
+of_client_in rules s = of_client rules (limit_of s) s.calls.capacity (standing s)
+
+-- what came of a look at a side
+abbrev pub Comes : SessionStep → Move → Standing → Standing → Type 0
+Comes step.Waits m old new = (m ≡ Waits) × (new ≡ old)
+Comes (step.Halts h) m old new = (m ≡ Halts h) × (new ≡ old)
+Comes step.Takes m old new = m ≡ Takes new
+
+-- what the end of the upstream's bytes does to an open call
+abbrev pub ends_step : Bool → Bool → SessionStep
+ends_step true true = step.Halts halt.Inside
+ends_step true false = step.Waits
+ends_step false ended = step.Waits
+
+-- nothing more can be taken, and why
+abbrev pub StandsStill : Rules → ℕ → ℕ → Standing → Standstill → Type 0
+StandsStill rules limit max_calls s (still.Upstream h) = of_upstream rules limit s ≡ Halts h
+StandsStill rules limit max_calls s (still.Client h) = (of_upstream rules limit s ≡ Waits) × (of_client rules limit max_calls s ≡ Halts h)
+StandsStill rules limit max_calls s still.Waits = (of_upstream rules limit s ≡ Waits) × (of_client rules limit max_calls s ≡ Waits)
+
+-- a frame that stands at the front is cut from the bytes
+abbrev pub Cuts : ℕ → List ℕ → Type 0
+Cuts limit held = (frame rest : List ℕ) → front limit held ≡ Whole frame rest → IsCut limit held frame rest
+
+-- a step was taken over a frame that is cut
+pub data Took (rules : Rules) (limit max_calls : ℕ) (s t : Standing) : Type 0 where
+  ByUpstream : of_upstream rules limit s ≡ Takes t → Cuts limit s.upstream → Took rules limit max_calls s t
+  ByClient : of_upstream rules limit s ≡ Waits → of_client rules limit max_calls s ≡ Takes t → Cuts limit s.client → Took rules limit max_calls s t
+
+-- a step was taken, or none can be
+abbrev pub Goes : Rules → ℕ → ℕ → Standing → Standing → Option Standstill → Type 0
+Goes rules limit max_calls s t None = Took rules limit max_calls s t
+Goes rules limit max_calls s t (Some why) = (t ≡ s) × StandsStill rules limit max_calls s why
+
+-- the same of a state, by its limit and its number of calls
+abbrev pub GoesOn : Rules → State → State → Option Standstill → Type 0
+GoesOn rules old new why = Goes rules (limit_of old) old.calls.capacity (standing old) (standing new) why
+
+-- the outcome, by why nothing more can be taken
+abbrev pub ending_by : ℕ → Standing → Standstill → Option Outcome
+ending_by limit s (still.Upstream h) = Some (by_upstream h s)
+ending_by limit s (still.Client h) = if is_none s.calls then by_client limit s (Halts h) else None
+ending_by limit s still.Waits = if is_none s.calls then by_client limit s Waits else None
+
+abbrev pub ending_of : ℕ → Standing → Standstill → Option Outcome
+ending_of limit s why = if is_none s.to_client && is_none s.to_upstream then ending_by limit s why else None
+
+-- between two calls the session is at rest
+abbrev pub IsSettled : Rules → ℕ → ℕ → State → Type 0
+IsSettled rules limit max_calls s = IsAtRest rules limit max_calls (standing s) s.outcome
+
+-- so it is by the limit and the number of calls that it began with
+abbrev pub IsSettledBy : Rules → State → State → Type 0
+IsSettledBy rules old s = IsSettled rules (limit_of old) old.calls.capacity s

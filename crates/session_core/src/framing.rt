@@ -1,6 +1,7 @@
 //! Verdicts with their output in a frame.
-ghost use Rattle.std.specs.Prelude.{◌≡◌, ◌+◌, ◌*◌, ◌^◌, ◌<◌, ◌≤◌, [], length};
+ghost use Rattle.std.specs.Prelude.{◌≡◌, ◌^◌, ◌<◌, ◌≤◌, [], length};
 ghost use Rattle.framed_transport.specs.Frames.{framed};
+ghost use Rattle.session_core.specs.Rooms.{due_room};
 
 use crate::judge::{Call, ClientJudged, Judge, UpstreamJudged};
 use framed_transport::{begin, close};
@@ -11,7 +12,7 @@ use translate_core::Cause;
 pub fn judge_client<J: Judge>(judge: &mut J, frame: &[u8], out: &mut Out) -> ClientJudged
     requires fits { length frame.now ≤ J.longest judge.old }
     requires empty { out.old.bytes ≡ [] }
-    requires room { 24 * length frame.now + 260 ≤ out.old.room }
+    requires room { due_room (length frame.now) ≤ out.old.room }
     requires small { out.old.room < 2 ^ 31 }
     ensures same { judge.new ≡ judge.old }
     ensures verdict { result ≡ (J.rules judge.old).judged frame.now }
@@ -29,7 +30,7 @@ pub fn answer_call<J: Judge>(judge: &mut J, frame: &[u8], cause: Cause, out: &mu
     requires fits { length frame.now ≤ J.longest judge.old }
     requires refused { (J.rules judge.old).judged frame.now ≡ ClientJudged.Refused cause }
     requires empty { out.old.bytes ≡ [] }
-    requires room { 24 * length frame.now + 260 ≤ out.old.room }
+    requires room { due_room (length frame.now) ≤ out.old.room }
     requires small { out.old.room < 2 ^ 31 }
     ensures same { judge.new ≡ judge.old }
     ensures out { out.new ≡ record { bytes = framed ((J.rules judge.old).answer frame.now); room = out.old.room } }
@@ -49,7 +50,7 @@ pub fn judge_upstream<J: Judge>(
 ) -> UpstreamJudged
     requires fits { length frame.now ≤ J.longest judge.old }
     requires empty { out.old.bytes ≡ [] }
-    requires room { 24 * length frame.now + 260 ≤ out.old.room }
+    requires room { due_room (length frame.now) ≤ out.old.room }
     requires small { out.old.room < 2 ^ 31 }
     ensures same { judge.new ≡ judge.old }
     ensures verdict { result ≡ (J.rules judge.old).replied call frame.now }

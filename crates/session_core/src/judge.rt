@@ -1,5 +1,6 @@
 //! What a session asks of those who read its frames.
-ghost use Rattle.std.specs.Prelude.{◌≡◌, ℕ, ◌+◌, ◌*◌, ◌≤◌, ◌++◌, length};
+ghost use Rattle.std.specs.Prelude.{◌≡◌, ℕ, ◌+◌, ◌≤◌, ◌++◌, length};
+ghost use Rattle.session_core.specs.Rooms.{room_for};
 ghost use Rattle.session_core.specs.Rules.{Rules};
 
 use crate::outcome::Halt;
@@ -49,7 +50,7 @@ pub trait Judge: Sized + Drop {
     /// Judges a frame of the client, and appends what goes to the upstream where it is passed.
     fn client(&mut self, frame: &[u8], out: &mut Out) -> ClientJudged
         requires fits { length frame.now ≤ longest self.old }
-        requires room { length out.old.bytes + (24 * length frame.now + 256) ≤ out.old.room }
+        requires room { length out.old.bytes + room_for (length frame.now) ≤ out.old.room }
         ensures same { self.new ≡ self.old }
         ensures verdict { result ≡ (rules self.old).judged frame.now }
         ensures out { out.new ≡ record { bytes = out.old.bytes ++ (rules self.old).output frame.now; room = out.old.room } }
@@ -59,7 +60,7 @@ pub trait Judge: Sized + Drop {
     fn answer(&mut self, frame: &[u8], cause: Cause, out: &mut Out)
         requires fits { length frame.now ≤ longest self.old }
         requires refused { (rules self.old).judged frame.now ≡ ClientJudged.Refused cause }
-        requires room { length out.old.bytes + (24 * length frame.now + 256) ≤ out.old.room }
+        requires room { length out.old.bytes + room_for (length frame.now) ≤ out.old.room }
         ensures same { self.new ≡ self.old }
         ensures out { out.new ≡ record { bytes = out.old.bytes ++ (rules self.old).answer frame.now; room = out.old.room } }
         ensures within { length out.new.bytes ≤ out.new.room };
@@ -67,7 +68,7 @@ pub trait Judge: Sized + Drop {
     /// Judges a frame of the upstream for a call, and appends what goes to the client.
     fn upstream(&mut self, call: Call, frame: &[u8], out: &mut Out) -> UpstreamJudged
         requires fits { length frame.now ≤ longest self.old }
-        requires room { length out.old.bytes + (24 * length frame.now + 256) ≤ out.old.room }
+        requires room { length out.old.bytes + room_for (length frame.now) ≤ out.old.room }
         ensures same { self.new ≡ self.old }
         ensures verdict { result ≡ (rules self.old).replied call frame.now }
         ensures out { out.new ≡ record { bytes = out.old.bytes ++ (rules self.old).reply call frame.now; room = out.old.room } }

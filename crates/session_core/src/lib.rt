@@ -6,6 +6,7 @@
 #![tactic(auto)]
 
 mod framing;
+mod half;
 mod judge;
 mod laws;
 mod outcome;
@@ -16,3 +17,4 @@ pub use judge::{Call, ClientJudged, Judge, UpstreamJudged};
 pub use laws::{all_that_is_due_was_sent, what_is_due_is_one, what_was_sent_is_a_front};
 pub use outcome::{Halt, Outcome};
 pub use session::Session;
+pub use state::{MOST_CALLS, SessionStep, Standstill, Waiting};

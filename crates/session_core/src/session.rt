@@ -1,13 +1,14 @@
 //! One session, as the server above drives it.
 ghost use Rattle.std.specs.Prelude.{◌≡◌, ◌+◌, ◌*◌, ◌-◌, ◌^◌, ◌<◌, ◌≤◌, [], ◌++◌, length, take, ℕ, List, Option, IfOk, IfSome, true, false, None, is_some};
-ghost use Rattle.session_core.specs.Standing.{Standing, History, begun, nothing};
+ghost use Rattle.session_core.specs.Standing.{nothing};
 ghost use Rattle.session_core.specs.Fits.{Fits};
-ghost use Rattle.session_core.specs.Ends.{IsAtRest, TakesNoMore, held_of, is_own};
-ghost use Rattle.session_core.specs.Session.{Seen, HoldsWithin, rooms_for, due_to, and_sent, and_ended, room_of};
+ghost use Rattle.session_core.specs.Ends.{IsAtRest, TakesNoMore, held_of, most_held, is_own};
+ghost use Rattle.session_core.specs.Rooms.{due_room};
+ghost use Rattle.session_core.specs.Session.{Seen, HoldsWithin, FitsLater, rooms_for, due_to, and_came, and_sent, and_ended, room_of};
 
 use crate::judge::Judge;
 use crate::outcome::Outcome;
-use crate::state::State;
+use crate::state::{MOST_CALLS, State};
 use gate_base::OutOfMemory;
 use gate_hub::Side;
 use std::alloc::Global;
@@ -31,36 +32,36 @@ impl<J: Judge> Model for Session<J> {
 
     ghost Value = { Seen J };
 
-    ghost use Rattle.session_core.specs.Working.{standing, rooms_in, IsReady, IsSettled, Knows};
+    ghost use Rattle.session_core.specs.Working.{standing, limit_of, rooms_in, Works, IsSettledBy};
 
-    ghost view = { λ s. record { judge = s.judge; limit = s.state.client.limit; most = s.state.calls.capacity; rooms = rooms_in s.state; standing = standing s.state; outcome = s.state.outcome } };
+    ghost view = { λ s. record { judge = s.judge; limit = limit_of s.state; max_calls = s.state.calls.capacity; rooms = rooms_in s.state; standing = standing s.state; outcome = s.state.outcome } };
 
-    ghost invariant = { λ s. IsReady s.state.client.limit s.state.calls.capacity s.state × (s.state.client.limit ≤ J.longest s.judge) × IsSettled (J.rules s.judge) s.state.client.limit s.state.calls.capacity s.state × Knows (J.rules s.judge) s.state };
+    ghost invariant = { λ s. Works (J.rules s.judge) (J.longest s.judge) s.state × IsSettledBy (J.rules s.judge) s.state s.state };
 }
 
 impl<J: Judge> Session<J> {
     /// Takes all the memory of a session.
     ///
-    /// `limit` is the most bytes of a frame, below 2^24 and within what the judge has room for; `most` is how many calls
+    /// `limit` is the most bytes of a frame, below 2^24 and within what the judge has room for; `max_calls` is how many calls
     /// may be open, from 1 to 65,536. Want of memory is the one error.
     pub fn open(
         alloc: Global,
         judge: J,
         limit: usize,
-        most: usize,
+        max_calls: usize,
     ) -> Result<Session<J>, OutOfMemory>
         requires limit { limit < 2 ^ 24 }
-        requires some { 0 < most }
-        requires few { most ≤ 65536 }
+        requires some { 0 < max_calls }
+        requires few { max_calls ≤ MOST_CALLS }
         requires longest { limit ≤ J.longest judge }
-        ensures given { IfOk result (λ s. (s.judge ≡ judge) × (s.limit ≡ limit) × (s.most ≡ most)) }
-        ensures fits { IfOk result (λ s. Fits (J.rules judge) limit most nothing s.standing) }
-        ensures rest { IfOk result (λ s. IsAtRest (J.rules judge) limit most s.standing s.outcome) }
+        ensures given { IfOk result (λ s. (s.judge ≡ judge) × (s.limit ≡ limit) × (s.max_calls ≡ max_calls)) }
+        ensures fits { IfOk result (λ s. Fits (J.rules judge) limit max_calls nothing s.standing) }
+        ensures rest { IfOk result (λ s. IsAtRest (J.rules judge) limit max_calls s.standing s.outcome) }
         ensures going { IfOk result (λ s. s.outcome ≡ None) }
-        ensures rooms { IfOk result (λ s. s.rooms ≡ rooms_for limit most) }
+        ensures rooms { IfOk result (λ s. s.rooms ≡ rooms_for limit max_calls) }
         ensures holds { IfOk result (λ s. HoldsWithin s) }
     {
-        let state = State::open(alloc, limit, most)?;
+        let state = State::open(alloc, limit, max_calls)?;
         Ok(Session { judge, state })
     }
 
@@ -69,19 +70,18 @@ impl<J: Judge> Session<J> {
     /// Fewer than given are taken only where the client's buffer is full afterwards, the client had ended, or the
     /// session has an outcome.
     pub fn take_client(&mut self, bytes: &[u8]) -> usize
-        ensures same { (self.new.judge ≡ self.old.judge) × (self.new.limit ≡ self.old.limit) × (self.new.most ≡ self.old.most) }
-        ensures rest { IsAtRest (J.rules self.old.judge) self.old.limit self.old.most self.new.standing self.new.outcome }
+        ensures same { (self.new.judge ≡ self.old.judge) × (self.new.limit ≡ self.old.limit) × (self.new.max_calls ≡ self.old.max_calls) }
+        ensures rest { IsAtRest (J.rules self.old.judge) self.old.limit self.old.max_calls self.new.standing self.new.outcome }
         ensures rooms { self.new.rooms ≡ self.old.rooms }
         ensures holds { HoldsWithin self.new }
         ensures count { result ≤ length bytes.now }
-        ensures fits { (h : History) → Fits (J.rules self.old.judge) self.old.limit self.old.most h self.old.standing →
-            Fits (J.rules self.old.judge) self.old.limit self.old.most (record h { from_client = h.from_client ++ take result bytes.now }) self.new.standing }
+        ensures fits { FitsLater J.rules self.old self.new (λ h. and_came Side.Client h (take result bytes.now)) }
         ensures fewer { result < length bytes.now → TakesNoMore self.old.limit self.new.standing.client self.old.standing.client_ended self.new.outcome }
         ensures whole { length bytes.now ≤ room_of self.old.limit self.old.standing (is_some self.old.outcome) Side.Client → result ≡ length bytes.now }
         ensures ended { self.old.standing.client_ended ≡ true → result ≡ 0 }
         ensures over { is_some self.old.outcome ≡ true → result ≡ 0 }
     {
-        self.state.take_client(&mut self.judge, bytes)
+        self.state.take(&mut self.judge, Side::Client, bytes)
     }
 
     /// Takes bytes of the upstream, does all that can be done, and says how many were taken.
@@ -89,63 +89,51 @@ impl<J: Judge> Session<J> {
     /// Fewer than given are taken only where the upstream's buffer is full afterwards, the upstream had ended, or the
     /// session has an outcome.
     pub fn take_upstream(&mut self, bytes: &[u8]) -> usize
-        ensures same { (self.new.judge ≡ self.old.judge) × (self.new.limit ≡ self.old.limit) × (self.new.most ≡ self.old.most) }
-        ensures rest { IsAtRest (J.rules self.old.judge) self.old.limit self.old.most self.new.standing self.new.outcome }
+        ensures same { (self.new.judge ≡ self.old.judge) × (self.new.limit ≡ self.old.limit) × (self.new.max_calls ≡ self.old.max_calls) }
+        ensures rest { IsAtRest (J.rules self.old.judge) self.old.limit self.old.max_calls self.new.standing self.new.outcome }
         ensures rooms { self.new.rooms ≡ self.old.rooms }
         ensures holds { HoldsWithin self.new }
         ensures count { result ≤ length bytes.now }
-        ensures fits { (h : History) → Fits (J.rules self.old.judge) self.old.limit self.old.most h self.old.standing →
-            Fits (J.rules self.old.judge) self.old.limit self.old.most (record h { from_upstream = h.from_upstream ++ take result bytes.now }) self.new.standing }
+        ensures fits { FitsLater J.rules self.old self.new (λ h. and_came Side.Upstream h (take result bytes.now)) }
         ensures fewer { result < length bytes.now → TakesNoMore self.old.limit self.new.standing.upstream self.old.standing.upstream_ended self.new.outcome }
         ensures whole { length bytes.now ≤ room_of self.old.limit self.old.standing (is_some self.old.outcome) Side.Upstream → result ≡ length bytes.now }
         ensures ended { self.old.standing.upstream_ended ≡ true → result ≡ 0 }
         ensures over { is_some self.old.outcome ≡ true → result ≡ 0 }
     {
-        self.state.take_upstream(&mut self.judge, bytes)
+        self.state.take(&mut self.judge, Side::Upstream, bytes)
     }
 
     /// The bytes that are due to a side.
     pub fn due(&self, side: Side) -> &[u8]
         ensures bytes { result.now ≡ due_to side self.now.standing }
-        ensures within { length (due_to side self.now.standing) ≤ 24 * self.now.limit + 260 }
+        ensures within { length (due_to side self.now.standing) ≤ due_room self.now.limit }
         ensures over { is_some self.now.outcome ≡ true → due_to side self.now.standing ≡ [] }
         ensures holds { HoldsWithin self.now }
     {
-        match side {
-            Side::Client => self.state.to_client(),
-            Side::Upstream => self.state.to_upstream(),
-        }
+        self.state.due(side)
     }
 
     /// So many of the bytes that are due to a side were sent.
     pub fn sent(&mut self, side: Side, n: usize)
         requires due { n ≤ length (due_to side self.old.standing) }
-        ensures same { (self.new.judge ≡ self.old.judge) × (self.new.limit ≡ self.old.limit) × (self.new.most ≡ self.old.most) }
-        ensures rest { IsAtRest (J.rules self.old.judge) self.old.limit self.old.most self.new.standing self.new.outcome }
+        ensures same { (self.new.judge ≡ self.old.judge) × (self.new.limit ≡ self.old.limit) × (self.new.max_calls ≡ self.old.max_calls) }
+        ensures rest { IsAtRest (J.rules self.old.judge) self.old.limit self.old.max_calls self.new.standing self.new.outcome }
         ensures rooms { self.new.rooms ≡ self.old.rooms }
         ensures holds { HoldsWithin self.new }
-        ensures fits { (h : History) → Fits (J.rules self.old.judge) self.old.limit self.old.most h self.old.standing →
-            Fits (J.rules self.old.judge) self.old.limit self.old.most (and_sent side h (take n (due_to side self.old.standing))) self.new.standing }
+        ensures fits { FitsLater J.rules self.old self.new (λ h. and_sent side h (take n (due_to side self.old.standing))) }
     {
-        match side {
-            Side::Client => self.state.sent_client(&mut self.judge, n),
-            Side::Upstream => self.state.sent_upstream(&mut self.judge, n),
-        }
+        self.state.sent(&mut self.judge, side, n);
     }
 
     /// A side sends nothing more. A second time nothing changes.
     pub fn end(&mut self, side: Side)
-        ensures same { (self.new.judge ≡ self.old.judge) × (self.new.limit ≡ self.old.limit) × (self.new.most ≡ self.old.most) }
-        ensures rest { IsAtRest (J.rules self.old.judge) self.old.limit self.old.most self.new.standing self.new.outcome }
+        ensures same { (self.new.judge ≡ self.old.judge) × (self.new.limit ≡ self.old.limit) × (self.new.max_calls ≡ self.old.max_calls) }
+        ensures rest { IsAtRest (J.rules self.old.judge) self.old.limit self.old.max_calls self.new.standing self.new.outcome }
         ensures rooms { self.new.rooms ≡ self.old.rooms }
         ensures holds { HoldsWithin self.new }
-        ensures fits { (h : History) → Fits (J.rules self.old.judge) self.old.limit self.old.most h self.old.standing →
-            Fits (J.rules self.old.judge) self.old.limit self.old.most (and_ended side h) self.new.standing }
+        ensures fits { FitsLater J.rules self.old self.new (λ h. and_ended side h) }
     {
-        match side {
-            Side::Client => self.state.end_client(&mut self.judge),
-            Side::Upstream => self.state.end_upstream(&mut self.judge),
-        }
+        self.state.end(&mut self.judge, side);
     }
 
     /// How many more bytes of a side can be taken.
@@ -153,10 +141,7 @@ impl<J: Judge> Session<J> {
         ensures room { result ≡ room_of self.now.limit self.now.standing (is_some self.now.outcome) side }
         ensures holds { HoldsWithin self.now }
     {
-        match side {
-            Side::Client => self.state.client_room(),
-            Side::Upstream => self.state.upstream_room(),
-        }
+        self.state.room(side)
     }
 
     /// How the session ended, where it has. `LinkFault`, `Full` and `NoMemory` are told by the server alone.
@@ -172,7 +157,7 @@ impl<J: Judge> Session<J> {
     /// open call. After an outcome the two rooms alone.
     pub fn held(&self) -> usize
         ensures exact { result ≡ held_of self.now.limit self.now.standing self.now.outcome }
-        ensures within { result ≤ 52 * self.now.limit + 16 * self.now.most + 4096 }
+        ensures within { result ≤ most_held self.now.limit self.now.max_calls }
     {
         self.state.held()
     }

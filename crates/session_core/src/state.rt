@@ -21,40 +21,37 @@
 //! | no call is open, the client has ended | `Clean` |
 //!
 //! A session with an outcome takes nothing more.
-ghost use Rattle.std.specs.Prelude.{◌≡◌, ◌+◌, ◌*◌, ◌^◌, ◌<◌, ◌≤◌, [], ◌++◌, ◌∷◌, length, take, drop, ℕ, is_some, List, IfOk, true, false, Some, None, if◌then◌else◌, ◌||◌, ◌-◌};
+ghost use Rattle.std.specs.Prelude.{◌≡◌, ◌+◌, ◌^◌, ◌<◌, ◌≤◌, [], ◌++◌, length, take, drop, min, ◌-◌, ℕ, is_some, List, IfOk, true, Some, None, if◌then◌else◌};
 ghost use Rattle.framed_transport.specs.Front.{front, Whole, behind, is_part, is_whole};
 ghost use Rattle.session_core.specs.Standing.{Standing, History, begun};
 ghost use Rattle.session_core.specs.Fits.{Fits, told};
-ghost use Rattle.session_core.specs.Steps.{of_upstream, of_client, outcome_of, IsStill, is_none, by_judged, by_upstream, by_client, at_end, Move, Waits};
-ghost use Rattle.session_core.specs.Ends.{TakesNoMore, held_of};
-ghost use Rattle.session_core.specs.Working.{standing, IsReady, IsSound, StaysSound, IsSettledBy, FitsOn, Turns, Stops, Goes, Cuts, ends_turn, ending_of, Knows, IsFound};
+ghost use Rattle.session_core.specs.Steps.{outcome_of, IsStill, is_none, by_judged, by_upstream, by_client, at_end, Move, Waits};
+ghost use Rattle.session_core.specs.Ends.{TakesNoMore, held_of, most_held};
+ghost use Rattle.session_core.specs.Session.{due_to, and_came, and_sent, and_ended, room_of};
+ghost use Rattle.session_core.specs.Halves.{fed, let_go, ended};
+ghost use Rattle.session_core.specs.Working.{standing, limit_of, half_of, with_half, of_upstream_in, of_client_in, IsReady, Works, Keeps, IsSettledBy, FitsOn, IsSound, Comes, GoesOn, Cuts, ends_step, ending_of, IsFound};
 
 use crate::framing::{answer_call, judge_client, judge_upstream};
+use crate::half::Half;
 use crate::judge::{Call, ClientJudged, Judge, UpstreamJudged};
 use crate::outcome::{Halt, Outcome};
 use circular_buffer::HeapCircularBuffer;
-use framed_transport::{FrameBuf, Next, frame_stands_at_the_front};
+use framed_transport::{Next, frame_stands_at_the_front};
 use gate_base::OutOfMemory;
-use gate_io::Out;
+use gate_hub::Side;
 use std::alloc::Global;
 use translate_core::Cause;
+
+/// So many calls may be open at the most.
+pub const MOST_CALLS: usize = 65_536;
 
 /// What a session holds, without its judge.
 #[derive(Drop)]
 pub struct State {
-    /// The bytes of each side that came and aren't taken.
-    client: FrameBuf,
-    upstream: FrameBuf,
-    /// The bytes that are due to each side.
-    to_client: Out,
-    to_upstream: Out,
+    client: Half,
+    upstream: Half,
     /// The open calls, the oldest first.
     calls: HeapCircularBuffer<Call>,
-    client_ended: bool,
-    upstream_ended: bool,
-    /// How many frames of each side were taken.
-    taken: u64,
-    answered: u64,
     /// The verdict on the client's front frame, where it was judged and waits.
     known: Option<Waiting>,
     pub outcome: Option<Outcome>,
@@ -62,7 +59,7 @@ pub struct State {
 
 /// What came of a look at a side.
 #[derive(Clone, Copy)]
-pub enum Turn {
+pub enum SessionStep {
     Waits,
     Halts(Halt),
     Takes,
@@ -77,7 +74,7 @@ pub enum Waiting {
 
 /// Why no frame can be taken.
 #[derive(Clone, Copy)]
-pub enum Stop {
+pub enum Standstill {
     Upstream(Halt),
     Client(Halt),
     Waits,
@@ -85,169 +82,161 @@ pub enum Stop {
 
 impl State {
     /// Takes all the memory of a session.
-    pub fn open(alloc: Global, limit: usize, most: usize) -> Result<State, OutOfMemory>
+    ///
+    /// `OutOfMemory`: it was not found.
+    pub fn open(alloc: Global, limit: usize, max_calls: usize) -> Result<State, OutOfMemory>
         requires limit { limit < 2 ^ 24 }
-        requires some { 0 < most }
-        requires few { most ≤ 65536 }
-        ensures ready { IfOk result (λ s. IsReady limit most s) }
+        requires some { 0 < max_calls }
+        requires few { max_calls ≤ MOST_CALLS }
+        ensures ready { IfOk result (λ s. IsReady limit max_calls s) }
         ensures empty { IfOk result (λ s. standing s ≡ begun) }
         ensures open { IfOk result (λ s. s.outcome ≡ None) }
         ensures unknown { IfOk result (λ s. s.known ≡ None) }
     {
         Ok(State {
-            client: FrameBuf::open(alloc, limit)?,
-            upstream: FrameBuf::open(alloc, limit)?,
-            to_client: Out::open(alloc, 24 * limit + 260)?,
-            to_upstream: Out::open(alloc, 24 * limit + 260)?,
-            calls: HeapCircularBuffer::with_capacity(alloc, most)?,
-            client_ended: false,
-            upstream_ended: false,
-            taken: 0,
-            answered: 0,
+            client: Half::open(alloc, limit)?,
+            upstream: Half::open(alloc, limit)?,
+            calls: HeapCircularBuffer::with_capacity(alloc, max_calls)?,
             known: None,
             outcome: None,
         })
     }
 
+    /// What is held of a side.
+    fn half(&self, side: Side) -> &Half
+        ensures { result.now ≡ half_of side self.now }
+    {
+        match side {
+            Side::Client => &self.client,
+            Side::Upstream => &self.upstream,
+        }
+    }
+
     /// Takes the upstream's front frame for the oldest open call, once nothing is due to the client.
-    fn upstream_turn<J: Judge>(&mut self, judge: &mut J) -> Turn
-        requires ready { IsSound self.old }
-        requires fits { self.old.client.limit ≤ J.longest judge.old }
+    fn upstream_step<J: Judge>(&mut self, judge: &mut J) -> SessionStep
+        requires works { Works (J.rules judge.old) (J.longest judge.old) self.old }
         ensures same { judge.new ≡ judge.old }
-        ensures kept { (self.new.known ≡ self.old.known) × (self.new.client ≡ self.old.client) }
-        ensures ready { StaysSound self.old self.new }
-        ensures turned { Turns result (of_upstream (J.rules judge.old) self.old.client.limit (standing self.old)) (standing self.old) (standing self.new) }
-        ensures cut { result ≡ Turn.Takes → Cuts self.old.upstream.limit self.old.upstream.held }
+        ensures keeps { Keeps (J.rules judge.old) self.old self.new }
+        ensures comes { Comes result (of_upstream_in (J.rules judge.old) self.old) (standing self.old) (standing self.new) }
+        ensures cut { result ≡ SessionStep.Takes → Cuts self.old.upstream.held.limit self.old.upstream.held.held }
     {
         let Some(&call) = self.calls.front() else {
-            return Turn::Waits;
+            return SessionStep::Waits;
         };
-        if !self.to_client.bytes().is_empty() {
+        if !self.client.is_paid() {
             return self.upstream_ends();
         }
-        match self.upstream.frame() {
+        match self.upstream.held.frame() {
             Next::NeedMore => self.upstream_ends(),
-            Next::TooLarge(length) => Turn::Halts(Halt::TooLarge(length)),
-            Next::Frame(frame) => {
-                match judge_upstream(judge, call, frame, &mut self.to_client) {
-                    UpstreamJudged::Halts(halt) => {
-                        self.to_client.cut(0);
-                        Turn::Halts(halt)
-                    }
-                    UpstreamJudged::Answers => {
-                        self.close_call();
-                        Turn::Takes
-                    }
+            Next::TooLarge(length) => SessionStep::Halts(Halt::TooLarge(length)),
+            Next::Frame(frame) => match judge_upstream(judge, call, frame, &mut self.client.due) {
+                UpstreamJudged::Halts(halt) => {
+                    self.client.due.cut(0);
+                    SessionStep::Halts(halt)
                 }
-            }
+                UpstreamJudged::Answers => {
+                    self.close_call();
+                    SessionStep::Takes
+                }
+            },
         }
     }
 
     /// Whether the upstream ends with a call open.
-    fn upstream_ends(&self) -> Turn
-        ensures { result ≡ ends_turn (is_part (front self.now.upstream.limit self.now.upstream.held)) self.now.upstream_ended }
+    fn upstream_ends(&self) -> SessionStep
+        ensures { result ≡ ends_step (is_part (front self.now.upstream.held.limit self.now.upstream.held.held)) self.now.upstream.ended }
     {
-        match self.upstream.frame() {
-            Next::NeedMore if self.upstream_ended => Turn::Halts(Halt::Inside),
-            _ => Turn::Waits,
+        match self.upstream.held.frame() {
+            Next::NeedMore if self.upstream.ended => SessionStep::Halts(Halt::Inside),
+            _ => SessionStep::Waits,
         }
     }
 
     /// Lets the upstream's front frame and the oldest call go.
     fn close_call(&mut self)
         ensures stands { standing self.new ≡ record (standing self.old) {
-          upstream = behind self.old.upstream.held (front self.old.upstream.limit self.old.upstream.held);
+          upstream = behind self.old.upstream.held.held (front self.old.upstream.held.limit self.old.upstream.held.held);
           calls = drop 1 self.old.calls.items;
-          answered = told (self.old.answered + 1);
+          answered = told (self.old.upstream.count + 1);
         } }
         ensures kept { (self.new.known ≡ self.old.known) × (self.new.client ≡ self.old.client) }
-        ensures ready { (limit most : ℕ) → IsReady limit most self.old → IsReady limit most self.new }
+        ensures ready { (limit max_calls : ℕ) → IsReady limit max_calls self.old → IsReady limit max_calls self.new }
     {
-        self.upstream.drop_frame();
+        self.upstream.take_frame();
         self.calls.pop_front();
-        self.answered = self.answered.saturating_add(1);
     }
 
     /// Takes the client's front frame, while nothing is due to the upstream and a call may open.
-    fn client_turn<J: Judge>(&mut self, judge: &mut J) -> Turn
-        requires ready { IsSound self.old }
-        requires fits { self.old.client.limit ≤ J.longest judge.old }
-        requires known { Knows (J.rules judge.old) self.old }
+    fn client_step<J: Judge>(&mut self, judge: &mut J) -> SessionStep
+        requires works { Works (J.rules judge.old) (J.longest judge.old) self.old }
         ensures same { judge.new ≡ judge.old }
-        ensures known { Knows (J.rules judge.old) self.new }
-        ensures ready { StaysSound self.old self.new }
-        ensures turned { Turns result (of_client (J.rules judge.old) self.old.client.limit self.old.calls.capacity (standing self.old)) (standing self.old) (standing self.new) }
-        ensures cut { result ≡ Turn.Takes → Cuts self.old.client.limit self.old.client.held }
+        ensures keeps { Keeps (J.rules judge.old) self.old self.new }
+        ensures comes { Comes result (of_client_in (J.rules judge.old) self.old) (standing self.old) (standing self.new) }
+        ensures cut { result ≡ SessionStep.Takes → Cuts self.old.client.held.limit self.old.client.held.held }
     {
-        if !self.to_upstream.bytes().is_empty() || self.calls.len() >= self.calls.capacity() {
-            return Turn::Waits;
+        if !self.upstream.is_paid() || self.calls.len() >= self.calls.capacity() {
+            return SessionStep::Waits;
         }
         let Some(waiting) = self.known else {
-            return self.judge_turn(judge);
+            return self.judge_step(judge);
         };
-        self.wait_turn(judge, waiting)
+        self.stored_step(judge, waiting)
     }
 
     /// Continues with the client's front frame by its stored verdict.
-    fn wait_turn<J: Judge>(&mut self, judge: &mut J, waiting: Waiting) -> Turn
-        requires ready { IsSound self.old }
-        requires fits { self.old.client.limit ≤ J.longest judge.old }
-        requires known { Knows (J.rules judge.old) self.old }
-        requires empty { self.old.to_upstream.bytes ≡ [] }
+    fn stored_step<J: Judge>(&mut self, judge: &mut J, waiting: Waiting) -> SessionStep
+        requires works { Works (J.rules judge.old) (J.longest judge.old) self.old }
+        requires empty { self.old.upstream.due.bytes ≡ [] }
         requires few { length self.old.calls.items < self.old.calls.capacity }
-        requires found { IsFound (J.rules judge.old) self.old.client.limit self.old.client.held waiting }
+        requires found { IsFound (J.rules judge.old) self.old.client.held.limit self.old.client.held.held waiting }
         ensures same { judge.new ≡ judge.old }
-        ensures known { Knows (J.rules judge.old) self.new }
-        ensures ready { StaysSound self.old self.new }
-        ensures turned { Turns result (of_client (J.rules judge.old) self.old.client.limit self.old.calls.capacity (standing self.old)) (standing self.old) (standing self.new) }
-        ensures cut { result ≡ Turn.Takes → Cuts self.old.client.limit self.old.client.held }
+        ensures keeps { Keeps (J.rules judge.old) self.old self.new }
+        ensures comes { Comes result (of_client_in (J.rules judge.old) self.old) (standing self.old) (standing self.new) }
+        ensures cut { result ≡ SessionStep.Takes → Cuts self.old.client.held.limit self.old.client.held.held }
     {
         match waiting {
-            Waiting::Halts(halt) => Turn::Halts(halt),
-            Waiting::Refused(cause) => self.answer_turn(judge, cause),
+            Waiting::Halts(halt) => SessionStep::Halts(halt),
+            Waiting::Refused(cause) => self.answer_step(judge, cause),
         }
     }
 
     /// Judges the client's front frame, and takes it or stores the verdict.
-    fn judge_turn<J: Judge>(&mut self, judge: &mut J) -> Turn
-        requires ready { IsSound self.old }
-        requires fits { self.old.client.limit ≤ J.longest judge.old }
-        requires known { Knows (J.rules judge.old) self.old }
-        requires empty { self.old.to_upstream.bytes ≡ [] }
+    fn judge_step<J: Judge>(&mut self, judge: &mut J) -> SessionStep
+        requires works { Works (J.rules judge.old) (J.longest judge.old) self.old }
+        requires empty { self.old.upstream.due.bytes ≡ [] }
         requires few { length self.old.calls.items < self.old.calls.capacity }
         ensures same { judge.new ≡ judge.old }
-        ensures known { Knows (J.rules judge.old) self.new }
-        ensures ready { StaysSound self.old self.new }
-        ensures turned { Turns result (of_client (J.rules judge.old) self.old.client.limit self.old.calls.capacity (standing self.old)) (standing self.old) (standing self.new) }
-        ensures cut { result ≡ Turn.Takes → Cuts self.old.client.limit self.old.client.held }
+        ensures keeps { Keeps (J.rules judge.old) self.old self.new }
+        ensures comes { Comes result (of_client_in (J.rules judge.old) self.old) (standing self.old) (standing self.new) }
+        ensures cut { result ≡ SessionStep.Takes → Cuts self.old.client.held.limit self.old.client.held.held }
     {
-        match self.client.frame() {
-            Next::NeedMore => Turn::Waits,
-            Next::TooLarge(length) => Turn::Halts(Halt::TooLarge(length)),
-            Next::Frame(frame) => match judge_client(judge, frame, &mut self.to_upstream) {
+        match self.client.held.frame() {
+            Next::NeedMore => SessionStep::Waits,
+            Next::TooLarge(length) => SessionStep::Halts(Halt::TooLarge(length)),
+            Next::Frame(frame) => match judge_client(judge, frame, &mut self.upstream.due) {
                 ClientJudged::Opens(call) => {
                     self.calls.push_back(call);
                     self.count_frame();
-                    Turn::Takes
+                    SessionStep::Takes
                 }
                 ClientJudged::Goes => {
                     self.count_frame();
-                    Turn::Takes
+                    SessionStep::Takes
                 }
                 ClientJudged::Dropped => {
-                    self.to_upstream.cut(0);
+                    self.upstream.due.cut(0);
                     self.count_frame();
-                    Turn::Takes
+                    SessionStep::Takes
                 }
                 ClientJudged::Refused(cause) => {
-                    self.to_upstream.cut(0);
+                    self.upstream.due.cut(0);
                     self.known = Some(Waiting::Refused(cause));
-                    self.answer_turn(judge, cause)
+                    self.answer_step(judge, cause)
                 }
                 ClientJudged::Halts(halt) => {
-                    self.to_upstream.cut(0);
+                    self.upstream.due.cut(0);
                     self.known = Some(Waiting::Halts(halt));
-                    Turn::Halts(halt)
+                    SessionStep::Halts(halt)
                 }
             },
         }
@@ -256,92 +245,83 @@ impl State {
     /// Lets the client's front frame go.
     fn count_frame(&mut self)
         ensures stands { standing self.new ≡ record (standing self.old) {
-          client = behind self.old.client.held (front self.old.client.limit self.old.client.held);
-          taken = told (self.old.taken + 1);
+          client = behind self.old.client.held.held (front self.old.client.held.limit self.old.client.held.held);
+          taken = told (self.old.client.count + 1);
         } }
         ensures unknown { self.new.known ≡ None }
-        ensures ready { (limit most : ℕ) → IsReady limit most self.old → IsReady limit most self.new }
+        ensures ready { (limit max_calls : ℕ) → IsReady limit max_calls self.old → IsReady limit max_calls self.new }
     {
-        self.client.drop_frame();
+        self.client.take_frame();
         self.known = None;
-        self.taken = self.taken.saturating_add(1);
     }
 
     /// Answers the client's front frame in its turn.
-    fn answer_turn<J: Judge>(&mut self, judge: &mut J, cause: Cause) -> Turn
-        requires ready { IsSound self.old }
-        requires fits { self.old.client.limit ≤ J.longest judge.old }
-        requires refused { (frame rest : List ℕ) → front self.old.client.limit self.old.client.held ≡ Whole frame rest → (J.rules judge.old).judged frame ≡ ClientJudged.Refused cause }
-        requires whole { is_whole (front self.old.client.limit self.old.client.held) ≡ true }
+    fn answer_step<J: Judge>(&mut self, judge: &mut J, cause: Cause) -> SessionStep
+        requires works { Works (J.rules judge.old) (J.longest judge.old) self.old }
+        requires found { IsFound (J.rules judge.old) self.old.client.held.limit self.old.client.held.held (Waiting.Refused cause) }
         ensures same { judge.new ≡ judge.old }
-        ensures known { Knows (J.rules judge.old) self.old → Knows (J.rules judge.old) self.new }
-        ensures ready { StaysSound self.old self.new }
-        ensures turned { (frame rest : List ℕ) → front self.old.client.limit self.old.client.held ≡ Whole frame rest →
-            Turns result (by_judged (ClientJudged.Refused cause) (standing self.old) [] ((J.rules judge.old).answer frame) rest) (standing self.old) (standing self.new) }
+        ensures keeps { Keeps (J.rules judge.old) self.old self.new }
+        ensures comes { (frame rest : List ℕ) → front self.old.client.held.limit self.old.client.held.held ≡ Whole frame rest →
+            let answer = (J.rules judge.old).answer frame in
+            Comes result (by_judged (ClientJudged.Refused cause) (standing self.old) [] answer rest) (standing self.old) (standing self.new) }
     {
-        if !self.calls.is_empty() || !self.to_client.bytes().is_empty() {
-            return Turn::Waits;
+        if !self.calls.is_empty() || !self.client.is_paid() {
+            return SessionStep::Waits;
         }
-        if let Next::Frame(frame) = self.client.frame() {
-            answer_call(judge, frame, cause, &mut self.to_client);
+        if let Next::Frame(frame) = self.client.held.frame() {
+            answer_call(judge, frame, cause, &mut self.client.due);
             self.count_frame();
-            return Turn::Takes;
+            return SessionStep::Takes;
         }
-        Turn::Waits
+        SessionStep::Waits
     }
 
     /// Takes a frame, or says why none can be taken.
-    fn step<J: Judge>(&mut self, judge: &mut J) -> Option<Stop>
-        requires ready { IsSound self.old }
-        requires fits { self.old.client.limit ≤ J.longest judge.old }
-        requires known { Knows (J.rules judge.old) self.old }
+    fn step<J: Judge>(&mut self, judge: &mut J) -> Option<Standstill>
+        requires works { Works (J.rules judge.old) (J.longest judge.old) self.old }
         ensures same { judge.new ≡ judge.old }
-        ensures known { Knows (J.rules judge.old) self.new }
-        ensures ready { StaysSound self.old self.new }
-        ensures goes { Goes (J.rules judge.old) self.old.client.limit self.old.calls.capacity (standing self.old) (standing self.new) result }
+        ensures keeps { Keeps (J.rules judge.old) self.old self.new }
+        ensures goes { GoesOn (J.rules judge.old) self.old self.new result }
     {
-        match self.upstream_turn(judge) {
-            Turn::Takes => None,
-            Turn::Halts(halt) => Some(Stop::Upstream(halt)),
-            Turn::Waits => match self.client_turn(judge) {
-                Turn::Takes => None,
-                Turn::Halts(halt) => Some(Stop::Client(halt)),
-                Turn::Waits => Some(Stop::Waits),
+        match self.upstream_step(judge) {
+            SessionStep::Takes => None,
+            SessionStep::Halts(halt) => Some(Standstill::Upstream(halt)),
+            SessionStep::Waits => match self.client_step(judge) {
+                SessionStep::Takes => None,
+                SessionStep::Halts(halt) => Some(Standstill::Client(halt)),
+                SessionStep::Waits => Some(Standstill::Waits),
             },
         }
     }
 
     /// Takes all that can be taken, and answers the outcome.
-    pub fn advance<J: Judge>(&mut self, judge: &mut J) -> Option<Outcome>
-        requires ready { IsSound self.old }
-        requires fits { self.old.client.limit ≤ J.longest judge.old }
-        requires known { Knows (J.rules judge.old) self.old }
+    fn advance<J: Judge>(&mut self, judge: &mut J) -> Option<Outcome>
+        requires works { Works (J.rules judge.old) (J.longest judge.old) self.old }
         ensures same { judge.new ≡ judge.old }
-        ensures known { Knows (J.rules judge.old) self.new }
-        ensures ready { StaysSound self.old self.new }
-        ensures still { IsStill (J.rules judge.old) self.old.client.limit self.old.calls.capacity (standing self.new) }
-        ensures outcome { result ≡ outcome_of (J.rules judge.old) self.old.client.limit self.old.calls.capacity (standing self.new) }
+        ensures keeps { Keeps (J.rules judge.old) self.old self.new }
+        ensures still { IsStill (J.rules judge.old) (limit_of self.old) self.old.calls.capacity (standing self.new) }
+        ensures outcome { result ≡ outcome_of (J.rules judge.old) (limit_of self.old) self.old.calls.capacity (standing self.new) }
         ensures fits { FitsOn (J.rules judge.old) self.old self.new (λ h. h) }
     {
         'frames: loop {
-            if let Some(stop) = self.step(judge) {
-                return self.ending(stop);
+            if let Some(standstill) = self.step(judge) {
+                return self.ending(standstill);
             }
         }
     }
 
     /// The outcome where no frame can be taken.
-    fn ending(&self, stop: Stop) -> Option<Outcome>
-        requires { self.now.upstream.limit ≡ self.now.client.limit }
-        ensures { result ≡ ending_of self.now.client.limit (standing self.now) stop }
+    fn ending(&self, standstill: Standstill) -> Option<Outcome>
+        requires { self.now.upstream.held.limit ≡ limit_of self.now }
+        ensures { result ≡ ending_of (limit_of self.now) (standing self.now) standstill }
     {
-        if !self.to_client.bytes().is_empty() || !self.to_upstream.bytes().is_empty() {
+        if !self.client.is_paid() || !self.upstream.is_paid() {
             return None;
         }
-        match stop {
-            Stop::Upstream(halt) => Some(self.upstream_ending(halt)),
-            Stop::Client(halt) => self.client_ending(halt),
-            Stop::Waits => self.end_ending(),
+        match standstill {
+            Standstill::Upstream(halt) => Some(self.upstream_ending(halt)),
+            Standstill::Client(halt) => self.client_ending(halt),
+            Standstill::Waits => self.end_ending(),
         }
     }
 
@@ -349,19 +329,19 @@ impl State {
     fn upstream_ending(&self, halt: Halt) -> Outcome
         ensures { result ≡ by_upstream halt (standing self.now) }
     {
-        if self.upstream_ended && self.upstream.held() == 0 {
+        if self.upstream.ended && self.upstream.held.held() == 0 {
             Outcome::UpstreamEnded(self.calls.len() as u64)
         } else {
-            Outcome::UpstreamFault(self.answered.saturating_add(1), halt)
+            Outcome::UpstreamFault(self.upstream.count.saturating_add(1), halt)
         }
     }
 
     /// The outcome where the client halts: none while a call is open.
     fn client_ending(&self, halt: Halt) -> Option<Outcome>
-        ensures { result ≡ (if is_none self.now.calls.items then Some (Outcome.ClientFault (told (self.now.taken + 1)) halt) else None) }
+        ensures { result ≡ (if is_none self.now.calls.items then Some (Outcome.ClientFault (told (self.now.client.count + 1)) halt) else None) }
     {
         if self.calls.is_empty() {
-            Some(Outcome::ClientFault(self.taken.saturating_add(1), halt))
+            Some(Outcome::ClientFault(self.client.count.saturating_add(1), halt))
         } else {
             None
         }
@@ -369,220 +349,165 @@ impl State {
 
     /// The outcome where no frame waits: none while a call is open or the client may send more.
     fn end_ending(&self) -> Option<Outcome>
-        requires { self.now.upstream.limit ≡ self.now.client.limit }
-        ensures { result ≡ (if is_none self.now.calls.items then by_client self.now.client.limit (standing self.now) Waits else None) }
+        requires { self.now.upstream.held.limit ≡ limit_of self.now }
+        ensures { result ≡ (if is_none self.now.calls.items then by_client (limit_of self.now) (standing self.now) Waits else None) }
     {
-        if !self.calls.is_empty() || !self.client_ended {
+        if !self.calls.is_empty() || !self.client.ended {
             return None;
         }
-        if self.client.held() > 0 {
-            return Some(Outcome::ClientFault(self.taken.saturating_add(1), Halt::Inside));
+        if self.client.held.held() > 0 {
+            let number = self.client.count.saturating_add(1);
+            return Some(Outcome::ClientFault(number, Halt::Inside));
         }
         Some(self.clean_ending())
     }
 
     /// The outcome once the client has ended at a frame's end and each call was answered.
     fn clean_ending(&self) -> Outcome
-        ensures { result ≡ at_end self.now.upstream.limit (standing self.now) }
+        ensures { result ≡ at_end self.now.upstream.held.limit (standing self.now) }
     {
-        match self.upstream.frame() {
+        match self.upstream.held.frame() {
             Next::NeedMore => Outcome::Clean,
             _ => Outcome::Unsolicited {
-                answer: self.answered.saturating_add(1),
-                calls: self.answered,
+                answer: self.upstream.count.saturating_add(1),
+                calls: self.upstream.count,
             },
         }
     }
 
     /// Takes all that can be taken, and keeps the outcome.
     pub fn settle<J: Judge>(&mut self, judge: &mut J)
-        requires ready { IsSound self.old }
-        requires fits { self.old.client.limit ≤ J.longest judge.old }
-        requires known { Knows (J.rules judge.old) self.old }
+        requires works { Works (J.rules judge.old) (J.longest judge.old) self.old }
         ensures same { judge.new ≡ judge.old }
-        ensures known { Knows (J.rules judge.old) self.new }
-        ensures ready { StaysSound self.old self.new }
+        ensures keeps { Keeps (J.rules judge.old) self.old self.new }
         ensures settled { IsSettledBy (J.rules judge.old) self.old self.new }
         ensures fits { FitsOn (J.rules judge.old) self.old self.new (λ h. h) }
     {
         self.outcome = self.advance(judge);
     }
 
-    /// Takes bytes of the client, as long as there is room and no outcome.
-    pub fn take_client<J: Judge>(&mut self, judge: &mut J, bytes: &[u8]) -> usize
-        requires ready { IsSound self.old }
-        requires fits { self.old.client.limit ≤ J.longest judge.old }
+    /// Takes bytes of a side, as long as there is room and no outcome.
+    pub fn take<J: Judge>(&mut self, judge: &mut J, side: Side, bytes: &[u8]) -> usize
+        requires works { Works (J.rules judge.old) (J.longest judge.old) self.old }
         requires settled { IsSettledBy (J.rules judge.old) self.old self.old }
-        requires known { Knows (J.rules judge.old) self.old }
         ensures same { judge.new ≡ judge.old }
-        ensures known { Knows (J.rules judge.old) self.new }
-        ensures ready { StaysSound self.old self.new }
+        ensures keeps { Keeps (J.rules judge.old) self.old self.new }
         ensures settled { IsSettledBy (J.rules judge.old) self.old self.new }
         ensures count { result ≤ length bytes.now }
-        ensures fits { FitsOn (J.rules judge.old) self.old self.new (λ h. record h { from_client = h.from_client ++ take result bytes.now }) }
-        ensures fewer { result < length bytes.now → TakesNoMore self.old.client.limit (standing self.new).client self.old.client_ended self.new.outcome }
-        ensures whole { length bytes.now ≤ (if self.old.client_ended || is_some self.old.outcome then 0 else self.old.client.limit + 4 - length self.old.client.held) → result ≡ length bytes.now }
-        ensures ended { self.old.client_ended ≡ true → result ≡ 0 }
+        ensures fits { FitsOn (J.rules judge.old) self.old self.new (λ h. and_came side h (take result bytes.now)) }
+        ensures fewer { let half = half_of side self.new in result < length bytes.now →
+            TakesNoMore (limit_of self.old) half.held.held (half_of side self.old).ended self.new.outcome }
+        ensures whole { length bytes.now ≤ room_of (limit_of self.old) (standing self.old) (is_some self.old.outcome) side → result ≡ length bytes.now }
+        ensures ended { (half_of side self.old).ended ≡ true → result ≡ 0 }
         ensures over { is_some self.old.outcome ≡ true → result ≡ 0 }
     {
-        if self.client_ended || self.outcome.is_some() {
+        if self.half(side).ended || self.outcome.is_some() {
             return 0;
         }
         frame_stands_at_the_front();
         let mut taken = 0;
-        'pieces: while taken < bytes.len() && self.outcome.is_none() && self.client.room() > 0 {
-            taken += self.client.feed(&bytes[taken..]);
+        'pieces: while taken < bytes.len()
+            && self.outcome.is_none()
+            && self.half(side).held.room() > 0
+        {
+            taken += self.feed(side, &bytes[taken..]);
             self.settle(judge);
         }
         taken
     }
 
-    /// Takes bytes of the upstream, as long as there is room and no outcome.
-    pub fn take_upstream<J: Judge>(&mut self, judge: &mut J, bytes: &[u8]) -> usize
-        requires ready { IsSound self.old }
-        requires fits { self.old.client.limit ≤ J.longest judge.old }
-        requires settled { IsSettledBy (J.rules judge.old) self.old self.old }
-        requires known { Knows (J.rules judge.old) self.old }
-        ensures same { judge.new ≡ judge.old }
-        ensures known { Knows (J.rules judge.old) self.new }
-        ensures ready { StaysSound self.old self.new }
-        ensures settled { IsSettledBy (J.rules judge.old) self.old self.new }
-        ensures count { result ≤ length bytes.now }
-        ensures fits { FitsOn (J.rules judge.old) self.old self.new (λ h. record h { from_upstream = h.from_upstream ++ take result bytes.now }) }
-        ensures fewer { result < length bytes.now → TakesNoMore self.old.client.limit (standing self.new).upstream self.old.upstream_ended self.new.outcome }
-        ensures whole { length bytes.now ≤ (if self.old.upstream_ended || is_some self.old.outcome then 0 else self.old.client.limit + 4 - length self.old.upstream.held) → result ≡ length bytes.now }
-        ensures ended { self.old.upstream_ended ≡ true → result ≡ 0 }
-        ensures over { is_some self.old.outcome ≡ true → result ≡ 0 }
+    /// Takes as many of these bytes of a side as there is room for, and says how many.
+    fn feed(&mut self, side: Side, bytes: &[u8]) -> usize
+        ensures count { let held = (half_of side self.old).held in result ≡ min (length bytes.now) (held.limit + 4 - length held.held) }
+        ensures fed { self.new ≡ with_half side self.old (fed (half_of side self.old) (take result bytes.now)) }
     {
-        if self.upstream_ended || self.outcome.is_some() {
-            return 0;
+        match side {
+            Side::Client => self.client.feed(bytes),
+            Side::Upstream => self.upstream.feed(bytes),
         }
-        let mut taken = 0;
-        'pieces: while taken < bytes.len() && self.outcome.is_none() && self.upstream.room() > 0 {
-            taken += self.upstream.feed(&bytes[taken..]);
-            self.settle(judge);
-        }
-        taken
     }
 
-    /// So many bytes were sent to the client. While some are left, no more can be taken than before.
-    pub fn sent_client<J: Judge>(&mut self, judge: &mut J, n: usize)
-        requires ready { IsSound self.old }
-        requires fits { self.old.client.limit ≤ J.longest judge.old }
-        requires due { n ≤ length self.old.to_client.bytes }
+    /// So many of the bytes that were due to a side were sent. While some are left, no more can be taken than before.
+    pub fn sent<J: Judge>(&mut self, judge: &mut J, side: Side, n: usize)
+        requires works { Works (J.rules judge.old) (J.longest judge.old) self.old }
+        requires due { n ≤ length (half_of side self.old).due.bytes }
         requires settled { IsSettledBy (J.rules judge.old) self.old self.old }
-        requires known { Knows (J.rules judge.old) self.old }
         ensures same { judge.new ≡ judge.old }
-        ensures known { Knows (J.rules judge.old) self.new }
-        ensures ready { StaysSound self.old self.new }
+        ensures keeps { Keeps (J.rules judge.old) self.old self.new }
         ensures settled { IsSettledBy (J.rules judge.old) self.old self.new }
-        ensures fits { FitsOn (J.rules judge.old) self.old self.new (λ h. record h { to_client = h.to_client ++ take n self.old.to_client.bytes }) }
+        ensures fits { FitsOn (J.rules judge.old) self.old self.new (λ h. and_sent side h (take n (half_of side self.old).due.bytes)) }
     {
-        self.to_client.drop_front(n);
-        if self.to_client.bytes().is_empty() {
+        self.let_go(side, n);
+        if self.half(side).is_paid() {
             self.settle(judge);
         }
     }
 
-    /// So many bytes were sent to the upstream. While some are left, no more can be taken than before.
-    pub fn sent_upstream<J: Judge>(&mut self, judge: &mut J, n: usize)
-        requires ready { IsSound self.old }
-        requires fits { self.old.client.limit ≤ J.longest judge.old }
-        requires due { n ≤ length self.old.to_upstream.bytes }
-        requires settled { IsSettledBy (J.rules judge.old) self.old self.old }
-        requires known { Knows (J.rules judge.old) self.old }
-        ensures same { judge.new ≡ judge.old }
-        ensures known { Knows (J.rules judge.old) self.new }
-        ensures ready { StaysSound self.old self.new }
-        ensures settled { IsSettledBy (J.rules judge.old) self.old self.new }
-        ensures fits { FitsOn (J.rules judge.old) self.old self.new (λ h. record h { to_upstream = h.to_upstream ++ take n self.old.to_upstream.bytes }) }
+    /// Lets so many of the bytes go that were due to a side.
+    fn let_go(&mut self, side: Side, n: usize)
+        requires { n ≤ length (half_of side self.old).due.bytes }
+        ensures { self.new ≡ with_half side self.old (let_go (half_of side self.old) n) }
     {
-        self.to_upstream.drop_front(n);
-        if self.to_upstream.bytes().is_empty() {
-            self.settle(judge);
+        match side {
+            Side::Client => self.client.let_go(n),
+            Side::Upstream => self.upstream.let_go(n),
         }
     }
 
-    /// The client sends nothing more.
-    pub fn end_client<J: Judge>(&mut self, judge: &mut J)
-        requires ready { IsSound self.old }
-        requires fits { self.old.client.limit ≤ J.longest judge.old }
-        requires known { Knows (J.rules judge.old) self.old }
+    /// A side sends nothing more.
+    pub fn end<J: Judge>(&mut self, judge: &mut J, side: Side)
+        requires works { Works (J.rules judge.old) (J.longest judge.old) self.old }
         ensures same { judge.new ≡ judge.old }
-        ensures known { Knows (J.rules judge.old) self.new }
-        ensures ready { StaysSound self.old self.new }
+        ensures keeps { Keeps (J.rules judge.old) self.old self.new }
         ensures settled { IsSettledBy (J.rules judge.old) self.old self.new }
-        ensures fits { FitsOn (J.rules judge.old) self.old self.new (λ h. record h { client_ended = true }) }
+        ensures fits { FitsOn (J.rules judge.old) self.old self.new (λ h. and_ended side h) }
     {
-        self.client_ended = true;
+        self.mark_ended(side);
         self.settle(judge);
     }
 
-    /// The upstream sends nothing more.
-    pub fn end_upstream<J: Judge>(&mut self, judge: &mut J)
-        requires ready { IsSound self.old }
-        requires fits { self.old.client.limit ≤ J.longest judge.old }
-        requires known { Knows (J.rules judge.old) self.old }
-        ensures same { judge.new ≡ judge.old }
-        ensures known { Knows (J.rules judge.old) self.new }
-        ensures ready { StaysSound self.old self.new }
-        ensures settled { IsSettledBy (J.rules judge.old) self.old self.new }
-        ensures fits { FitsOn (J.rules judge.old) self.old self.new (λ h. record h { upstream_ended = true }) }
+    fn mark_ended(&mut self, side: Side)
+        ensures { self.new ≡ with_half side self.old (ended (half_of side self.old)) }
     {
-        self.upstream_ended = true;
-        self.settle(judge);
+        match side {
+            Side::Client => self.client.ended = true,
+            Side::Upstream => self.upstream.ended = true,
+        }
     }
 
     /// How many bytes are held in all.
     pub fn held(&self) -> usize
         requires { IsSound self.now }
-        ensures exact { result ≡ held_of self.now.client.limit (standing self.now) self.now.outcome }
-        ensures within { result ≤ 52 * self.now.client.limit + 16 * self.now.calls.capacity + 4096 }
+        ensures exact { result ≡ held_of (limit_of self.now) (standing self.now) self.now.outcome }
+        ensures within { result ≤ most_held (limit_of self.now) self.now.calls.capacity }
     {
-        let rooms = 2 * (self.client.held() + self.client.room() - 4);
+        let rooms = 2 * (self.client.held.held() + self.client.held.room() - 4);
         if self.outcome.is_some() {
             return rooms;
         }
-        let held = self.client.held() + self.upstream.held();
-        let due = self.to_client.bytes().len() + self.to_upstream.bytes().len();
+        let held = self.client.held.held() + self.upstream.held.held();
+        let due = self.client.due.bytes().len() + self.upstream.due.bytes().len();
         rooms + held + due + 16 * self.calls.len()
     }
 
-    /// The bytes that are due to the client.
-    pub fn to_client(&self) -> &[u8]
-        ensures bytes { result.now ≡ self.now.to_client.bytes }
-        ensures within { length self.now.to_client.bytes ≤ self.now.to_client.room }
+    /// The bytes that are due to a side.
+    pub fn due(&self, side: Side) -> &[u8]
+        ensures bytes { result.now ≡ due_to side (standing self.now) }
+        ensures within { length (half_of side self.now).due.bytes ≤ (half_of side self.now).due.room }
     {
-        self.to_client.bytes()
+        self.half(side).due.bytes()
     }
 
-    /// The bytes that are due to the upstream.
-    pub fn to_upstream(&self) -> &[u8]
-        ensures bytes { result.now ≡ self.now.to_upstream.bytes }
-        ensures within { length self.now.to_upstream.bytes ≤ self.now.to_upstream.room }
+    /// How many more bytes of a side can be taken.
+    pub fn room(&self, side: Side) -> usize
+        requires { IsSound self.now }
+        ensures { result ≡ room_of (limit_of self.now) (standing self.now) (is_some self.now.outcome) side }
     {
-        self.to_upstream.bytes()
-    }
-
-    /// How many more bytes of the client can be taken.
-    pub fn client_room(&self) -> usize
-        ensures { result ≡ (if self.now.client_ended || is_some self.now.outcome then 0 else self.now.client.limit + 4 - length self.now.client.held) }
-    {
-        if self.client_ended || self.outcome.is_some() {
+        let half = self.half(side);
+        if half.ended || self.outcome.is_some() {
             0
         } else {
-            self.client.room()
-        }
-    }
-
-    /// How many more bytes of the upstream can be taken.
-    pub fn upstream_room(&self) -> usize
-        ensures { result ≡ (if self.now.upstream_ended || is_some self.now.outcome then 0 else self.now.upstream.limit + 4 - length self.now.upstream.held) }
-    {
-        if self.upstream_ended || self.outcome.is_some() {
-            0
-        } else {
-            self.upstream.room()
+            half.held.room()
         }
     }
 }

@@ -7,6 +7,7 @@ use Rattle.type_tables.specs.declared.declared.MethodInfo.{MethodInfo}
 use Rattle.translate_core.specs.declared.verdict.Cause.{Cause}
 use Rattle.translate_core.specs.declared.verdict.Verdict.{Verdict}
 use Rattle.translate_core.specs.declared.verdict.Verdict.TheVariants as verdicts
+use Rattle.translate_core.specs.Judged.{Judged}
 use Rattle.translate_core.specs.Routes.{result_of}
 use Rattle.session_core.specs.declared.judge.Call.{Call}
 use Rattle.session_core.specs.declared.judge.ClientJudged.{ClientJudged}
@@ -55,6 +56,10 @@ onward client.Goes bytes = bytes
 onward (client.Halts h) bytes = []
 onward (client.Refused cause) bytes = []
 onward client.Dropped bytes = []
+
+-- the same of a frame that was judged
+abbrev pub output_of : Judged → List ℕ
+output_of judged = onward (of_client judged.verdict) judged.bytes
 
 -- what answers the frame, where it is refused and waits for an answer
 abbrev pub answer_by : (Cause → List ℕ) → ClientJudged → List ℕ

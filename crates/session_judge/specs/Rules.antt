@@ -6,8 +6,8 @@ use Rattle.protocol_pairs.specs.Pairs.{judged, answered}
 use Rattle.session_core.specs.declared.judge.Call.{Call}
 use Rattle.session_core.specs.Rules.{Rules}
 use Rattle.session_judge.specs.Setting.{Setting}
-use Rattle.session_judge.specs.Client.{of_client, onward, answer_by}
-use Rattle.session_judge.specs.Upstream.{expected, of_upstream, returned}
+use Rattle.session_judge.specs.Client.{of_client, output_of, answer_by}
+use Rattle.session_judge.specs.Upstream.{expected, of_upstream, reply_of}
 
 -- a frame of the client: its body is that of the method that its name means
 abbrev pub asked : Setting → List ℕ → Judged
@@ -20,8 +20,8 @@ told s call frame = judged s.declarations (Answer (expected s.declarations call.
 abbrev pub rules_of : Setting → Rules
 rules_of s = record {
   judged = λ frame. of_client (asked s frame).verdict;
-  output = λ frame. onward (of_client (asked s frame).verdict) (asked s frame).bytes;
+  output = λ frame. output_of (asked s frame);
   answer = λ frame. answer_by (answered s.client s.client frame) (of_client (asked s frame).verdict);
   replied = λ call frame. of_upstream (told s call frame).verdict;
-  reply = λ call frame. returned (answered s.upstream s.client frame) (told s call frame).verdict (told s call frame).bytes;
+  reply = λ call frame. reply_of (answered s.upstream s.client frame) (told s call frame);
 }

@@ -5,6 +5,7 @@ use Rattle.thrift_value.specs.declared.kind.MessageType.TheVariants as types
 use Rattle.protocol_traits.specs.declared.fault.Fault.{Fault}
 use Rattle.type_tables.specs.declared.declared.StructId.{StructId}
 use Rattle.type_tables.specs.Declarations.{Declarations}
+use Rattle.translate_core.specs.Judged.{Judged}
 use Rattle.translate_core.specs.declared.verdict.Cause.{Cause}
 use Rattle.translate_core.specs.declared.verdict.Verdict.{Verdict}
 use Rattle.translate_core.specs.declared.verdict.Verdict.TheVariants.{Passed, Refused, Unread}
@@ -47,3 +48,7 @@ abbrev pub returned : (Cause → List ℕ) → Verdict → List ℕ → List ℕ
 returned answer (Passed info) bytes = back (of_type info.mtype) bytes
 returned answer (Refused info cause) bytes = back (of_type info.mtype) (answer cause)
 returned answer (Unread fault) bytes = []
+
+-- the same of a frame that was judged
+abbrev pub reply_of : (Cause → List ℕ) → Judged → List ℕ
+reply_of answer judged = returned answer judged.verdict judged.bytes

@@ -1,7 +1,8 @@
 //! What becomes of a frame of the client.
-ghost use Rattle.std.specs.Prelude.{◌≡◌, ◌+◌, ◌*◌, ◌^◌, ◌<◌, ◌≤◌, ◌++◌, length, take, drop, IfSome};
+ghost use Rattle.std.specs.Prelude.{◌≡◌, ◌+◌, ◌^◌, ◌<◌, ◌≤◌, ◌++◌, length, take, drop, IfSome};
 ghost use Rattle.protocol_pairs.specs.Pairs.{judged};
-ghost use Rattle.session_judge.specs.Client.{is_answered, call_of, passed_on, refused, tells_answer, of_client, onward};
+ghost use Rattle.session_core.specs.Rooms.{room_for};
+ghost use Rattle.session_judge.specs.Client.{is_answered, call_of, passed_on, refused, tells_answer, of_client, onward, output_of};
 
 use gate_io::Out;
 use protocol_pairs::{head_type, translate};
@@ -26,12 +27,9 @@ pub fn judge_client(
     requires service { IfSome service (λ s. s.0 < length schema.now.services) }
     requires room { length frame.now ≤ length room.old }
     requires size { length frame.now < 2 ^ 31 }
-    requires fits { length out.old.bytes + (24 * length frame.now + 256) ≤ out.old.room }
+    requires fits { length out.old.bytes + room_for (length frame.now) ≤ out.old.room }
     ensures verdict { result ≡ of_client (judged schema.now (Route.ByName service) from to frame.now).verdict }
-    ensures out { out.new ≡ record out.old {
-      bytes = out.old.bytes ++
-          onward (of_client (judged schema.now (Route.ByName service) from to frame.now).verdict) (judged schema.now (Route.ByName service) from to frame.now).bytes;
-    } }
+    ensures out { out.new ≡ record out.old { bytes = out.old.bytes ++ output_of (judged schema.now (Route.ByName service) from to frame.now) } }
     ensures within { length out.new.bytes ≤ out.new.room }
 {
     if tells_answer(head_type(from, frame, room)) {
@@ -64,12 +62,9 @@ fn judge_asked(
     requires service { IfSome service (λ s. s.0 < length schema.now.services) }
     requires room { length frame.now ≤ length room.old }
     requires size { length frame.now < 2 ^ 31 }
-    requires fits { length out.old.bytes + (24 * length frame.now + 256) ≤ out.old.room }
+    requires fits { length out.old.bytes + room_for (length frame.now) ≤ out.old.room }
     ensures verdict { result ≡ of_client (judged schema.now (Route.ByName service) from to frame.now).verdict }
-    ensures out { out.new ≡ record out.old {
-      bytes = out.old.bytes ++
-          onward (of_client (judged schema.now (Route.ByName service) from to frame.now).verdict) (judged schema.now (Route.ByName service) from to frame.now).bytes;
-    } }
+    ensures out { out.new ≡ record out.old { bytes = out.old.bytes ++ output_of (judged schema.now (Route.ByName service) from to frame.now) } }
     ensures within { length out.new.bytes ≤ out.new.room }
 {
     let start = out.bytes().len();
@@ -79,7 +74,8 @@ fn judge_asked(
     judged
 }
 
-fn of_client(verdict: &Verdict) -> ClientJudged
+/// What a verdict makes of a frame of the client.
+pub fn of_client(verdict: &Verdict) -> ClientJudged
     ensures { result ≡ of_client verdict.now }
 {
     match verdict {

@@ -1,8 +1,9 @@
 //! What becomes of a frame of the upstream.
-ghost use Rattle.std.specs.Prelude.{◌≡◌, ◌+◌, ◌*◌, ◌^◌, ◌<◌, ◌≤◌, ◌++◌, length, take, drop};
+ghost use Rattle.std.specs.Prelude.{◌≡◌, ◌+◌, ◌^◌, ◌<◌, ◌≤◌, ◌++◌, length, take, drop};
 ghost use Rattle.translate_core.specs.Routes.{IsKnownRoute};
 ghost use Rattle.protocol_pairs.specs.Pairs.{judged, answered};
-ghost use Rattle.session_judge.specs.Upstream.{expected, tells_call, of_type, of_upstream, back, returned};
+ghost use Rattle.session_core.specs.Rooms.{room_for};
+ghost use Rattle.session_judge.specs.Upstream.{expected, tells_call, of_type, of_upstream, back, reply_of};
 
 use gate_io::Out;
 use protocol_pairs::{answer, head_type, translate};
@@ -26,13 +27,10 @@ pub fn judge_reply(
 ) -> UpstreamJudged
     requires room { length frame.now ≤ length room.old }
     requires size { length frame.now < 2 ^ 31 }
-    requires fits { length out.old.bytes + (24 * length frame.now + 256) ≤ out.old.room }
+    requires fits { length out.old.bytes + room_for (length frame.now) ≤ out.old.room }
     ensures verdict { result ≡ of_upstream (judged schema.now (Route.Answer (expected schema.now reply)) from to frame.now).verdict }
-    ensures out { out.new ≡ record out.old {
-      bytes = out.old.bytes ++
-          returned (answered from to frame.now) (judged schema.now (Route.Answer (expected schema.now reply)) from to frame.now).verdict
-          (judged schema.now (Route.Answer (expected schema.now reply)) from to frame.now).bytes;
-    } }
+    ensures out { let told = judged schema.now (Route.Answer (expected schema.now reply)) from to frame.now in
+        out.new ≡ record out.old { bytes = out.old.bytes ++ reply_of (answered from to frame.now) told } }
     ensures within { length out.new.bytes ≤ out.new.room }
 {
     if tells_call(head_type(from, frame, room)) {
@@ -64,13 +62,10 @@ fn judge_answer(
 ) -> UpstreamJudged
     requires room { length frame.now ≤ length room.old }
     requires size { length frame.now < 2 ^ 31 }
-    requires fits { length out.old.bytes + (24 * length frame.now + 256) ≤ out.old.room }
+    requires fits { length out.old.bytes + room_for (length frame.now) ≤ out.old.room }
     ensures verdict { result ≡ of_upstream (judged schema.now (Route.Answer (expected schema.now reply)) from to frame.now).verdict }
-    ensures out { out.new ≡ record out.old {
-      bytes = out.old.bytes ++
-          returned (answered from to frame.now) (judged schema.now (Route.Answer (expected schema.now reply)) from to frame.now).verdict
-          (judged schema.now (Route.Answer (expected schema.now reply)) from to frame.now).bytes;
-    } }
+    ensures out { let told = judged schema.now (Route.Answer (expected schema.now reply)) from to frame.now in
+        out.new ≡ record out.old { bytes = out.old.bytes ++ reply_of (answered from to frame.now) told } }
     ensures within { length out.new.bytes ≤ out.new.room }
 {
     let start = out.bytes().len();
@@ -133,9 +128,9 @@ fn answer_refused(
 )
     requires room { length frame.now ≤ length room.old }
     requires size { length frame.now < 2 ^ 31 }
-    requires fits { length out.old.bytes + (24 * length frame.now + 256) ≤ out.old.room }
+    requires fits { length out.old.bytes + room_for (length frame.now) ≤ out.old.room }
     ensures out { out.new ≡ record out.old { bytes = out.old.bytes ++ back judged (answered from to frame.now cause) } }
-    ensures short { length out.new.bytes ≤ length out.old.bytes + (24 * length frame.now + 256) }
+    ensures short { length out.new.bytes ≤ length out.old.bytes + room_for (length frame.now) }
 {
     match judged {
         UpstreamJudged::Answers => answer(from, to, frame, room, &cause, out),

@@ -9,5 +9,7 @@ mod judging_replies;
 mod pair;
 mod setup;
 
+pub use judging::of_client;
+pub use judging_replies::judge_reply;
 pub use pair::PairJudge;
 pub use setup::{Setup, open};

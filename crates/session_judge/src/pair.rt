@@ -22,8 +22,8 @@ pub struct PairJudge<'s> {
     service: Option<ServiceId>,
     client: Proto,
     upstream: Proto,
-    /// The readers' room.
-    room: Vec<u8>,
+    /// The readers' room, whose cells are made as frames need them.
+    room: Out,
 }
 
 /// Clauses see between whom the session goes.
@@ -33,13 +33,13 @@ impl<'s> Model for PairJudge<'s> {
 
     ghost Value = { Setting };
 
-    ghost view = { λ j. record { declarations = j.schema.now; service = j.service; client = j.client; upstream = j.upstream; longest = length j.room.items } };
+    ghost view = { λ j. record { declarations = j.schema.now; service = j.service; client = j.client; upstream = j.upstream; longest = j.room.room } };
 
-    ghost invariant = { λ j. IfSome j.service (λ s. s.0 < length j.schema.now.services) × (length j.room.items < 2 ^ 31) };
+    ghost invariant = { λ j. IfSome j.service (λ s. s.0 < length j.schema.now.services) × (j.room.room < 2 ^ 31) };
 }
 
 impl<'s> PairJudge<'s> {
-    /// Takes the judge's room, as many bytes as the longest frame has.
+    /// Takes the judge's room, as many bytes as the longest frame has. It isn't filled: what no frame needed is not touched.
     ///
     /// `OutOfMemory`: it was not found.
     pub fn open(alloc: Global, setup: &Setup<'s>) -> Result<PairJudge<'s>, OutOfMemory>
@@ -52,7 +52,7 @@ impl<'s> PairJudge<'s> {
             service: setup.service,
             client: setup.client,
             upstream: setup.upstream,
-            room: vec![in alloc; 0; setup.limit]?,
+            room: Out::open(alloc, setup.limit)?,
         })
     }
 }
@@ -66,32 +66,22 @@ impl<'s> Judge for PairJudge<'s> {
 
     fn client(&mut self, frame: &[u8], out: &mut Out) -> ClientJudged {
         let (from, to) = (self.client, self.upstream);
-        judge_client(
-            self.schema,
-            self.service,
-            from,
-            to,
-            frame,
-            &mut self.room,
-            out,
-        )
+        self.room.clear();
+        let room = self.room.tail(frame.len());
+        judge_client(self.schema, self.service, from, to, frame, room, out)
     }
 
     fn answer(&mut self, frame: &[u8], cause: Cause, out: &mut Out) {
         let own = self.client;
-        answer(own, own, frame, &mut self.room, &cause, out);
+        self.room.clear();
+        let room = self.room.tail(frame.len());
+        answer(own, own, frame, room, &cause, out);
     }
 
     fn upstream(&mut self, call: Call, frame: &[u8], out: &mut Out) -> UpstreamJudged {
         let (from, to) = (self.upstream, self.client);
-        judge_reply(
-            self.schema,
-            call.result,
-            from,
-            to,
-            frame,
-            &mut self.room,
-            out,
-        )
+        self.room.clear();
+        let room = self.room.tail(frame.len());
+        judge_reply(self.schema, call.result, from, to, frame, room, out)
     }
 }

@@ -10,7 +10,7 @@ ghost use Rattle.session_judge.specs.Setups.{setting_of};
 use crate::pair::PairJudge;
 use gate_base::OutOfMemory;
 use protocol_traits::Proto;
-use session_core::Session;
+use session_core::{MOST_CALLS, Session};
 use std::alloc::Global;
 use type_tables::{Schema, ServiceId};
 
@@ -37,9 +37,9 @@ pub struct Setup<'s> {
 pub fn open<'s>(alloc: Global, setup: &Setup<'s>) -> Result<Session<PairJudge<'s>>, OutOfMemory>
     requires limit { setup.now.limit < 2 ^ 24 }
     requires some { 0 < setup.now.calls }
-    requires few { setup.now.calls ≤ 65536 }
+    requires few { setup.now.calls ≤ MOST_CALLS }
     requires service { IfSome setup.now.service (λ s. s.0 < length setup.now.schema.now.services) }
-    ensures given { IfOk result (λ s. (s.judge ≡ setting_of setup.now) × (s.limit ≡ setup.now.limit) × (s.most ≡ setup.now.calls)) }
+    ensures given { IfOk result (λ s. (s.judge ≡ setting_of setup.now) × (s.limit ≡ setup.now.limit) × (s.max_calls ≡ setup.now.calls)) }
     ensures fits { IfOk result (λ s. Fits (rules_of (setting_of setup.now)) setup.now.limit setup.now.calls nothing s.standing) }
     ensures rest { IfOk result (λ s. IsAtRest (rules_of (setting_of setup.now)) setup.now.limit setup.now.calls s.standing s.outcome) }
     ensures rooms { IfOk result (λ s. s.rooms ≡ rooms_for setup.now.limit setup.now.calls) }

@@ -1,5 +1,5 @@
 -- The answer to a refused message spells an exception.
-use Rattle.std.proofs.Common.{◌≡◌, ℕ, ◌+◌, ◌<◌, ◌≤◌, ◌^◌, List, length, drop, Option, None, Some, Ok, refl, ap, ◌∙◌, sym, subst, arith}
+use Rattle.std.proofs.Common.{◌≡◌, ℕ, ℤ, ◌+◌, ◌<◌, ◌≤◌, ◌^◌, List, length, drop, Option, None, Some, Ok, refl, ap, ◌∙◌, sym, subst, arith}
 use Rattle.std.specs.Prelude.{FitsSigned}
 use Rattle.std.specs.Int.{w32}
 use Rattle.std.specs.List.{position}
@@ -19,10 +19,10 @@ use Rattle.type_tables.specs.Declarations.{Declarations}
 use Rattle.multiplex_names.specs.Names.{split_of, parted, is_colon}
 use Rattle.translate_core.specs.declared.route.Route.{Route}
 use Rattle.translate_core.specs.declared.verdict.Cause.{Cause}
-use Rattle.translate_core.specs.declared.verdict.Cause.TheVariants.{Grammar, Barred}
+use Rattle.translate_core.specs.declared.verdict.Cause.TheVariants.{Grammar, Barred, NoRoute}
 use Rattle.translate_core.specs.Answers.{answer_of, method_name}
 use Rattle.translate_core.specs.Body.{Source}
-use Rattle.translate_core.specs.Texts.{reason_text, bar_text, cause_text}
+use Rattle.translate_core.specs.Texts.{reason_text, bar_text, no_route_text, cause_text, failure_type}
 use Rattle.translate_core.proofs.Answered.{answer_ok}
 use Rattle.protocol_pairs.specs.Pairs.{binary_source, compact_source, binary_target, compact_target, answered}
 use Rattle.binary_protocol.specs.Heads.{head_at}
@@ -67,9 +67,19 @@ short_bar bars.UnknownString = omega arith
 short_bar bars.NotUtf8 = omega arith
 short_bar bars.Uuid = omega arith
 
+short_no_route : length no_route_text < 2 ^ 31
+unfolding no_route_text
+short_no_route = omega arith
+
 short_cause : (cause : Cause) → length (cause_text cause) < 2 ^ 31
 short_cause (Grammar fault) = short_reason fault.reason
 short_cause (Barred place bar) = short_bar bar
+short_cause NoRoute = short_no_route
+
+fits_type : (cause : Cause) → FitsSigned w32 (failure_type cause)
+fits_type (Grammar fault) = search rules
+fits_type (Barred place bar) = search rules
+fits_type NoRoute = search rules
 
 no_longer : (name : List ℕ) (at : Option ℕ) → length (parted name at).1 ≤ length name
 no_longer name None = omega arith
@@ -90,12 +100,12 @@ Fits h = (length h.name < 2 ^ 31) × FitsSigned w32 h.seq
 
 -- in a protocol that holds every name
 failure_is : (teller : Proto) (h : Header) (cause : Cause) → HasLaws teller → Fits h → IsMessage (failure_of teller h cause)
-failure_is protocols.Binary h cause laws fits = record { name = short_method h.mtype h.name fits.0; seq = fits.1; body = (search rules, short_cause cause, (search rules, search rules, tt)) }
-failure_is protocols.Compact h cause laws fits = record { name = short_method h.mtype h.name fits.0; seq = fits.1; body = (search rules, short_cause cause, (search rules, search rules, tt)) }
+failure_is protocols.Binary h cause laws fits = record { name = short_method h.mtype h.name fits.0; seq = fits.1; body = (search rules, short_cause cause, (search rules, fits_type cause, tt)) }
+failure_is protocols.Compact h cause laws fits = record { name = short_method h.mtype h.name fits.0; seq = fits.1; body = (search rules, short_cause cause, (search rules, fits_type cause, tt)) }
 failure_is protocols.Json h cause laws fits = absurd (laws refl)
 
-firm : (text : List ℕ) → AreFirm (items_of_members (failure_body text))
-firm text = (tt, (tt, (tt, (tt, (tt, tt)))))
+firm : (text : List ℕ) (kind : ℤ) → AreFirm (items_of_members (failure_body text kind))
+firm text kind = (tt, (tt, (tt, (tt, (tt, tt)))))
 
 -- ---- the header that a frame begins with is read
 
@@ -134,8 +144,8 @@ plainly d route protocols.Json frame from header cause laws begins = absurd (law
 plainly d route to frame protocols.Json header cause laws begins = absurd begins.3
 
 plain_spells : (d : Declarations) (route : Route) (to : Proto) (header : Header) (cause : Cause) → HasLaws to → Fits header → SpellsIn to (failure_of to header cause) (plain_in to d route (failure_of to header cause))
-plain_spells d route protocols.Binary header cause laws fits = binary_plain d route (failure_of protocols.Binary header cause) (failure_is protocols.Binary header cause laws fits) (firm (cause_text cause))
-plain_spells d route protocols.Compact header cause laws fits = compact_plain d route (failure_of protocols.Compact header cause) (failure_is protocols.Compact header cause laws fits) (firm (cause_text cause))
+plain_spells d route protocols.Binary header cause laws fits = binary_plain d route (failure_of protocols.Binary header cause) (failure_is protocols.Binary header cause laws fits) (firm (cause_text cause) (failure_type cause))
+plain_spells d route protocols.Compact header cause laws fits = compact_plain d route (failure_of protocols.Compact header cause) (failure_is protocols.Compact header cause laws fits) (firm (cause_text cause) (failure_type cause))
 plain_spells d route protocols.Json header cause laws fits = absurd (laws refl)
 
 -- the answer to a frame that begins with a whole header spells the exception plainly

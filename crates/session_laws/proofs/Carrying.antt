@@ -71,11 +71,11 @@ module _ (s : Setting) (limit : ℕ) (from : HasLaws s.client) (to : HasLaws s.u
       let c = all_of_client s limit from to law small split h.from_client client in
       record { client = c; upstream = all_of_upstream s limit from to law small split (calls s c.asked) h.from_upstream upstream }
 
-  abbrev pub carried : (most : ℕ) (h : History) (t : Standing) → Both h → Fits (rules_of s) limit most h t → Carries s limit h
-  carried most h t b fits =
+  abbrev pub carried : (max_calls : ℕ) (h : History) (t : Standing) → Both h → Fits (rules_of s) limit max_calls h t → Carries s limit h
+  carried max_calls h t b fits =
       let xs = b.client.are.frames in
       let ys = b.upstream.are.frames in
-      let sent = fronts law (rules_of s) limit most h t xs ys small fits (client_is h.from_client b.client) (upstream_is h.from_upstream xs b.client.asked b.upstream (calls_are s xs b.client.asked b.client.fated)) in
+      let sent = fronts law (rules_of s) limit max_calls h t xs ys small fits (client_is h.from_client b.client) (upstream_is h.from_upstream xs b.client.asked b.upstream (calls_are s xs b.client.asked b.client.fated)) in
       record {
         asked = b.client.asked;
         replied = b.upstream.replied;

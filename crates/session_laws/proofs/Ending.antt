@@ -52,9 +52,9 @@ done_by s [] [] m o c u e = record { client = c; upstream = u; is = e }
 done_by s [] (x ∷ b) m o c u e = absurd (cc)
 done_by s (x ∷ a) b m o c u e = absurd (cc)
 
-done_of : (rules : Rules) (limit most : ℕ) (s : Standing) (o : Outcome) → outcome_of rules limit most s ≡ Some o → IsDone s (by_both limit s (of_upstream rules limit s) (of_client rules limit most s)) o
+done_of : (rules : Rules) (limit max_calls : ℕ) (s : Standing) (o : Outcome) → outcome_of rules limit max_calls s ≡ Some o → IsDone s (by_both limit s (of_upstream rules limit s) (of_client rules limit max_calls s)) o
 unfolding outcome_of
-done_of rules limit most s o e = done_by s s.to_client s.to_upstream _ o refl refl e
+done_of rules limit max_calls s o e = done_by s s.to_client s.to_upstream _ o refl refl e
 
 -- ---- the upstream halts
 
@@ -135,11 +135,11 @@ client_front_waits rules limit s (Large n) c d e m = absurd (cc)
 client_front_waits rules limit s (Whole frame rest) c d e m = absurd (client_waits_by (rules.judged frame) s (rules.output frame) (rules.answer frame) rest c d m)
 
 -- with no call open and nothing due the client's frame is looked at
-looks : (rules : Rules) (limit most : ℕ) (s : Standing) → 0 < most → s.calls ≡ [] → s.to_upstream ≡ [] → of_client rules limit most s ≡ client_front rules s (front limit s.client)
+looks : (rules : Rules) (limit max_calls : ℕ) (s : Standing) → 0 < max_calls → s.calls ≡ [] → s.to_upstream ≡ [] → of_client rules limit max_calls s ≡ client_front rules s (front limit s.client)
 unfolding of_client
-looks rules limit most s some c u =
-    let few : nat_lt (length s.calls) most ≡ true = grind (arith, nat_tests, ap length c) in
-    ap (λ t. if is_none t && nat_lt (length s.calls) most then client_front rules s (front limit s.client) else steps.Waits) u
+looks rules limit max_calls s some c u =
+    let few : nat_lt (length s.calls) max_calls ≡ true = grind (arith, nat_tests, ap length c) in
+    ap (λ t. if is_none t && nat_lt (length s.calls) max_calls then client_front rules s (front limit s.client) else steps.Waits) u
     ∙ ap (λ t. if t then client_front rules s (front limit s.client) else steps.Waits) few
 
 end_is : (rules : Rules) (limit : ℕ) (s : Standing) (o : Outcome) (part : Bool) → s.calls ≡ [] → s.client_ended ≡ true → s.client ≡ [] → is_part (front limit s.upstream) ≡ part
@@ -161,15 +161,15 @@ client_is_why rules limit s o steps.Waits c d e is = ended_is rules limit s o s.
 
 -- ---- both
 
-by_calls : (rules : Rules) (limit most : ℕ) (s : Standing) (o : Outcome) (calls : List Call) → 0 < most → s.calls ≡ calls → s.to_client ≡ [] → s.to_upstream ≡ []
-    → (if is_none calls then by_client limit s (of_client rules limit most s) else None) ≡ Some o → WhyBy rules limit s o
-by_calls rules limit most s o [] some c d u is = client_is_why rules limit s o (client_front rules s (front limit s.client)) c d refl (sym (ap (by_client limit s) (looks rules limit most s some c u)) ∙ is)
-by_calls rules limit most s o (call ∷ calls) some c d u is = absurd (cc)
+by_calls : (rules : Rules) (limit max_calls : ℕ) (s : Standing) (o : Outcome) (calls : List Call) → 0 < max_calls → s.calls ≡ calls → s.to_client ≡ [] → s.to_upstream ≡ []
+    → (if is_none calls then by_client limit s (of_client rules limit max_calls s) else None) ≡ Some o → WhyBy rules limit s o
+by_calls rules limit max_calls s o [] some c d u is = client_is_why rules limit s o (client_front rules s (front limit s.client)) c d refl (sym (ap (by_client limit s) (looks rules limit max_calls s some c u)) ∙ is)
+by_calls rules limit max_calls s o (call ∷ calls) some c d u is = absurd (cc)
 
-why_by_move : (rules : Rules) (limit most : ℕ) (s : Standing) (o : Outcome) (m : Move) → 0 < most → s.to_client ≡ [] → s.to_upstream ≡ [] → of_upstream rules limit s ≡ m → by_both limit s m (of_client rules limit most s) ≡ Some o → WhyBy rules limit s o
-why_by_move rules limit most s o (steps.Halts x) some d u e is = gone_or_not rules limit s x o s.upstream_ended s.upstream refl refl (is_open rules limit s x d e) (some_is _ _ is)
-why_by_move rules limit most s o steps.Waits some d u e is = by_calls rules limit most s o s.calls some refl d u is
-why_by_move rules limit most s o (steps.Takes t) some d u e is = by_calls rules limit most s o s.calls some refl d u is
+why_by_move : (rules : Rules) (limit max_calls : ℕ) (s : Standing) (o : Outcome) (m : Move) → 0 < max_calls → s.to_client ≡ [] → s.to_upstream ≡ [] → of_upstream rules limit s ≡ m → by_both limit s m (of_client rules limit max_calls s) ≡ Some o → WhyBy rules limit s o
+why_by_move rules limit max_calls s o (steps.Halts x) some d u e is = gone_or_not rules limit s x o s.upstream_ended s.upstream refl refl (is_open rules limit s x d e) (some_is _ _ is)
+why_by_move rules limit max_calls s o steps.Waits some d u e is = by_calls rules limit max_calls s o s.calls some refl d u is
+why_by_move rules limit max_calls s o (steps.Takes t) some d u e is = by_calls rules limit max_calls s o s.calls some refl d u is
 
 -- all that was due was sent, and this is why the session has its outcome
 pub record IsOver (rules : Rules) (limit : ℕ) (s : Standing) (o : Outcome) : Type 0 where
@@ -177,7 +177,7 @@ pub record IsOver (rules : Rules) (limit : ℕ) (s : Standing) (o : Outcome) : T
   pub upstream : s.to_upstream ≡ []
   pub why : WhyBy rules limit s o
 
-pub over_by : (rules : Rules) (limit most : ℕ) (s : Standing) (o : Outcome) → 0 < most → outcome_of rules limit most s ≡ Some o → IsOver rules limit s o
-over_by rules limit most s o some e =
-    let d = done_of rules limit most s o e in
-    record { client = d.client; upstream = d.upstream; why = why_by_move rules limit most s o (of_upstream rules limit s) some d.client d.upstream refl d.is }
+pub over_by : (rules : Rules) (limit max_calls : ℕ) (s : Standing) (o : Outcome) → 0 < max_calls → outcome_of rules limit max_calls s ≡ Some o → IsOver rules limit s o
+over_by rules limit max_calls s o some e =
+    let d = done_of rules limit max_calls s o e in
+    record { client = d.client; upstream = d.upstream; why = why_by_move rules limit max_calls s o (of_upstream rules limit s) some d.client d.upstream refl d.is }

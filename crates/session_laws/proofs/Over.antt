@@ -67,9 +67,9 @@ none_due sent due whole e h = sym (append-nil sent) ∙ (ap (λ b. sent ++ b) (s
 next_is : (n m : ℕ) → n ≡ told m → told (n + 1) ≡ told (m + 1)
 next_is n m e = omega (arith, e)
 
-module _ (s : Setting) (limit most : ℕ) (from : HasLaws s.client) (to : HasLaws s.upstream) (law : StandsAtFront) (small : limit < 2 ^ 31) (h : History) (b : Both s limit from to law small h)
-    (client : AreBytes h.from_client) (upstream : AreBytes h.from_upstream) (t : Standing) (f : Fits (rules_of s) limit most h t) where
-  abbrev st : session.Stand (rules_of s) limit most h.from_client h.from_upstream
+module _ (s : Setting) (limit max_calls : ℕ) (from : HasLaws s.client) (to : HasLaws s.upstream) (law : StandsAtFront) (small : limit < 2 ^ 31) (h : History) (b : Both s limit from to law small h)
+    (client : AreBytes h.from_client) (upstream : AreBytes h.from_upstream) (t : Standing) (f : Fits (rules_of s) limit max_calls h t) where
+  abbrev st : session.Stand (rules_of s) limit max_calls h.from_client h.from_upstream
   st = record { xs = f.xs; ys = f.ys; client_rest = t.client; upstream_rest = t.upstream; lawful = f.lawful; client = f.client; upstream = f.upstream }
 
   abbrev i : ℕ
@@ -82,7 +82,7 @@ module _ (s : Setting) (limit most : ℕ) (from : HasLaws s.client) (to : HasLaw
   opened = calls s (take i b.client.asked)
 
   calls_by : session.calls_of (rules_of s) f.xs ≡ map (kept s) opened
-  calls_by = calls_are_taken s limit most from to law small h b st
+  calls_by = calls_are_taken s limit max_calls from to law small h b st
 
   open_count : length t.calls ≡ length opened - j
   open_count = omega (arith, ap length f.calls, length-drop j (session.calls_of (rules_of s) f.xs), ap length calls_by, length-map opened (kept s))
@@ -122,20 +122,20 @@ module _ (s : Setting) (limit most : ℕ) (from : HasLaws s.client) (to : HasLaw
       (subst (λ n. Why s limit h opened i j t.client t.upstream (outcome.Unsolicited n (told j))) (sym (next_is t.answered j f.answered)) (WithOneMore (all_answered none) (sym f.client_ended ∙ ended) empty part))
 
   -- a session with an outcome of its own
-  pub ended : (o : Outcome) → 0 < most → outcome_of (rules_of s) limit most t ≡ Some o → IsEnded s limit most h (carried s limit from to law small most h t b f) o
+  pub ended : (o : Outcome) → 0 < max_calls → outcome_of (rules_of s) limit max_calls t ≡ Some o → IsEnded s limit max_calls h (carried s limit from to law small max_calls h t b f) o
   ended o some e =
-      let over = over_by (rules_of s) limit most t o some e in
+      let over = over_by (rules_of s) limit max_calls t o some e in
       record {
         i = i;
         j = j;
         client_rest = t.client;
         upstream_rest = t.upstream;
-        client = subst (λ xs. session.IsTaken limit h.from_client xs t.client) (xs_are s limit most from to law small h b st) f.client;
-        upstream = subst (λ ys. session.IsTaken limit h.from_upstream ys t.upstream) (ys_are s limit most from to law small h b st) f.upstream;
+        client = subst (λ xs. session.IsTaken limit h.from_client xs t.client) (xs_are s limit max_calls from to law small h b st) f.client;
+        upstream = subst (λ ys. session.IsTaken limit h.from_upstream ys t.upstream) (ys_are s limit max_calls from to law small h b st) f.upstream;
         sent = record {
-          stand = numbers_stand s limit most from to law small h b st;
-          to_upstream = none_due h.to_upstream t.to_upstream (session.onward (rules_of s) f.xs) over.upstream f.to_upstream ∙ onward_taken s limit most from to law small h b st;
-          to_client = none_due h.to_client t.to_client (session.back (rules_of s) f.xs f.ys) over.client f.to_client ∙ back_taken s limit most from to law small h b st;
+          stand = numbers_stand s limit max_calls from to law small h b st;
+          to_upstream = none_due h.to_upstream t.to_upstream (session.onward (rules_of s) f.xs) over.upstream f.to_upstream ∙ onward_taken s limit max_calls from to law small h b st;
+          to_client = none_due h.to_client t.to_client (session.back (rules_of s) f.xs f.ys) over.client f.to_client ∙ back_taken s limit max_calls from to law small h b st;
         };
         why = why_is o over.why;
       }

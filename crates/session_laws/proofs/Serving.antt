@@ -34,65 +34,65 @@ by_either : (due : List ℕ) (t : Told) (x : Side) → IsWritable t → (due ≡
 by_either due t x writable (inl e) = e
 by_either due t x writable (inr e) = absurd (writable x e)
 
-module _ (s : Setting) (limit most sessions events : ℕ) (from : HasLaws s.client) (to : HasLaws s.upstream) (law : StandsAtFront) (split : IsSplit) (small : limit < 2 ^ 31) (some : 0 < most) where
+module _ (s : Setting) (limit max_calls sessions events : ℕ) (from : HasLaws s.client) (to : HasLaws s.upstream) (law : StandsAtFront) (split : IsSplit) (small : limit < 2 ^ 31) (some : 0 < max_calls) where
   all : (m : Meaning) (k : ℕ) → ReceivesBytes m → Both s limit from to law small (history_of (m.session k))
   all m k bytes = both s limit from to law small split (history_of (m.session k)) (bytes k side.Client) (bytes k side.Upstream)
 
   -- ---- a session that is open
 
-  session_fits : (session : Seen Setting) (t : Told) → IsHeld Setting rules_of (sessions_of s limit most sessions events) session t → Fits (rules_of s) limit most (history_of t) session.standing
+  session_fits : (session : Seen Setting) (t : Told) → IsHeld Setting rules_of (sessions_of s limit max_calls sessions events) session t → Fits (rules_of s) limit max_calls (history_of t) session.standing
   session_fits session t is =
       subst (λ n. Fits (rules_of s) limit n (history_of t) session.standing) is.calls
-      (subst (λ n. Fits (rules_of s) n session.most (history_of t) session.standing) is.limited
-      (subst (λ rules. Fits rules session.limit session.most (history_of t) session.standing) is.judged is.matches.fits))
+      (subst (λ n. Fits (rules_of s) n session.max_calls (history_of t) session.standing) is.limited
+      (subst (λ rules. Fits rules session.limit session.max_calls (history_of t) session.standing) is.judged is.matches.fits))
 
-  session_rests : (session : Seen Setting) (t : Told) → IsHeld Setting rules_of (sessions_of s limit most sessions events) session t → session.outcome ≡ None → IsAtRest (rules_of s) limit most session.standing None
+  session_rests : (session : Seen Setting) (t : Told) → IsHeld Setting rules_of (sessions_of s limit max_calls sessions events) session t → session.outcome ≡ None → IsAtRest (rules_of s) limit max_calls session.standing None
   session_rests session t is going =
-      subst (λ o. IsAtRest (rules_of s) limit most session.standing o) going
+      subst (λ o. IsAtRest (rules_of s) limit max_calls session.standing o) going
       (subst (λ n. IsAtRest (rules_of s) limit n session.standing session.outcome) is.calls
-      (subst (λ n. IsAtRest (rules_of s) n session.most session.standing session.outcome) is.limited
-      (subst (λ rules. IsAtRest rules session.limit session.most session.standing session.outcome) is.judged is.matches.rest)))
+      (subst (λ n. IsAtRest (rules_of s) n session.max_calls session.standing session.outcome) is.limited
+      (subst (λ rules. IsAtRest rules session.limit session.max_calls session.standing session.outcome) is.judged is.matches.rest)))
 
-  left_open : (result : Served) (m : Meaning) (k : ℕ) (session : Seen Setting) → ReceivesBytes m → IsHeld Setting rules_of (sessions_of s limit most sessions events) session (m.session k)
-      → ((result ≡ served.Budget → ⊥) → IsSettled Setting rules_of session (m.session k)) → Course s limit most result (m.session k) None
+  left_open : (result : Served) (m : Meaning) (k : ℕ) (session : Seen Setting) → ReceivesBytes m → IsHeld Setting rules_of (sessions_of s limit max_calls sessions events) session (m.session k)
+      → ((result ≡ served.Budget → ⊥) → IsSettled Setting rules_of session (m.session k)) → Course s limit max_calls result (m.session k) None
   left_open result m k session bytes is settled =
       let t = m.session k in
       let fits = session_fits session t is in
-      course.LeftOpen (carried s limit from to law small most (history_of t) session.standing (all m k bytes) fits)
+      course.LeftOpen (carried s limit from to law small max_calls (history_of t) session.standing (all m k bytes) fits)
       (λ whole writable.
       let rests = settled whole in
-      completed s limit most from to law small (history_of t) (all m k bytes) session.standing some fits (session_rests session t is rests.going)
+      completed s limit max_calls from to law small (history_of t) (all m k bytes) session.standing some fits (session_rests session t is rests.going)
       (by_either session.standing.to_client t side.Client writable (rests.writes side.Client)) (by_either session.standing.to_upstream t side.Upstream writable (rests.writes side.Upstream)))
 
   -- ---- a session that has ended
 
-  by_outcome : (result : Served) (m : Meaning) (k : ℕ) (o : Outcome) → ReceivesBytes m → IsOutcome (sessions_of s limit most sessions events) o (m.session k) → Course s limit most result (m.session k) (Some o)
+  by_outcome : (result : Served) (m : Meaning) (k : ℕ) (o : Outcome) → ReceivesBytes m → IsOutcome (sessions_of s limit max_calls sessions events) o (m.session k) → Course s limit max_calls result (m.session k) (Some o)
   by_outcome result m k o bytes (NotOpened why none unfailed) = course.NotOpened o why none
   by_outcome result m k o bytes (LinkFailed x st e failed others fits) =
-      subst (λ p. Course s limit most result (m.session k) (Some p)) (sym e)
-      (course.Broken x failed (carried s limit from to law small most (history_of (m.session k)) st (all m k bytes) fits))
+      subst (λ p. Course s limit max_calls result (m.session k) (Some p)) (sym e)
+      (course.Broken x failed (carried s limit from to law small max_calls (history_of (m.session k)) st (all m k bytes) fits))
   by_outcome result m k o bytes (OfItself st is unfailed fits) =
-      course.CameToAnEnd o (carried s limit from to law small most (history_of (m.session k)) st (all m k bytes) fits)
-      (ended s limit most from to law small (history_of (m.session k)) (all m k bytes) (bytes k side.Client) (bytes k side.Upstream) st fits o some is)
+      course.CameToAnEnd o (carried s limit from to law small max_calls (history_of (m.session k)) st (all m k bytes) fits)
+      (ended s limit max_calls from to law small (history_of (m.session k)) (all m k bytes) (bytes k side.Client) (bytes k side.Upstream) st fits o some is)
 
   -- ---- all of them
 
   by_place : (result : Served) (held : List (Entry Setting)) (past : List Closing) (busy gone : ℕ) (m : Meaning) (k : ℕ) → ReceivesBytes m
-      → Stands Setting rules_of (sessions_of s limit most sessions events) no_more held past busy gone m → IsLeft Setting rules_of (sessions_of s limit most sessions events) result held m
-      → IsAmong Setting k held past → HasCourse s limit most result held past m k
+      → Stands Setting rules_of (sessions_of s limit max_calls sessions events) no_more held past busy gone m → IsLeft Setting rules_of (sessions_of s limit max_calls sessions events) result held m
+      → IsAmong Setting k held past → HasCourse s limit max_calls result held past m k
   by_place result held past busy gone m k bytes stands left (IsOpenOne i e at is) =
-      (None, (i, e, at, is), subst (λ n. Course s limit most result (m.session n) None) is (left_open result m e.number e.session bytes (stands.each i e at) (λ whole. left.settled whole i e at)))
+      (None, (i, e, at, is), subst (λ n. Course s limit max_calls result (m.session n) None) is (left_open result m e.number e.session bytes (stands.each i e at) (λ whole. left.settled whole i e at)))
   by_place result held past busy gone m k bytes stands left (IsEndedOne i c at is) =
-      (Some c.1, (i, c, at, is, refl), subst (λ n. Course s limit most result (m.session n) (Some c.1)) is (by_outcome result m c.0 c.1 bytes (stands.ended i c at).why))
+      (Some c.1, (i, c, at, is, refl), subst (λ n. Course s limit max_calls result (m.session n) (Some c.1)) is (by_outcome result m c.0 c.1 bytes (stands.ended i c at).why))
 
   is_covered : (result : Served) (held : List (Entry Setting)) (past : List Closing) (busy gone : ℕ) (m : Meaning) (k : ℕ) → ReceivesBytes m
-      → Stands Setting rules_of (sessions_of s limit most sessions events) no_more held past busy gone m → IsLeft Setting rules_of (sessions_of s limit most sessions events) result held m
-      → no_more k ⊎ IsAmong Setting k held past → HasCourse s limit most result held past m k
+      → Stands Setting rules_of (sessions_of s limit max_calls sessions events) no_more held past busy gone m → IsLeft Setting rules_of (sessions_of s limit max_calls sessions events) result held m
+      → no_more k ⊎ IsAmong Setting k held past → HasCourse s limit max_calls result held past m k
   is_covered result held past busy gone m k bytes stands left (inl none) = absurd none
   is_covered result held past busy gone m k bytes stands left (inr among) = by_place result held past busy gone m k bytes stands left among
 
   pub carries_all : (a b : Outside) (result : Served) → ((n : Meaning) → b.told n → ReceivesBytes n)
-      → Serves Setting rules_of (sessions_of s limit most sessions events) a b result → CarriesAll s limit most a b result
+      → Serves Setting rules_of (sessions_of s limit max_calls sessions events) a b result → CarriesAll s limit max_calls a b result
   carries_all a b result bytes x = record {
     held = x.held;
     ended = x.ended;

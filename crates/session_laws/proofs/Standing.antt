@@ -63,7 +63,7 @@ taken_front limit n bytes frames rest taken = record {
       ∙ (ap (λ t. t ++ rest) (flat_map-append framed (take n frames) (drop n frames)) ∙ append_assoc (flat_map framed (take n frames)) (flat_map framed (drop n frames)) rest));
 }
 
-module _ (s : Setting) (limit most : ℕ) (from : HasLaws s.client) (to : HasLaws s.upstream) (law : StandsAtFront) (small : limit < 2 ^ 31) (h : History) (b : Both s limit from to law small h) where
+module _ (s : Setting) (limit max_calls : ℕ) (from : HasLaws s.client) (to : HasLaws s.upstream) (law : StandsAtFront) (small : limit < 2 ^ 31) (h : History) (b : Both s limit from to law small h) where
   abbrev xs_all : List (List ℕ)
   xs_all = b.client.are.frames
 
@@ -94,7 +94,7 @@ module _ (s : Setting) (limit most : ℕ) (from : HasLaws s.client) (to : HasLaw
 
   -- ---- a stand by numbers is one by frames
 
-  module _ (k l : ℕ) (stand : IsStand s most asked replied k l) where
+  module _ (k l : ℕ) (stand : IsStand s max_calls asked replied k l) where
     inside : (early late : List (List ℕ)) (x : List ℕ) → take k xs_all ≡ early ++ x ∷ late → length early < k
     inside early late x e = omega (arith, ap length e, length-append early (x ∷ late), length-take k xs_all)
 
@@ -123,7 +123,7 @@ module _ (s : Setting) (limit most : ℕ) (from : HasLaws s.client) (to : HasLaw
         let m = get_map (kept s) (calls s (take k asked)) n call (sym (ap (λ t. slice_get t n) (calls_taken k)) ∙ e) in
         (m.0, ap (λ t. slice_get t n) (calls_front s asked k) ∙ get_longer (calls s (take k asked)) (calls s (drop k asked)) n m.0 m.1, m.2)
 
-    pub lawful : session.IsLawful (rules_of s) most (take k xs_all) (take l ys_all)
+    pub lawful : session.IsLawful (rules_of s) max_calls (take k xs_all) (take l ys_all)
     lawful = record {
       passes = λ early late x g e j.
           let a = fate_at (length early) x (here early late x e) in
@@ -142,7 +142,7 @@ module _ (s : Setting) (limit most : ℕ) (from : HasLaws s.client) (to : HasLaw
           (reply_halts_is s r.0 y r.1 g r.4 (ap (λ c. (rules_of s).replied (kept s c) y) (sym same) ∙ (ap (λ c. (rules_of s).replied c y) (sym c.2) ∙ j)));
     }
 
-    abbrev pub frames_stand : session.Stand (rules_of s) limit most h.from_client h.from_upstream
+    abbrev pub frames_stand : session.Stand (rules_of s) limit max_calls h.from_client h.from_upstream
     frames_stand = record {
       xs = take k xs_all;
       ys = take l ys_all;
@@ -158,7 +158,7 @@ module _ (s : Setting) (limit most : ℕ) (from : HasLaws s.client) (to : HasLaw
 
   -- ---- and a stand by frames is one by numbers
 
-  module _ (st : session.Stand (rules_of s) limit most h.from_client h.from_upstream) where
+  module _ (st : session.Stand (rules_of s) limit max_calls h.from_client h.from_upstream) where
     abbrev pub i : ℕ
     i = length st.xs
 
@@ -201,7 +201,7 @@ module _ (s : Setting) (limit most : ℕ) (from : HasLaws s.client) (to : HasLaw
         let r = split_at st.xs n x (ap (λ q. slice_get q n) xs_are ∙ (take_get xs_all i n lt ∙ e)) in
         (take n st.xs, r.0, r.1, ap (take n) xs_are ∙ take_twice xs_all i n (omega (arith, lt)))
 
-    pub numbers_stand : IsStand s most asked replied i j
+    pub numbers_stand : IsStand s max_calls asked replied i j
     numbers_stand = record {
       some_asked = omega (arith, long, ap length xs_more.1, length-append st.xs xs_more.0);
       some_replied = omega (arith, long_replied, ap length ys_more.1, length-append st.ys ys_more.0);
@@ -233,9 +233,9 @@ module _ (s : Setting) (limit most : ℕ) (from : HasLaws s.client) (to : HasLaw
 
   -- ---- a session at rest that owes nothing
 
-  pub completed : (t : Standing) → 0 < most → Fits (rules_of s) limit most h t → IsAtRest (rules_of s) limit most t None → t.to_client ≡ [] → t.to_upstream ≡ [] → IsComplete s most asked replied h
+  pub completed : (t : Standing) → 0 < max_calls → Fits (rules_of s) limit max_calls h t → IsAtRest (rules_of s) limit max_calls t None → t.to_client ≡ [] → t.to_upstream ≡ [] → IsComplete s max_calls asked replied h
   completed t some f rest client upstream =
-      let due = all_due law (rules_of s) limit most h t small some f rest client upstream in
+      let due = all_due law (rules_of s) limit max_calls h t small some f rest client upstream in
       record {
         i = length due.at.xs;
         j = length due.at.ys;

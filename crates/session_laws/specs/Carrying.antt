@@ -42,29 +42,29 @@ pub record Carries (s : Setting) (limit : ℕ) (h : History) : Type 0 where
 
 -- So many frames of each side may have been taken. Before each of the client fewer than the most calls were open, and before one that is
 -- refused and answered none was. Each of the upstream answers a call.
-pub record IsStand (s : Setting) (most : ℕ) (asked replied : List Said) (i j : ℕ) : Type 0 where
+pub record IsStand (s : Setting) (max_calls : ℕ) (asked replied : List Said) (i j : ℕ) : Type 0 where
   pub some_asked : i ≤ length asked
   pub some_replied : j ≤ length replied
-  pub few : (t : ℕ) → t < i → length (calls s (take t asked)) < most + j
+  pub few : (t : ℕ) → t < i → length (calls s (take t asked)) < max_calls + j
   pub in_turn : (t : ℕ) (a : Said) (answer : List ℕ) → t < i → slice_get asked t ≡ Some a → done s a ≡ Tells answer → length (calls s (take t asked)) ≤ j
   pub paired : j ≤ length (calls s (take i asked))
 
 -- so many frames of each side were taken, and all that they give was sent
-pub record IsSent (s : Setting) (most : ℕ) (asked replied : List Said) (h : History) (i j : ℕ) : Type 0 where
-  pub stand : IsStand s most asked replied i j
+pub record IsSent (s : Setting) (max_calls : ℕ) (asked replied : List Said) (h : History) (i j : ℕ) : Type 0 where
+  pub stand : IsStand s max_calls asked replied i j
   pub to_upstream : h.to_upstream ≡ flat_map framed (onward s (take i asked))
   pub to_client : h.to_client ≡ flat_map framed (back s (take i asked) (take j replied))
 
 -- all was sent that the order of the calls and the most of them that may be open allow
-pub record IsComplete (s : Setting) (most : ℕ) (asked replied : List Said) (h : History) : Type 0 where
+pub record IsComplete (s : Setting) (max_calls : ℕ) (asked replied : List Said) (h : History) : Type 0 where
   pub i : ℕ
   pub j : ℕ
-  pub sent : IsSent s most asked replied h i j
-  pub greatest : (k l : ℕ) → IsStand s most asked replied k l → (k ≤ i) × (l ≤ j)
+  pub sent : IsSent s max_calls asked replied h i j
+  pub greatest : (k l : ℕ) → IsStand s max_calls asked replied k l → (k ≤ i) × (l ≤ j)
 
 -- the session is at rest with no outcome, and all that was due was sent
-pub record HasSent (s : Setting) (limit most : ℕ) (t : Standing) : Type 0 where
-  pub rests : IsAtRest (rules_of s) limit most t None
+pub record HasSent (s : Setting) (limit max_calls : ℕ) (t : Standing) : Type 0 where
+  pub rests : IsAtRest (rules_of s) limit max_calls t None
   pub to_client : t.to_client ≡ []
   pub to_upstream : t.to_upstream ≡ []
 
@@ -87,12 +87,12 @@ pub data Why (s : Setting) (limit : ℕ) (h : History) (opened : List Header) (i
       → Why s limit h opened i j client upstream (outcome.Unsolicited (told (j + 1)) (told j))
 
 -- all was sent that was due before the session ended, and why it ended
-pub record IsEnded (s : Setting) (limit most : ℕ) (h : History) (c : Carries s limit h) (o : Outcome) : Type 0 where
+pub record IsEnded (s : Setting) (limit max_calls : ℕ) (h : History) (c : Carries s limit h) (o : Outcome) : Type 0 where
   pub i : ℕ
   pub j : ℕ
   pub client_rest : List ℕ
   pub upstream_rest : List ℕ
   pub client : IsTaken limit h.from_client (take i c.client.frames) client_rest
   pub upstream : IsTaken limit h.from_upstream (take j c.upstream.frames) upstream_rest
-  pub sent : IsSent s most c.asked c.replied h i j
+  pub sent : IsSent s max_calls c.asked c.replied h i j
   pub why : Why s limit h (calls s (take i c.asked)) i j client_rest upstream_rest o

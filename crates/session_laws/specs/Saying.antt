@@ -11,9 +11,9 @@ use Rattle.protocol_traits.specs.Heads.{Header}
 use Rattle.type_tables.specs.Declarations.{Declarations}
 use Rattle.translate_core.specs.declared.route.Route.{Route}
 use Rattle.translate_core.specs.declared.verdict.Cause.{Cause}
-use Rattle.translate_core.specs.declared.verdict.Cause.TheVariants.{Grammar, Barred}
+use Rattle.translate_core.specs.declared.verdict.Cause.TheVariants.{Grammar, Barred, NoRoute}
 use Rattle.translate_core.specs.Answers.{method_name}
-use Rattle.translate_core.specs.Texts.{cause_text}
+use Rattle.translate_core.specs.Texts.{cause_text, failure_type}
 use Rattle.binary_laws.specs.Faults as binary_faults
 use Rattle.compact_laws.specs.Faults as compact_faults
 use Rattle.verdict_laws.specs.Bars.{Spot, IsFirstBar, HoldsAll, BinaryPlace, CompactPlace}
@@ -85,21 +85,19 @@ pub record BarIn (p : Passage) (frame : List ℕ) (place : ℕ) (bar : Bar) : Ty
 abbrev pub StandsIn : Passage → List ℕ → Cause → Type 0
 StandsIn p frame (Grammar f) = FaultIn p frame f
 StandsIn p frame (Barred place bar) = BarIn p frame place bar
+StandsIn p frame NoRoute = ⊥
 
 -- ---- the exception that tells a refusal (Thrift remote procedure call specification, "Response struct": a TApplicationException)
 
--- field 1, the text; field 2, the type 7, which is a protocol error
+-- field 1, the text; field 2, the type
 abbrev pub message_id : ℤ
 message_id = pos 1
 
 abbrev pub type_id : ℤ
 type_id = pos 2
 
-abbrev pub protocol_error : ℤ
-protocol_error = pos 7
-
-abbrev pub failure_body : List ℕ → Members
-failure_body text = one_member message_id (characters text) (one_member type_id (whole_32 protocol_error) no_members)
+abbrev pub failure_body : List ℕ → ℤ → Members
+failure_body text kind = one_member message_id (characters text) (one_member type_id (whole_32 kind) no_members)
 
 -- JSON can't spell a name that isn't UTF-8, and has the empty one for it
 abbrev pub told_name : Proto → List ℕ → List ℕ
@@ -107,10 +105,10 @@ told_name protocols.Binary name = name
 told_name protocols.Compact name = name
 told_name protocols.Json name = if is_utf8 name then name else []
 
--- the name without the service before it, the sequence number, and the text of the cause
+-- the name without the service before it, the sequence number, and the text and the type of the cause
 abbrev pub failure_of : Proto → Header → Cause → Message
 failure_of teller h cause =
-    record { name = told_name teller (method_name h.mtype h.name); mtype = types.Exception; seq = h.seq; body = failure_body (cause_text cause) }
+    record { name = told_name teller (method_name h.mtype h.name); mtype = types.Exception; seq = h.seq; body = failure_body (cause_text cause) (failure_type cause) }
 
 -- ---- a frame
 

@@ -21,7 +21,7 @@ use Rattle.session_laws.specs.Carrying.{Carries, IsComplete, IsEnded}
 -- the sessions of a server go between these protocols, each with frames of so many bytes and so many open calls at most; so many are
 -- open at a time, and so much may be spent
 abbrev pub sessions_of : Setting → ℕ → ℕ → ℕ → ℕ → Sessions
-sessions_of s limit most sessions events = record { rules = rules_of s; limit = limit; most = most; sessions = sessions; events = events }
+sessions_of s limit max_calls sessions events = record { rules = rules_of s; limit = limit; max_calls = max_calls; sessions = sessions; events = events }
 
 -- what was written to an output, where it tells it, and its faults
 pub record Output : Type 0 where
@@ -39,12 +39,12 @@ IsWritable t = (x : Side) → (link_of t x).last_write ≡ Some put.NotReady →
 -- What went over a session, by how it ended. It was not opened, and nothing was received or sent; a call on a side failed; it came to its
 -- end, with all sent that was due; or it was left open. Then, unless the budget was spent, all was sent that the calls allow where
 -- both sides can be written to.
-pub data Course (s : Setting) (limit most : ℕ) (result : Served) (t : Told) : Option Outcome → Type 0 where
-  NotOpened : (o : Outcome) → (o ≡ outcome.Full) ⊎ (o ≡ outcome.NoMemory) → history_of t ≡ nothing → Course s limit most result t (Some o)
-  Broken : (x : Side) → HasFailed x t → Carries s limit (history_of t) → Course s limit most result t (Some (outcome.LinkFault x))
-  CameToAnEnd : (o : Outcome) (c : Carries s limit (history_of t)) → IsEnded s limit most (history_of t) c o → Course s limit most result t (Some o)
+pub data Course (s : Setting) (limit max_calls : ℕ) (result : Served) (t : Told) : Option Outcome → Type 0 where
+  NotOpened : (o : Outcome) → (o ≡ outcome.Full) ⊎ (o ≡ outcome.NoMemory) → history_of t ≡ nothing → Course s limit max_calls result t (Some o)
+  Broken : (x : Side) → HasFailed x t → Carries s limit (history_of t) → Course s limit max_calls result t (Some (outcome.LinkFault x))
+  CameToAnEnd : (o : Outcome) (c : Carries s limit (history_of t)) → IsEnded s limit max_calls (history_of t) c o → Course s limit max_calls result t (Some o)
   LeftOpen : (c : Carries s limit (history_of t))
-      → ((result ≡ served.Budget → ⊥) → IsWritable t → IsComplete s most c.asked c.replied (history_of t)) → Course s limit most result t None
+      → ((result ≡ served.Budget → ⊥) → IsWritable t → IsComplete s max_calls c.asked c.replied (history_of t)) → Course s limit max_calls result t None
 
 -- the session's line says this of its end
 abbrev pub HasLine : ℕ → Option Outcome → List (Entry Setting) → List Closing → Type 0
@@ -53,13 +53,13 @@ HasLine k (Some o) held ended = (i : ℕ) × (c : Closing) × (slice_get ended i
 
 -- the session has a course, and a line that says how it ended
 abbrev pub HasCourse : Setting → ℕ → ℕ → Served → List (Entry Setting) → List Closing → Meaning → ℕ → Type 0
-HasCourse s limit most result held ended m k = (ending : Option Outcome) × HasLine k ending held ended × Course s limit most result (m.session k) ending
+HasCourse s limit max_calls result held ended m k = (ending : Option Outcome) × HasLine k ending held ended × Course s limit max_calls result (m.session k) ending
 
 -- the lines were written, as far as they go with the answer, and each session that was announced has a course that its line tells
-pub record CarriesAll (s : Setting) (limit most : ℕ) (a b : Outside) (result : Served) : Type 0 where
+pub record CarriesAll (s : Setting) (limit max_calls : ℕ) (a b : Outside) (result : Served) : Type 0 where
   pub held : List (Entry Setting)
   pub ended : List Closing
   pub lines : LinesEnd
   pub writes : WritesLines lines a.written b.written a.faults b.faults ended held
   pub answers : AnswersLines result lines
-  pub sessions : KeepsFrom a.told b.told IsFresh (λ m n. (k : ℕ) → (n.session k).announced ≡ true → HasCourse s limit most result held ended n k)
+  pub sessions : KeepsFrom a.told b.told IsFresh (λ m n. (k : ℕ) → (n.session k).announced ≡ true → HasCourse s limit max_calls result held ended n k)

@@ -31,7 +31,7 @@ pub fn an_answer_spells_an_exception()
 
 /// What each side of a session was sent is a front of what all frames of the other give.
 pub fn what_was_sent_was_said()
-    ensures { (s : Setting) (limit most : ℕ) (h : History) (t : Standing) → IsCovered s limit → IsOfBytes h → Fits (rules_of s) limit most h t → Carries s limit h }
+    ensures { (s : Setting) (limit max_calls : ℕ) (h : History) (t : Standing) → IsCovered s limit → IsOfBytes h → Fits (rules_of s) limit max_calls h t → Carries s limit h }
 {
     frame_stands_at_the_front();
     a_stream_is_split();
@@ -40,8 +40,8 @@ pub fn what_was_sent_was_said()
 /// Where a session is at rest with no outcome and all that was due was sent, each side was sent all that the order of the calls and the
 /// most of them that may be open allow.
 pub fn all_that_was_due_was_said()
-    ensures { (s : Setting) (limit most : ℕ) (h : History) (t : Standing) → IsCovered s limit → 0 < most → IsOfBytes h → Fits (rules_of s) limit most h t
-        → HasSent s limit most t → (c : Carries s limit h) × IsComplete s most c.asked c.replied h }
+    ensures { (s : Setting) (limit max_calls : ℕ) (h : History) (t : Standing) → IsCovered s limit → 0 < max_calls → IsOfBytes h → Fits (rules_of s) limit max_calls h t
+        → HasSent s limit max_calls t → (c : Carries s limit h) × IsComplete s max_calls c.asked c.replied h }
 {
     frame_stands_at_the_front();
     a_stream_is_split();
@@ -50,8 +50,8 @@ pub fn all_that_was_due_was_said()
 /// Where a session has an outcome of its own, each side was sent all that was due for the frames that were taken, and the outcome says
 /// which frame, length or end was met behind them.
 pub fn an_outcome_says_why()
-    ensures { (s : Setting) (limit most : ℕ) (h : History) (t : Standing) (o : Outcome) → IsCovered s limit → 0 < most → IsOfBytes h
-        → Fits (rules_of s) limit most h t → outcome_of (rules_of s) limit most t ≡ Some o → (c : Carries s limit h) × IsEnded s limit most h c o }
+    ensures { (s : Setting) (limit max_calls : ℕ) (h : History) (t : Standing) (o : Outcome) → IsCovered s limit → 0 < max_calls → IsOfBytes h
+        → Fits (rules_of s) limit max_calls h t → outcome_of (rules_of s) limit max_calls t ≡ Some o → (c : Carries s limit h) × IsEnded s limit max_calls h c o }
 {
     frame_stands_at_the_front();
     a_stream_is_split();
@@ -64,9 +64,9 @@ pub fn an_outcome_says_why()
 /// frame, length or end was met. One that was left open was sent all that the order of the calls and the most of them that may be open
 /// allow, where both sides can be written to and the budget isn't spent.
 pub fn a_server_carries_messages<H: Hub>()
-    ensures { (s : Setting) (limit most sessions events : ℕ) (h h' : H) (x x' : Output) (result : Served) → IsCovered s limit → 0 < most
+    ensures { (s : Setting) (limit max_calls sessions events : ℕ) (h h' : H) (x x' : Output) (result : Served) → IsCovered s limit → 0 < max_calls
         → let a = leaving (H.tells h) (H.counts h) x in let b = leaving (H.tells h') (H.counts h') x' in
-        Serves Setting rules_of (sessions_of s limit most sessions events) a b result → CarriesAll s limit most a b result }
+        Serves Setting rules_of (sessions_of s limit max_calls sessions events) a b result → CarriesAll s limit max_calls a b result }
 {
     frame_stands_at_the_front();
     a_stream_is_split();

@@ -3,12 +3,13 @@ use Rattle.std.proofs.Common.{◌≡◌, ℕ, ◌<◌, ◌≤◌, ◌^◌, List,
 use Rattle.std.specs.Prelude.{IfSome, is_some, nat_lt, if◌then◌else◌, codes}
 use Rattle.std.proofs.lemmas.Bool.Decides.{nat_tests}
 use Rattle.protocol_traits.specs.declared.proto.Proto.{Proto}
-use Rattle.gate_words.specs.Addresses.{is_address}
+use Rattle.decimal_words.specs.Addresses.{is_address}
 use Rattle.gate_words.specs.Commands.{command, check_of, convert_of, convert_between, converted, show_of, show_from, shown, drill_of, drill_as, help_of}
-use Rattle.gate_words.specs.Numbers.{number_of, within}
+use Rattle.decimal_words.specs.Numbers.{number_of, within}
 use Rattle.gate_words.specs.Options.{no_options, set_limit, limit_of, set_sessions, set_accept, set_events, set_calls, with_server_option, with_option, and_then, options_of, is_server_alone}
 use Rattle.gate_words.specs.Protos.{proto_of}
-use Rattle.gate_words.specs.Same.{is, is_empty, or_else}
+use Rattle.decimal_words.specs.Same.{is}
+use Rattle.gate_words.specs.Same.{is_empty, or_else}
 use Rattle.gate_words.specs.Serving.{serve_of, serve_between, serve_at, served}
 use Rattle.gate_words.specs.declared.command.Command.TheVariants as commands
 use Rattle.gate_words.specs.declared.options.Declared.{Declared}

@@ -52,11 +52,12 @@ loop-moved-init g c =
     record {
       goes = (None, goes_nowhere (g.H.Hub.tells c.args.hub.now) (Matches _ g.J.Judge.rules s) c.args.k (Runs c.args.k None 0 no_waits no_waits) (runs_not c.args.k no_waits), inl (refl, refl, refl, refl));
       idle = λ _. (refl, refl);
-      same = record { judge = refl; limit = refl; most = refl; rooms = refl };
+      same = record { judge = refl; limit = refl; max_calls = refl; rooms = refl };
       before = inl refl;
       bounded = omega arith;
       piece = search rules;
       later = later_not _;
+      stays = refl;
     }
 
 pub returns-in-Some-clause-ending : goal.returns-in-Some-clause-ending
@@ -149,6 +150,7 @@ loop-moved-preserved g c =
       bounded = omega (arith, c.loop-moved-test.true, c.in-Ok.ensures.few);
       piece = c.round.ensures.piece ∙ i.piece;
       later = later_on _ _ _ i.later c.round.ensures.later;
+      stays = c.round.ensures.kept ∙ i.stays;
     }
 
 pub returns-in-Some-outcome-clause-ending : goal.returns-in-Some-outcome-clause-ending

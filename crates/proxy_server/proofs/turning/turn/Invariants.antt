@@ -21,6 +21,7 @@ invariant-loop-moved g l =
       bounded : l.moved < 20;
       piece : length l.piece ≡ piece_length;
       later : Later (hub.counts l.fn.hub) (hub.counts l.hub);
+      stays : hub.kept l.hub ≡ hub.kept l.fn.hub;
     }
 
 abbrev pub decreases-loop-moved : goal.decreases-loop-moved

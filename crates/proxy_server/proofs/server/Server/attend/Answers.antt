@@ -22,6 +22,7 @@ serving-init g c =
       budget = c.requires.budget;
       later = later_not _;
       output_later = omega arith;
+      stays = refl;
     }
 
 pub serving-preserved : goal.serving-preserved
@@ -48,6 +49,7 @@ serving-preserved g c =
       budget = omega (arith, c.step.ensures.carried.3, ap (λ l. l.events) i.limits);
       later = later_on _ _ _ i.later c.step.ensures.later;
       output_later = omega (arith, i.output_later, c.step.ensures.output_later);
+      stays = c.step.ensures.kept ∙ i.stays;
     }
 
 pub returns-in-Err-clause-goes : goal.returns-in-Err-clause-goes

@@ -20,6 +20,7 @@ invariant-serving g l =
       budget : l.self.spent ≤ l.fn.self.limits.events;
       later : Later (hub.counts l.fn.hub) (hub.counts l.hub);
       output_later : sink.faults l.fn.output ≤ sink.faults l.output;
+      stays : hub.kept l.hub ≡ hub.kept l.fn.hub;
     }
 
 abbrev pub decreases-serving : goal.decreases-serving

@@ -21,6 +21,7 @@ leaving-init g c = record {
   later = later_not _;
   output_later = omega arith;
   cause = λ f. inl f;
+  stays = refl;
 }
 
 pub leaving-preserved : goal.leaving-preserved
@@ -52,6 +53,7 @@ leaving-preserved g c =
       later = later_on _ _ _ i.later c.leave_at-wrote.ensures.later;
       output_later = omega (arith, i.output_later, c.leave_at-wrote.ensures.output_later);
       cause = λ f. cause_on (c.args.first ≡ wrote.Failed) (c.leaving.wrote ≡ wrote.Failed) _ _ _ i.cause i.output_later c.leave_at-wrote.ensures.output_later (c.leave_at-wrote.ensures.cause f);
+      stays = c.leave_at-wrote.ensures.kept ∙ i.stays;
     }
 
 pub returns-clause-lines : goal.returns-clause-lines

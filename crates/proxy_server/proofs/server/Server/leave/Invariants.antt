@@ -25,6 +25,7 @@ invariant-leaving g l =
       later : Later (hub.counts l.fn.hub) (hub.counts l.hub);
       output_later : sink.faults l.fn.output ≤ sink.faults l.output;
       cause : l.wrote ≡ wrote.Failed → (l.fn.first ≡ wrote.Failed) ⊎ Rose (sink.faults l.fn.output) (sink.faults l.output);
+      stays : hub.kept l.hub ≡ hub.kept l.fn.hub;
     }
 
 abbrev pub decreases-leaving : goal.decreases-leaving

@@ -76,6 +76,7 @@ turns-init g c = record {
   budget = c.requires.budget;
   keeps = λ set begun past m tells is. (m, tells, is);
   later = later_not _;
+  stays = refl;
 }
 
 pub turns-preserved : goal.turns-preserved
@@ -99,4 +100,5 @@ turns-preserved g c =
       keeps = λ set begun past. keeps_then (tells c.args.hub.now) (tells c.turns.hub) (tells c.turn.new.hub) (IsBusy _ rules set begun old.spent at old.sessions.items past) (IsBusy _ rules set begun spent at held past) (IsBusy _ rules set begun (spent + 1) at (put held at c.turn.new.self) past) (i.keeps set begun past)
           (turned_more _ rules set begun spent held past at e c.turn.new.self (tells c.turns.hub) (tells c.turn.new.hub) was c.turn.ensures.number c.turn.ensures.same c.turn.ensures.holds c.in-More.ensures.turned);
       later = later_on _ _ _ i.later c.turn.ensures.later;
+      stays = c.turn.ensures.kept ∙ i.stays;
     }

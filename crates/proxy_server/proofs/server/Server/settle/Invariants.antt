@@ -19,6 +19,7 @@ invariant-turns g l =
       budget : l.self.spent ≤ l.fn.self.limits.events;
       keeps : (set : Setting) (begun : Meaning) (past : List Closing) → Keeps (hub.tells l.fn.hub) (hub.tells l.hub) (IsBusy _ rules set begun l.fn.self.spent l.fn.at l.fn.self.sessions.items past) (IsBusy _ rules set begun l.self.spent l.fn.at l.self.sessions.items past);
       later : Later (hub.counts l.fn.hub) (hub.counts l.hub);
+      stays : hub.kept l.hub ≡ hub.kept l.fn.hub;
     }
 
 abbrev pub decreases-turns : goal.decreases-turns

@@ -5,4 +5,4 @@ use Rattle.session_core.proofs.session.Session.outcome.Goals as goal
 pub returns-clause-own : goal.returns-clause-own
 returns-clause-own g c =
     let s = c.self.inside.state in
-    own_outcome (g.J.Judge.rules c.self.inside.judge) s.client.limit s.calls.capacity (standing s) s.outcome c.self.invariant.2
+    own_outcome (g.J.Judge.rules c.self.inside.judge) s.client.held.limit s.calls.capacity (standing s) s.outcome c.self.invariant.1

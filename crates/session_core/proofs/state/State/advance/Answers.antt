@@ -1,45 +1,56 @@
-use Rattle.std.proofs.Common.{◌≡◌, sym, ℕ, ◌∙◌, ap, subst, Some, None}
-use Rattle.session_core.specs.Working.{standing, Goes, Took, IsReady}
+use Rattle.std.proofs.Common.{◌≡◌, ◌∙◌, ap, Some, None, refl}
+use Rattle.session_core.specs.Working.{standing, limit_of, Goes, Took}
 use Rattle.session_core.proofs.Fitting.{fits_on}
-use Rattle.session_core.proofs.Moves.{knows_at}
+use Rattle.session_core.proofs.Keeping.{keeps_still, keeps_on, keeps_by, works_on, works_at}
 use Rattle.session_core.proofs.Endings.{goes_at, outcome_at, falls}
 use Rattle.session_core.proofs.state.State.advance.Goals as goal
+
+pub frames-init : goal.frames-init
+frames-init g c = record {
+  keeps = keeps_still (g.J.Judge.rules c.args.judge.now) _ c.args.self.now c.requires.works;
+  same = refl;
+  fits = λ h f. f;
+}
 
 pub returns-in-Some-clause-outcome : goal.returns-in-Some-clause-outcome
 returns-in-Some-clause-outcome g c =
     let i = c.frames.invariant in
     let rules = g.J.Judge.rules c.args.judge.now in
-    let limit = c.args.self.now.client.limit in
-    let most = c.args.self.now.calls.capacity in
-    let goes : Goes rules limit most (standing c.frames.self) (standing c.step.new.self) (Some c.in-Some.stop) =
-    goes_at rules (g.J.Judge.rules c.frames.judge) limit c.frames.self.client.limit most c.frames.self.calls.capacity (standing c.frames.self) (standing c.step.new.self) (Some c.in-Some.stop) (ap g.J.Judge.rules i.same) i.ready.client i.ready.calls c.in-Some.ensures.goes in
-    outcome_at rules limit c.step.new.self.client.limit most (standing c.frames.self) (standing c.step.new.self) c.in-Some.stop c.ending.result goes (c.in-Some.ensures.ready.client ∙ i.ready.client) c.ending.ensures
+    let old = c.args.self.now in
+    let s = c.frames.self in
+    let t = c.step.new.self in
+    let goes : Goes rules (limit_of old) old.calls.capacity (standing s) (standing t) (Some c.in-Some.standstill) =
+    goes_at rules (g.J.Judge.rules c.frames.judge) (limit_of old) (limit_of s) old.calls.capacity s.calls.capacity (standing s) (standing t) (Some c.in-Some.standstill) (ap g.J.Judge.rules i.same) i.keeps.ready.client.limit_is i.keeps.ready.capacity c.in-Some.ensures.goes in
+    outcome_at rules (limit_of old) (limit_of t) old.calls.capacity (standing s) (standing t) c.in-Some.standstill c.ending.result goes (c.in-Some.ensures.keeps.ready.client.limit_is ∙ i.keeps.ready.client.limit_is) c.ending.ensures
 
 pub frames-smaller : goal.frames-smaller
 frames-smaller g c =
-    let i = c.frames.invariant in
-    falls (g.J.Judge.rules c.frames.judge) c.frames.self.client.limit c.frames.self.calls.capacity (standing c.frames.self) (standing c.step.new.self) c.in_default.ensures.goes
-
-at : (limit k most m : ℕ) (s : Rattle.session_core.specs.declared.state.State.State) → k ≡ limit → m ≡ most → IsReady k m s → IsReady limit most s
-at limit k most m s a b h = subst (λ (n : ℕ). IsReady n most s) a (subst (λ (n : ℕ). IsReady k n s) b h)
+    let s = c.frames.self in
+    falls (g.J.Judge.rules c.frames.judge) (limit_of s) s.calls.capacity (standing s) (standing c.step.new.self) c.in_default.ensures.goes
 
 pub frames-preserved : goal.frames-preserved
 frames-preserved g c =
     let i = c.frames.invariant in
     let rules = g.J.Judge.rules c.args.judge.now in
-    let limit = c.args.self.now.client.limit in
-    let most = c.args.self.now.calls.capacity in
-    let goes : Took rules limit most (standing c.frames.self) (standing c.step.new.self) =
-    goes_at rules (g.J.Judge.rules c.frames.judge) limit c.frames.self.client.limit most c.frames.self.calls.capacity (standing c.frames.self) (standing c.step.new.self) None (ap g.J.Judge.rules i.same) i.ready.client i.ready.calls c.in_default.ensures.goes in
+    let old = c.args.self.now in
+    let s = c.frames.self in
+    let t = c.step.new.self in
+    let goes : Took rules (limit_of old) old.calls.capacity (standing s) (standing t) =
+    goes_at rules (g.J.Judge.rules c.frames.judge) (limit_of old) (limit_of s) old.calls.capacity s.calls.capacity (standing s) (standing t) None (ap g.J.Judge.rules i.same) i.keeps.ready.client.limit_is i.keeps.ready.capacity c.in_default.ensures.goes in
     record {
-      ready = at limit c.frames.self.client.limit most c.frames.self.calls.capacity c.step.new.self i.ready.client i.ready.calls c.in_default.ensures.ready;
+      keeps = keeps_on rules old s t i.keeps (keeps_by _ g.J.Judge.rules c.args.judge.now c.frames.judge s t i.same c.in_default.ensures.keeps);
       same = c.in_default.ensures.same ∙ i.same;
-      known = knows_at rules (g.J.Judge.rules c.frames.judge) c.step.new.self (ap g.J.Judge.rules i.same) c.in_default.ensures.known;
-      fits = λ h f. fits_on rules limit most h (standing c.frames.self) (standing c.step.new.self) goes (i.fits h f);
+      fits = λ h f. fits_on rules (limit_of old) old.calls.capacity h (standing s) (standing t) goes (i.fits h f);
     }
 
-pub step-requires-clause-known : goal.step-requires-clause-known
-step-requires-clause-known g c = knows_at (g.J.Judge.rules c.frames.judge) (g.J.Judge.rules c.args.judge.now) c.frames.self (sym (ap g.J.Judge.rules c.frames.invariant.same)) c.frames.invariant.known
+pub step-requires : goal.step-requires
+step-requires g c =
+    record {
+      works = works_at _ g.J.Judge.rules g.J.Judge.longest c.args.judge.now c.frames.judge c.frames.self c.frames.invariant.same
+          (works_on (g.J.Judge.rules c.args.judge.now) _ c.args.self.now c.frames.self c.requires.works c.frames.invariant.keeps);
+    }
 
-pub returns-in-Some-clause-known : goal.returns-in-Some-clause-known
-returns-in-Some-clause-known g c = knows_at (g.J.Judge.rules c.args.judge.now) (g.J.Judge.rules c.frames.judge) c.step.new.self (ap g.J.Judge.rules c.frames.invariant.same) c.in-Some.ensures.known
+pub returns-in-Some-clause-keeps : goal.returns-in-Some-clause-keeps
+returns-in-Some-clause-keeps g c =
+    let i = c.frames.invariant in
+    keeps_on (g.J.Judge.rules c.args.judge.now) c.args.self.now c.frames.self c.step.new.self i.keeps (keeps_by _ g.J.Judge.rules c.args.judge.now c.frames.judge c.frames.self c.step.new.self i.same c.in-Some.ensures.keeps)

@@ -1,23 +1,40 @@
 use Rattle.std.proofs.Common.{refl, ap}
 use Rattle.session_core.specs.Working.{standing}
-use Rattle.session_core.proofs.Moves.{took_upstream, took_client, knows_kept}
+use Rattle.session_core.proofs.Moves.{took_upstream, took_client}
+use Rattle.session_core.proofs.Keeping.{works_on, works_at, keeps_on, keeps_by}
 use Rattle.session_core.proofs.state.State.step.Goals as goal
 
 pub returns-in-Takes-clause-goes : goal.returns-in-Takes-clause-goes
 returns-in-Takes-clause-goes g c =
-    took_upstream (g.J.Judge.rules c.args.judge.now) c.args.self.now.client.limit c.args.self.now.upstream.limit c.args.self.now.calls.capacity (standing c.args.self.now) (standing c.upstream_turn.new.self) c.requires.ready.upstream c.in-Takes.ensures.turned (c.in-Takes.ensures.cut refl)
+    let s = c.args.self.now in
+    took_upstream (g.J.Judge.rules c.args.judge.now) s.client.held.limit s.upstream.held.limit s.calls.capacity (standing s) (standing c.upstream_step.new.self) c.requires.works.ready.upstream.limit_is c.in-Takes.ensures.comes (c.in-Takes.ensures.cut refl)
 
-pub returns-in-Takes-client_turn-clause-goes : goal.returns-in-Takes-client_turn-clause-goes
-returns-in-Takes-client_turn-clause-goes g c =
-    took_client (g.J.Judge.rules c.args.judge.now) (g.J.Judge.rules c.upstream_turn.new.judge) c.args.self.now.client.limit c.upstream_turn.new.self.client.limit c.args.self.now.calls.capacity c.upstream_turn.new.self.calls.capacity (standing c.args.self.now) (standing c.upstream_turn.new.self) (standing c.client_turn.new.self)
-    c.in-Waits.ensures.turned.0 c.in-Waits.ensures.turned.1 (ap g.J.Judge.rules c.in-Waits.ensures.same) c.in-Waits.ensures.ready.client c.in-Waits.ensures.ready.calls c.in-Takes-client_turn.ensures.turned (c.in-Takes-client_turn.ensures.cut refl)
+pub returns-in-Takes-client_step-clause-goes : goal.returns-in-Takes-client_step-clause-goes
+returns-in-Takes-client_step-clause-goes g c =
+    let s = c.args.self.now in
+    let mid = c.upstream_step.new.self in
+    let keeps = c.in-Waits.ensures.keeps in
+    took_client (g.J.Judge.rules c.args.judge.now) (g.J.Judge.rules c.upstream_step.new.judge) s.client.held.limit mid.client.held.limit s.calls.capacity mid.calls.capacity (standing s) (standing mid) (standing c.client_step.new.self)
+    c.in-Waits.ensures.comes.0 c.in-Waits.ensures.comes.1 (ap g.J.Judge.rules c.in-Waits.ensures.same) keeps.ready.client.limit_is keeps.ready.capacity c.in-Takes-client_step.ensures.comes (c.in-Takes-client_step.ensures.cut refl)
 
-pub client_turn-requires-clause-known : goal.client_turn-requires-clause-known
-client_turn-requires-clause-known g c =
-    knows_kept (g.J.Judge.rules c.args.judge.now) (g.J.Judge.rules c.upstream_turn.new.judge) c.args.self.now c.upstream_turn.new.self (ap g.J.Judge.rules c.in-Waits.ensures.same) c.in-Waits.ensures.kept.0 c.in-Waits.ensures.kept.1 c.requires.known
+pub client_step-requires : goal.client_step-requires
+client_step-requires g c =
+    record {
+      works = works_at _ g.J.Judge.rules g.J.Judge.longest c.args.judge.now c.upstream_step.new.judge c.upstream_step.new.self c.in-Waits.ensures.same
+          (works_on (g.J.Judge.rules c.args.judge.now) _ c.args.self.now c.upstream_step.new.self c.requires.works c.in-Waits.ensures.keeps);
+    }
 
-pub returns-in-Takes-clause-known : goal.returns-in-Takes-clause-known
-returns-in-Takes-clause-known g c = knows_kept (g.J.Judge.rules c.args.judge.now) (g.J.Judge.rules c.args.judge.now) c.args.self.now c.upstream_turn.new.self refl c.in-Takes.ensures.kept.0 c.in-Takes.ensures.kept.1 c.requires.known
+pub returns-in-Takes-client_step-clause-keeps : goal.returns-in-Takes-client_step-clause-keeps
+returns-in-Takes-client_step-clause-keeps g c =
+    keeps_on (g.J.Judge.rules c.args.judge.now) c.args.self.now c.upstream_step.new.self c.client_step.new.self c.in-Waits.ensures.keeps
+    (keeps_by _ g.J.Judge.rules c.args.judge.now c.upstream_step.new.judge c.upstream_step.new.self c.client_step.new.self c.in-Waits.ensures.same c.in-Takes-client_step.ensures.keeps)
 
-pub returns-in-Halts-clause-known : goal.returns-in-Halts-clause-known
-returns-in-Halts-clause-known g c = knows_kept (g.J.Judge.rules c.args.judge.now) (g.J.Judge.rules c.args.judge.now) c.args.self.now c.upstream_turn.new.self refl c.in-Halts.ensures.kept.0 c.in-Halts.ensures.kept.1 c.requires.known
+pub returns-in-Halts-client_step-clause-keeps : goal.returns-in-Halts-client_step-clause-keeps
+returns-in-Halts-client_step-clause-keeps g c =
+    keeps_on (g.J.Judge.rules c.args.judge.now) c.args.self.now c.upstream_step.new.self c.client_step.new.self c.in-Waits.ensures.keeps
+    (keeps_by _ g.J.Judge.rules c.args.judge.now c.upstream_step.new.judge c.upstream_step.new.self c.client_step.new.self c.in-Waits.ensures.same c.in-Halts-client_step.ensures.keeps)
+
+pub returns-in-Waits-client_step-clause-keeps : goal.returns-in-Waits-client_step-clause-keeps
+returns-in-Waits-client_step-clause-keeps g c =
+    keeps_on (g.J.Judge.rules c.args.judge.now) c.args.self.now c.upstream_step.new.self c.client_step.new.self c.in-Waits.ensures.keeps
+    (keeps_by _ g.J.Judge.rules c.args.judge.now c.upstream_step.new.judge c.upstream_step.new.self c.client_step.new.self c.in-Waits.ensures.same c.in-Waits-client_step.ensures.keeps)
