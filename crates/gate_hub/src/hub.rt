@@ -78,6 +78,11 @@ pub trait Hub {
     /// Its counts, which never fall. Each stands still at 2^64 - 1.
     ghost counts: { Self → Counts };
 
+    /// What no call changes of it: of a hub over another one, which one that is and how it is wrapped.
+    ghost Kept: { Type 0 } = { Unit {0} };
+
+    ghost kept: { Self → Self.Kept };
+
     /// Begins to listen at an address, for at most `sessions` sessions at a time and `accept`
     /// connections in all (0: as many as come), each of which is led to `upstream`.
     ///
@@ -92,6 +97,7 @@ pub trait Hub {
     ) -> Began
         ensures leads { Leads (tells self.old) (tells self.new) NotStarted (StartLeads (started_with listen.now upstream.now accept sessions) result) }
         ensures later { Later (counts self.old) (counts self.new) }
+        ensures kept { Self.kept self.new ≡ Self.kept self.old }
         ensures cause { result ≡ Began.Failed → Rose (counts self.old).faults (counts self.new).faults };
 
     /// The next event.
@@ -100,6 +106,7 @@ pub trait Hub {
     fn next(&mut self) -> HubNext
         ensures leads { Leads (tells self.old) (tells self.new) HasStarted (NextLeads result) }
         ensures later { Later (counts self.old) (counts self.new) }
+        ensures kept { Self.kept self.new ≡ Self.kept self.old }
         ensures cause { result ≡ HubNext.Failed → Rose (counts self.old).faults (counts self.new).faults };
 
     /// Reads from a side of session k into a slice that isn't empty.
@@ -110,6 +117,7 @@ pub trait Hub {
         ensures within { GotWithin into.new result }
         ensures leads { Leads (tells self.old) (tells self.new) (IsOpen k) (ReadLeads k side (length into.old) into.new result) }
         ensures later { Later (counts self.old) (counts self.new) }
+        ensures kept { Self.kept self.new ≡ Self.kept self.old }
         ensures cause { result ≡ LinkGot.Failed → Rose ((counts self.old).link_faults k side) ((counts self.new).link_faults k side) }
         ensures wait { result ≡ LinkGot.NotReady → Rose ((counts self.old).waits k side) ((counts self.new).waits k side) };
 
@@ -121,13 +129,15 @@ pub trait Hub {
         ensures within { TookWithin from.now result }
         ensures leads { Leads (tells self.old) (tells self.new) (IsOpen k) (WriteLeads k side from.now result) }
         ensures later { Later (counts self.old) (counts self.new) }
+        ensures kept { Self.kept self.new ≡ Self.kept self.old }
         ensures cause { result ≡ LinkPut.Failed → Rose ((counts self.old).link_faults k side) ((counts self.new).link_faults k side) }
         ensures wait { result ≡ LinkPut.NotReady → Rose ((counts self.old).waits k side) ((counts self.new).waits k side) };
 
     /// Marks session k as closed.
     fn close(&mut self, k: u64)
         ensures leads { Leads (tells self.old) (tells self.new) (IsOpen k) (CloseLeads k) }
-        ensures later { Later (counts self.old) (counts self.new) };
+        ensures later { Later (counts self.old) (counts self.new) }
+        ensures kept { Self.kept self.new ≡ Self.kept self.old };
 
     /// What it tells that was received consists of bytes.
     ghost bytes: { (hub : Self) (m : Meaning) → tells hub m → (k : ℕ) (side : Side) → AreBytes (link_of (m.session k) side).received };

@@ -85,10 +85,10 @@ one_bytes k s s' a b was now steps keeps p =
 -- ---- the steps of the outside
 
 -- a change leaves bytes where it is made
-abbrev KeepsBytes : (LinkState → Option LinkState) → Type 0
+abbrev pub KeepsBytes : (LinkState → Option LinkState) → Type 0
 KeepsBytes change = (link : LinkState) → AreLinkBytes link → IfSome (change link) AreLinkBytes
 
-arrive_bytes : (bytes : List ℕ) → AreBytes bytes → KeepsBytes (arrives bytes)
+pub arrive_bytes : (bytes : List ℕ) → AreBytes bytes → KeepsBytes (arrives bytes)
 arrive_bytes bytes are link p = by link.finished
   where
     by : (t : Bool) → IfSome (if t then None else Some (record link { ahead = link.ahead ++ bytes })) AreLinkBytes

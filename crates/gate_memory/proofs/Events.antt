@@ -19,11 +19,11 @@ use Rattle.gate_memory.specs.declared.steps.HubStep.{HubStep}
 use Rattle.gate_memory.proofs.Bytes.{over_bytes}
 use Rattle.gate_memory.proofs.Sessions.{get_set_same, get_set_other, later_one, open_within}
 
-pub get_last : (xs : List MemSession) (x : MemSession) → slice_get (xs ++ x ∷ []) (length xs) ≡ Some x
+pub get_last : {X : Type 0} → (xs : List X) (x : X) → slice_get (xs ++ x ∷ []) (length xs) ≡ Some x
 get_last [] x = refl
 get_last (y ∷ xs) x = get_last xs x
 
-pub get_before : (xs : List MemSession) (x : MemSession) (j : ℕ) → j ≢ length xs → slice_get (xs ++ x ∷ []) j ≡ slice_get xs j
+pub get_before : {X : Type 0} → (xs : List X) (x : X) (j : ℕ) → j ≢ length xs → slice_get (xs ++ x ∷ []) j ≡ slice_get xs j
 get_before [] x zero other = absurd (other refl)
 get_before [] x (suc j) other = refl
 get_before (y ∷ xs) x zero other = refl

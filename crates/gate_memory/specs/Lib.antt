@@ -1,4 +1,7 @@
 -- What the objects in memory do, exactly.
+pub mod Fan
+pub mod FanLaws
+pub mod FanPorts
 pub mod Files
 pub mod Hub
 pub mod Laws

@@ -307,6 +307,8 @@ impl Hub for MemHub {
 
     ghost counts = { hub_counts };
 
+    ghost kept = { λ _. tt };
+
     fn start(
         &mut self,
         alloc: Global,

@@ -1,4 +1,4 @@
-//! The outside in memory: a source, a sink, files and a hub that do what they were told to, and tell
+//! The outside in memory: a source, a sink, files, a hub and a fan that do what they were told to, and tell
 //! all that went through them.
 //!
 //! Tests and laws about whole runs use them, and no code of the program does. Each fails at the calls
@@ -6,6 +6,9 @@
 #![tactic(auto)]
 
 mod fails;
+mod fan;
+mod fan_session;
+mod fan_steps;
 mod files;
 mod hub;
 mod link;
@@ -13,6 +16,8 @@ mod steps;
 mod streams;
 
 pub use fails::Fails;
+pub use fan::MemFan;
+pub use fan_steps::{FanStep, FanSteps};
 pub use files::MemFiles;
 pub use hub::MemHub;
 pub use steps::{HubStep, HubSteps};

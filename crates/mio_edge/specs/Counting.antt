@@ -1,6 +1,7 @@
 -- The counts of the hub over sockets: those of a side are of all sessions together.
 use Rattle.std.specs.Prelude.{ℕ}
 use Rattle.gate_hub.specs.Hubs.{Counts}
+use Rattle.gate_fan.specs.Fans as fans
 use Rattle.gate_hub.specs.declared.hub.Side.{Side}
 use Rattle.gate_hub.specs.declared.hub.Side.TheVariants as side
 use Rattle.mio_edge.specs.declared.hub.SideCounts.{SideCounts}
@@ -14,4 +15,12 @@ counts_of faults client upstream = record {
   faults = faults;
   link_faults = λ k s. (side_counts client upstream s).faults;
   waits = λ k s. (side_counts client upstream s).waits;
+}
+
+-- the counts of the fan over sockets: those of a port are of all ports and sessions together
+abbrev pub fan_counts : ℕ → SideCounts → fans.Counts
+fan_counts faults links = record {
+  faults = faults;
+  link_faults = λ k port. links.faults;
+  waits = λ k port. links.waits;
 }

@@ -14,12 +14,12 @@ use gate_hub::{Began, Hub, HubNext, LinkGot, LinkPut, Side};
 use std::alloc::Global;
 use std::net::Net;
 
-/// What was counted of a side, over all sessions: calls that failed, and answers that it isn't
-/// ready. Each stands still at 2^64 - 1.
+/// What was counted of a side, over all sessions, or of all ports: calls that failed, and answers that
+/// it isn't ready. Each stands still at 2^64 - 1.
 #[derive(Clone, Copy)]
 pub struct SideCounts {
-    faults: u64,
-    waits: u64,
+    pub(crate) faults: u64,
+    pub(crate) waits: u64,
 }
 
 /// A hub over real sockets.
@@ -78,6 +78,8 @@ impl<N: Net> Hub for MioHub<'_, N> {
     ghost tells = { λ _ _. ⊥ };
 
     ghost counts = { λ h. counts_of h.sockets.faults h.client h.upstream };
+
+    ghost kept = { λ _. tt };
 
     fn start(
         &mut self,

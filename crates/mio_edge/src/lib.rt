@@ -2,7 +2,8 @@
 //!
 //! `Sockets` listens at an address. Each connection that it accepts is a session, whose port 0 is
 //! the client and whose further ports are connections to the upstreams, one address a port. `MioHub`
-//! is the hub of sessions with one upstream.
+//! is the hub of sessions with one upstream, connected with the session; `MioFan` is the fan, whose
+//! sessions are connected to each target when the first byte is to be sent to it.
 //!
 //! All sockets are non-blocking. Each port has a buffer each way, taken in `start`, where a session has
 //! one upstream of 256 KiB for up to 64 sessions and of 64 KiB for more: bytes are read from a socket in pieces as large as the buffer and handed
@@ -16,6 +17,7 @@
 //! put out of order between a socket's calls and the hub's.
 #![tactic(auto)]
 
+mod fan;
 mod hub;
 mod listening;
 mod port;
@@ -25,5 +27,6 @@ mod sockets;
 mod stream;
 mod table;
 
+pub use fan::MioFan;
 pub use hub::{MioHub, SideCounts};
 pub use sockets::Sockets;

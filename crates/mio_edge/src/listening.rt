@@ -66,6 +66,14 @@ enum Accepting {
     Short,
 }
 
+/// When the connections of a session to its upstreams are begun: all with the session, or each at the
+/// first write to it.
+#[derive(Clone, Copy, PartialEq, Eq)]
+pub(crate) enum Connecting {
+    AtOnce,
+    OnDemand,
+}
+
 /// What a server listens and waits with.
 #[derive(Drop)]
 pub(crate) struct Listening {
@@ -77,6 +85,7 @@ pub(crate) struct Listening {
     accepts_left: u32,
     patience: u32,
     targets: Vec<SocketAddr>,
+    connecting: Connecting,
     pub(crate) table: Table,
 }
 
@@ -87,6 +96,7 @@ impl Listening {
         alloc: Global,
         listen: SocketAddr,
         targets: Vec<SocketAddr>,
+        connecting: Connecting,
         table: Table,
     ) -> Result<Listening, OpenError> {
         let events = Events::with_capacity(alloc, MOST_EVENTS)?;
@@ -107,6 +117,7 @@ impl Listening {
             accepts_left: MOST_ACCEPTS,
             patience: PATIENCE,
             targets,
+            connecting,
             table,
         })
     }
@@ -122,8 +133,8 @@ impl Listening {
         self.table.is_done() && (self.patience == 0 || self.table.is_empty())
     }
 
-    /// Accepts the next connection that waits, as this session, and begins one to each target. It
-    /// says whether there is a new session. An accept that fails is passed over.
+    /// Accepts the next connection that waits, as this session, and begins one to each target, or has
+    /// it begun later. It says whether there is a new session. An accept that fails is passed over.
     pub(crate) fn accept<N: Net>(&mut self, net: &N, number: u64) -> bool {
         let Some(listener) = &self.listener else {
             return false;
@@ -154,18 +165,41 @@ impl Listening {
             self.table.release(place);
             return false;
         }
-        self.connect(net, place);
+        match self.connecting {
+            Connecting::AtOnce => self.connect_all(net, place),
+            Connecting::OnDemand => self.table.defer(place),
+        }
         true
     }
 
     // Begins a connection to each target. A port whose connection can't be begun stays without one.
-    fn connect<N: Net>(&mut self, net: &N, place: usize) {
-        for (at, target) in self.targets.iter().enumerate() {
-            if let Ok(stream) = TcpStream::connect(net, *target) {
-                let registry = self.poll.registry();
-                self.table
-                    .attach(registry, place, at + 1, stream, Sending::Blocked);
-            }
+    fn connect_all<N: Net>(&mut self, net: &N, place: usize) {
+        for at in 0..self.targets.len() {
+            self.connect(net, place, at.saturating_add(1));
+        }
+    }
+
+    // Begins the connection of a port to its target, and says whether there is one.
+    fn connect<N: Net>(&mut self, net: &N, place: usize, port: usize) -> bool {
+        let Some(target) = self.targets.get(port.wrapping_sub(1)) else {
+            return false;
+        };
+        let Ok(stream) = TcpStream::connect(net, *target) else {
+            return false;
+        };
+        self.table.attach(self.poll.registry(), place, port, stream, Sending::Blocked)
+    }
+
+    /// Begins the connection of a port of session `number` where that was left to the first write.
+    /// Where it can't be begun the port stays without one.
+    pub(crate) fn connect_for_write<N: Net>(&mut self, net: &N, number: u64, port: usize) {
+        if self.connecting == Connecting::AtOnce {
+            return;
+        }
+        if let Some(place) = self.table.find_deferred(number, port)
+            && !self.connect(net, place, port)
+        {
+            self.table.give_up(place, port);
         }
     }
 

@@ -1,5 +1,5 @@
 //! One connection of a session: its stream, what is known of its readiness, and its two buffers.
-ghost use Rattle.std.specs.Prelude.{◌≡◌, ◌<◌, ◌≤◌, ◌++◌, length, take};
+ghost use Rattle.std.specs.Prelude.{◌≡◌, ◌<◌, ◌≤◌, ◌⊎◌, ◌++◌, length, take};
 ghost use Rattle.gate_hub.specs.Hubs.{GotWithin, TookWithin};
 ghost use Rattle.mio_edge.specs.Moving.{CameIn, HandsOut, TakesIn, Sends};
 
@@ -22,9 +22,11 @@ enum Receiving {
     Ended,
 }
 
-// Whether the stream takes bytes: not so far, it may, or its end was told to the peer.
+// Whether the stream takes bytes: it is begun at the first write, not so far, it may, or its end was
+// told to the peer.
 #[derive(Clone, Copy, PartialEq, Eq)]
 pub(crate) enum Sending {
+    Deferred,
     Blocked,
     Ready,
     Shut,
@@ -75,9 +77,20 @@ impl Port {
         self.sending = sending;
     }
 
+    /// Has the connection begun at the first write. Until then nothing can be read.
+    pub(crate) fn defer(&mut self) {
+        self.sending = Sending::Deferred;
+    }
+
+    /// Whether the connection is to be begun at the first write.
+    pub(crate) fn is_deferred(&self) -> bool {
+        self.sending == Sending::Deferred
+    }
+
     /// Lets the connection go, with all that the buffers hold.
     pub(crate) fn detach(&mut self) {
         self.stream = None;
+        self.sending = Sending::Blocked;
         self.incoming.clear();
         self.outgoing.clear();
     }
@@ -117,7 +130,7 @@ impl Port {
         ensures bytes { HandsOut result into.new self.old.incoming self.new.incoming }
     {
         if self.stream.is_none() {
-            return LinkGot::Failed;
+            return self.without_stream();
         }
         if !self.incoming.bytes().is_empty() {
             return LinkGot::Bytes(hand_out(&mut self.incoming, into));
@@ -127,6 +140,17 @@ impl Port {
             Moved::End => LinkGot::End,
             Moved::Blocked => LinkGot::NotReady,
             Moved::Failed => LinkGot::Failed,
+        }
+    }
+
+    // What a read answers where there is no stream.
+    fn without_stream(&self) -> LinkGot
+        ensures { (result ≡ LinkGot.NotReady) ⊎ (result ≡ LinkGot.Failed) }
+    {
+        if self.is_deferred() {
+            LinkGot::NotReady
+        } else {
+            LinkGot::Failed
         }
     }
 

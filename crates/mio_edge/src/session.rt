@@ -32,6 +32,23 @@ impl Session {
         }
     }
 
+    /// Has the connections to the upstreams begun at the first write to each.
+    pub(crate) fn defer(&mut self) {
+        for (at, port) in self.ports.iter_mut().enumerate() {
+            if at > 0 {
+                port.defer();
+            }
+        }
+    }
+
+    /// Whether the connection of a port is to be begun at the first write.
+    pub(crate) fn is_deferred(&self, port: usize) -> bool {
+        match self.ports.get(port) {
+            Some(port) => port.is_deferred(),
+            None => false,
+        }
+    }
+
     /// Begins a turn of the session, in which it may read and write so many bytes.
     pub(crate) fn begin_turn(&mut self, allowance: usize) {
         self.allowance = allowance;

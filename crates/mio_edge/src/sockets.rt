@@ -6,12 +6,13 @@ ghost use Rattle.gate_hub.specs.declared.hub.Began.TheVariants as began;
 ghost use Rattle.gate_hub.specs.declared.hub.HubNext.TheVariants as event;
 ghost use Rattle.mio_edge.specs.Numbers.{Numbers, NumbersIfAny};
 
-use crate::listening::{Listening, OpenError};
+use crate::listening::{Connecting, Listening, OpenError};
 use crate::table::Table;
+use decimal_words::read_address;
 use gate_base::Text;
 use gate_hub::{Began, HubNext, LinkGot, LinkPut};
 use std::alloc::Global;
-use std::net::{Net, SocketAddr};
+use std::net::{IpAddr, Ipv4Addr, Net, SocketAddr};
 
 /// Real sockets: a listener, and for each session a port 0 to the client that connected and a port
 /// to each upstream.
@@ -28,6 +29,7 @@ use std::net::{Net, SocketAddr};
 #[derive(Drop)]
 pub struct Sockets<'n, N> {
     net: &'n N,
+    connecting: Connecting,
     listening: Option<Listening>,
     accept: u64,
     announced: u64,
@@ -35,14 +37,33 @@ pub struct Sockets<'n, N> {
 }
 
 impl<'n, N: Net> Sockets<'n, N> {
-    /// No sockets yet.
+    /// No sockets yet. A session is connected to all its upstreams as soon as it is opened.
     pub fn new(net: &'n N) -> Sockets<'n, N>
+        ensures faults { result.faults ≡ 0 }
+        ensures accept { result.accept ≡ 0 }
+        ensures announced { result.announced ≡ 0 }
+    {
+        Sockets::connecting(net, Connecting::AtOnce)
+    }
+
+    /// No sockets yet. A session is connected to an upstream at the first write to it: until then
+    /// nothing can be read from it, and a session that never writes to it isn't touched by its absence.
+    pub fn on_demand(net: &'n N) -> Sockets<'n, N>
+        ensures faults { result.faults ≡ 0 }
+        ensures accept { result.accept ≡ 0 }
+        ensures announced { result.announced ≡ 0 }
+    {
+        Sockets::connecting(net, Connecting::OnDemand)
+    }
+
+    fn connecting(net: &'n N, connecting: Connecting) -> Sockets<'n, N>
         ensures faults { result.faults ≡ 0 }
         ensures accept { result.accept ≡ 0 }
         ensures announced { result.announced ≡ 0 }
     {
         Sockets {
             net,
+            connecting,
             listening: None,
             accept: 0,
             announced: 0,
@@ -70,7 +91,14 @@ impl<'n, N: Net> Sockets<'n, N> {
         ensures later { self.old.faults ≤ self.new.faults }
         ensures cause { result ≡ began.Failed → Rose self.old.faults self.new.faults }
     {
-        match open(self.net, alloc, listen, upstreams, sessions) {
+        match open(
+            self.net,
+            alloc,
+            self.connecting,
+            listen,
+            upstreams,
+            sessions,
+        ) {
             Ok(listening) => {
                 self.listening = Some(listening);
                 self.accept = accept;
@@ -109,8 +137,8 @@ impl<'n, N: Net> Sockets<'n, N> {
 
     /// Reads from a port of session k into a slice that isn't empty.
     ///
-    /// `NotReady`: nothing came, or it is the others' turn; `next` names k when it may be read
-    /// again. `End`: the peer will send no more. `Failed`: the connection failed or never came to
+    /// `NotReady`: nothing came, it is the others' turn, or the port isn't connected yet; `next` names
+    /// k when it may be read again. `End`: the peer will send no more. `Failed`: the connection failed or never came to
     /// be, or there is no such port.
     pub fn read(&mut self, k: u64, port: usize, into: &mut [u8]) -> LinkGot
         requires { 0 < length into.old }
@@ -139,7 +167,10 @@ impl<'n, N: Net> Sockets<'n, N> {
         ensures faults { self.new.faults ≡ self.old.faults }
     {
         match &mut self.listening {
-            Some(listening) => listening.table.write(k, port, from),
+            Some(listening) => {
+                listening.connect_for_write(self.net, k, port);
+                listening.table.write(k, port, from)
+            }
             None => LinkPut::Failed,
         }
     }
@@ -234,24 +265,25 @@ impl<'n, N: Net> Sockets<'n, N> {
 fn open<N: Net>(
     net: &N,
     alloc: Global,
+    connecting: Connecting,
     listen: &[u8],
     upstreams: &[Text],
     sessions: usize,
 ) -> Result<Listening, OpenError> {
-    let Ok(listen) = SocketAddr::parse_ascii(listen) else {
+    let Some(listen) = socket_address(listen) else {
         return Err(OpenError::Failed);
     };
     let targets = parse_targets(alloc, upstreams)?;
     let width = targets.len().saturating_add(1);
     let table = Table::open(alloc, sessions.saturating_add(1), width)?;
-    Listening::open(net, alloc, listen, targets, table)
+    Listening::open(net, alloc, listen, targets, connecting, table)
 }
 
 // The addresses of the upstreams.
 fn parse_targets(alloc: Global, upstreams: &[Text]) -> Result<Vec<SocketAddr>, OpenError> {
     let mut targets = Vec::with_capacity(alloc, upstreams.len())?;
     for upstream in upstreams {
-        let Ok(target) = SocketAddr::parse_ascii(upstream.as_slice()) else {
+        let Some(target) = socket_address(upstream.as_slice()) else {
             return Err(OpenError::Failed);
         };
         if targets.push(target).is_err() {
@@ -259,4 +291,11 @@ fn parse_targets(alloc: Global, upstreams: &[Text]) -> Result<Vec<SocketAddr>, O
         }
     }
     Ok(targets)
+}
+
+// The address that a word spells, for the system.
+fn socket_address(word: &[u8]) -> Option<SocketAddr> {
+    let address = read_address(word)?;
+    let octets = Ipv4Addr::from_octets(address.octets);
+    Some(SocketAddr::new(IpAddr::V4(octets), address.port))
 }

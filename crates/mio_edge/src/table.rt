@@ -157,6 +157,33 @@ impl Table {
         true
     }
 
+    /// Has the connections of the session at a place to its upstreams begun at the first write to each.
+    pub(crate) fn defer(&mut self, place: usize) {
+        if let Some(session) = self.sessions.get_mut(place) {
+            session.defer();
+        }
+    }
+
+    /// The place of an open session whose connection of a port is to be begun.
+    pub(crate) fn find_deferred(&self, number: u64, port: usize) -> Option<usize> {
+        let place = self.find(number)?;
+        let session = self.sessions.get(place)?;
+        if session.is_deferred(port) {
+            Some(place)
+        } else {
+            None
+        }
+    }
+
+    /// Lets the port of a session have no connection: what is written to it fails.
+    pub(crate) fn give_up(&mut self, place: usize, port: usize) {
+        if let Some(session) = self.sessions.get_mut(place)
+            && let Some(port) = session.ports.get_mut(port)
+        {
+            port.detach();
+        }
+    }
+
     /// Lets a session be found by its number, which is above all others.
     pub(crate) fn announce(&mut self, number: u64, place: usize) -> bool {
         self.open.len() < self.open.capacity() && self.open.push(Entry { number, place }).is_ok()

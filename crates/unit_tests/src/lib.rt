@@ -23,6 +23,8 @@ mod json_protocol_tests;
 #[cfg(test)]
 mod json_text_tests;
 #[cfg(test)]
+mod memory_fan_tests;
+#[cfg(test)]
 mod memory_hub_tests;
 #[cfg(test)]
 mod message_show_tests;
