@@ -10,3 +10,16 @@ pub mod Reading
 pub mod Taking
 pub mod Pieces
 pub mod Cutting
+pub mod Searching
+pub mod Framing
+pub mod Stripping
+pub mod Links
+pub mod Places
+pub mod Wrapping
+pub mod Calls
+pub mod Due
+pub mod Sides
+pub mod Ways
+pub mod Writes
+pub mod Finding
+pub mod Sparing

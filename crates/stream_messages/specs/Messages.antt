@@ -33,9 +33,19 @@ Messages wire limit bytes [] tail = IsTail wire limit bytes tail
 Messages wire limit bytes (message ∷ messages) tail =
     (behind : List ℕ) × (bytes ≡ message ++ behind) × IsFirst wire limit whole message × Messages wire limit behind messages tail
 
+-- whole messages, one behind another, and what stands behind them
+abbrev pub AreMessages : Wire → ℕ → List ℕ → List (List ℕ) → List ℕ → Type 0
+AreMessages wire limit bytes [] left = bytes ≡ left
+AreMessages wire limit bytes (message ∷ messages) left =
+    (behind : List ℕ) × (bytes ≡ message ++ behind) × IsFirst wire limit whole message × AreMessages wire limit behind messages left
+
 -- a frame: the length in four bytes, big endian, and the content
 abbrev pub frame : List ℕ → List ℕ
 frame content = to_be_bytes w32 (length content) ++ content
+
+abbrev pub frames : List (List ℕ) → List ℕ
+frames [] = []
+frames (message ∷ messages) = frame message ++ frames messages
 
 -- the length -1, behind which nothing comes
 abbrev pub mark : List ℕ

@@ -7,10 +7,18 @@
 mod binary;
 mod codes;
 mod compact;
+mod framer;
+mod hub;
+mod lane;
+mod lanes;
 mod laws;
 mod levels;
 mod parts;
 mod scan;
+mod search;
+mod slots;
+mod stripper;
 
+pub use hub::UnframedHub;
 pub use laws::a_stream_is_cut;
 pub use scan::{Cut, Scan, Wire};

@@ -2,3 +2,4 @@ pub mod Ends
 pub mod BinaryFronts
 pub mod CompactFronts
 pub mod Cuts
+pub mod Wrapped

@@ -1,1 +1,2 @@
--- The crate defines nothing.
+-- What the laws say.
+pub mod Wrapped

@@ -3,7 +3,7 @@
 //! Each law is the contract of a function that does nothing. The code rests on none of them.
 #![tactic(auto)]
 
-ghost use Rattle.std.specs.Prelude.{◌≡◌, ◌<◌, List, ℕ, length, take};
+ghost use Rattle.std.specs.Prelude.{◌≡◌, ◌<◌, ◌^◌, true, List, ℕ, Option, length, take};
 ghost use Rattle.gate_base.specs.Bytes.{AreBytes};
 ghost use Rattle.protocol_traits.specs.declared.fault.Fault.{Fault};
 ghost use Rattle.protocol_traits.specs.declared.fault.Reason.TheVariants as reasons;
@@ -13,6 +13,14 @@ ghost use Rattle.stream_messages.specs.declared.scan.Wire.TheVariants as wires;
 ghost use Rattle.stream_messages.specs.declared.scan.Wire.{Wire};
 ghost use Rattle.stream_messages.specs.Fronts.{Found, whole, cut, bad, IsFront};
 ghost use Rattle.stream_messages.specs.Messages.{Tail, Messages};
+ghost use Rattle.gate_hub.specs.declared.hub.Side.{Side};
+ghost use Rattle.gate_hub.specs.Meaning.{Meaning, link_of};
+ghost use Rattle.stream_messages.specs.declared.lanes.Wrapping.{Wrapping};
+ghost use Rattle.stream_messages.specs.declared.slots.Slots.{Slots};
+ghost use Rattle.stream_messages.specs.Telling.{Tells};
+ghost use Rattle.unframed_laws.specs.Wrapped.{SideIsTold};
+
+use stream_messages::a_stream_is_cut;
 
 /// Of a front of a stream at most one thing is found, in either protocol.
 pub fn one_thing_is_found()
@@ -52,3 +60,13 @@ pub fn a_stream_is_cut_in_one_way()
     ensures { (wire : Wire) (limit : ℕ) (stream : List ℕ) (messages others : List (List ℕ)) (tail other : Tail) → Messages wire limit stream messages tail
         → Messages wire limit stream others other → (messages ≡ others) × (tail ≡ other) }
 {}
+
+/// Over each session that the hub below tells to be announced, a wrapping hub tells of a side without lengths: what was read of it is a
+/// front of the frames of what the hub below received, and all of them where the last read was not ready or found the end; what the hub
+/// below sent to it is what was written, without the lengths. A side that is passed through received and sent the same.
+pub fn wrapped_sides_are_framed()
+    ensures { (w : Wrapping) (slots : Option Slots) (below told : Meaning) (k : ℕ) (side : Side) → 0 < w.limit → w.limit < 2 ^ 31 → Tells w slots below told
+        → AreBytes (link_of (below.session k) side).received → (below.session k).announced ≡ true → SideIsTold w side (below.session k) (told.session k) }
+{
+    a_stream_is_cut();
+}

@@ -1,0 +1,38 @@
+use Rattle.std.proofs.Common.{◌<◌, List, length, refl, ap, subst, arith}
+use Rattle.std.specs.Box.{with_value}
+use Rattle.std.proofs.lemmas.List.{length-set}
+use Rattle.gate_hub.specs.Hubs.{LinkWrites}
+use Rattle.stream_messages.specs.declared.slots.Slot.{Slot}
+use Rattle.stream_messages.specs.declared.lanes.Lanes.{Lanes}
+use Rattle.stream_messages.specs.Slots.{IsAt}
+use Rattle.stream_messages.specs.Sessions.{LanesGo}
+use Rattle.stream_messages.proofs.Sparing.{is_read}
+use Rattle.stream_messages.proofs.slots.Slots.write.Goals as goal
+
+pub returns-clause-goes : goal.returns-clause-goes
+returns-clause-goes g c =
+    let told = g.H.Hub.tells c.args.hub.now in
+    let told' = g.H.Hub.tells c.write.new.hub in
+    let slots = c.args.self.now.open.items in
+    let at = c.in_ok-at.at in
+    let slot = c.index_mut-slot.result.now in
+    let found = c.in_ok-at.ensures.found in
+    let here : IsAt slots c.args.number at found.0 = subst (λ (xs : List Slot). IsAt xs c.args.number at found.0) c.as_slice.ensures.value found.1 in
+    let within : at < length slots = omega (arith, c.in_ok-at.ensures.within, ap (λ (xs : List Slot). length xs) c.as_slice.ensures.value) in
+    let was = is_read slots c.args.number at slot found.0 within c.index_mut-slot.ensures.value here in
+    let after : Slot = record slot { lanes = with_value slot.lanes c.write.new.self } in
+    record {
+      at = at;
+      slot = slot;
+      slot_after = after;
+      was = was;
+      number = was.number;
+      in_use = refl;
+      spare_left = refl;
+      ready = λ w r. record {
+        spare = r.spare;
+        open_room = omega (arith, r.open_room, length-set slots at after);
+        spare_room = omega (arith, r.spare_room, length-set slots at after);
+      };
+      goes = subst (λ (l : Lanes). LanesGo told told' l c.write.new.self c.args.number c.args.side (LinkWrites c.args.from.now c.write.result)) c.deref_mut.ensures.value c.write.ensures.goes;
+    }
