@@ -1,0 +1,10 @@
+use Rattle.std.proofs.Common.{ap, ◌∙◌, List, ℕ, ◌++◌}
+use Rattle.gate_io.specs.Buffer.{Buffer}
+use Rattle.http_front.specs.Replies.{response_head}
+use Rattle.http_front.proofs.Copied.{laid_behind}
+use Rattle.http_front.proofs.replies.push_response_head.Goals as goal
+
+pub returns-clause-text : goal.returns-clause-text
+unfolding response_head
+returns-clause-text c =
+    laid_behind c.args.out.now _ _ c.push-3.new.self _ _ _ c.push.ensures (c.push-2.ensures ∙ ap (λ (ys : List ℕ). record (c.push.new.self) { bytes = c.push.new.self.bytes ++ ys }) (c.as_bytes.ensures.value ∙ c.format.ensures.text)) c.push-3.ensures
