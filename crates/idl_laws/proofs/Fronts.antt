@@ -1,5 +1,5 @@
 -- What begins a document, and where nothing does any more.
-use Rattle.std.proofs.Common.{◌≡◌, ◌∙◌, ap, sym, subst, ℕ, zero, suc, ◌+◌, ◌-◌, ◌<◌, ◌≤◌, ◌⊎◌, inl, inr, List, [], ◌∷◌, ◌++◌, length, take, drop, arith, refl}
+use Rattle.std.proofs.Common.{◌≡◌, ◌∙◌, ap, sym, subst, ℕ, zero, suc, ◌<◌, ◌≤◌, ◌⊎◌, inl, inr, List, [], ◌∷◌, ◌++◌, length, take, drop, arith, refl}
 use Rattle.idl_parser.specs.Seen.{Seen}
 use Rattle.idl_parser.specs.Lexemes.{offset_of}
 use Rattle.idl_laws.specs.Faults.{IsDocument, Begins, IsFaultPlace, IsFaultAt, at_token, at_end}
