@@ -1,5 +1,5 @@
 //! The reader's quick forms: one item at a place of a frame, by value.
-ghost use Rattle.std.specs.Prelude.{◌≡◌, ℕ, ℤ, pos, ◌+◌, ◌≤◌, ◌<◌, ◌^◌, List, [], ◌∷◌, length, false, true, Ok, IfSome};
+ghost use Rattle.std.specs.Prelude.{◌≡◌, ℕ, ℤ, pos, ◌+◌, ◌≤◌, ◌<◌, ◌^◌, List, [], ◌∷◌, length, take, false, true, Ok, IfSome};
 ghost use Rattle.std.specs.Int.{w64, to_be_bytes};
 ghost use Rattle.thrift_value.specs.declared.kind.Kind.{Kind};
 ghost use Rattle.thrift_value.specs.Items.{field, bool_value, i8_value, i16_value, i32_value, i64_value, double_value, text, struct_begin, end, uuid_value};
@@ -19,7 +19,9 @@ use crate::forms::{
     i64_front, lead_front, length_front, pairs_front,
 };
 use crate::reader::BinaryRead;
-use protocol_traits::{Container, FormRead, Head, Hint, Lead, Opening, Pairs, Span, Stand, UUID};
+use protocol_traits::{
+    Container, Decoded, FormRead, Head, Hint, Lead, Opening, Pairs, Span, Stand, UUID,
+};
 use thrift_value::Kind;
 
 /// The end of a struct. A frame whose last byte is another one has no whole message, so the quick way leaves it at once.
@@ -175,6 +177,26 @@ impl<'f> FormRead for BinaryRead<'f> {
             end: behind,
             behind,
         })
+    }
+
+    #[inline(always)]
+    fn decode_text(
+        frame: &[u8],
+        at: usize,
+        stand: Stand,
+        hint: Hint,
+        room: &mut [u8],
+    ) -> Option<Decoded>
+        requires place { at ≤ length frame.now }
+        requires size { length frame.now < 2 ^ 31 }
+        requires room { length frame.now ≤ length room.old + at }
+        ensures kept { length room.new ≡ length room.old }
+        ensures past { IfSome result (λ x. IsPast at frame.now x.behind) }
+        ensures shorter { IfSome result (λ x. at + x.size + 1 ≤ x.behind) }
+        ensures steps { IfSome result (λ x. (opening : Opening) (nest : List Slot) (known : Hint) → (false ≡ true → known ≡ hint)
+            → Calls stand Kind.Str opening nest → Steps next_read stands_at frame.now at opening nest known (text (take x.size room.new)) x.behind) }
+    {
+        None
     }
 
     #[inline(always)]

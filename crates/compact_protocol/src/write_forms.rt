@@ -180,7 +180,7 @@ fn lay_field(cells: &mut [u8], to: usize, last: i16, id: i16, code: u8) -> usize
 }
 
 /// Lays a field's kind, and its id in full.
-#[inline(always)]
+#[inline(never)]
 fn lay_long_field(cells: &mut [u8], to: usize, id: i16, code: u8) -> usize
     requires { to + 9 ≤ length cells.old }
     ensures laid { take result cells.new ≡ take to cells.old ++ code ∷ shortest (folded id % 65536) }

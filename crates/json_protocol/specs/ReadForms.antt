@@ -28,12 +28,15 @@ use Rattle.protocol_traits.specs.Steps.{told}
 use Rattle.json_text.specs.Scan as words
 use Rattle.json_text.specs.Scan.{is_white}
 use Rattle.json_text.specs.Places.{IsInside}
-use Rattle.json_text.specs.declared.scanned.Scan.TheVariants.{Whole}
+use Rattle.json_text.specs.declared.scanned.Scan.{Scan as Text}
+use Rattle.json_text.specs.declared.scanned.Scan.TheVariants.{Whole, Short, Bad}
 use Rattle.json_text.specs.Text.{text_at}
+use Rattle.json_text.specs.Blob.{blob_at}
+use Rattle.json_text.specs.Lengths.{BlobFits, blob_fits}
 use Rattle.json_protocol.specs.declared.opening.Opening.{Opening as Own}
 use Rattle.json_protocol.specs.declared.opening.Opening.TheVariants as owns
 use Rattle.json_protocol.specs.Scan.{Scan, fault, item, shifted, gap, further, mark_at, ◌>>=◌}
-use Rattle.json_protocol.specs.Words.{kind_at, quoted_int_in, whole_in, text_in, string_in}
+use Rattle.json_protocol.specs.Words.{kind_at, quoted_int_in, whole_in, text_in, blob_in, string_in}
 use Rattle.json_protocol.specs.Values.{i16_low, field_at, first_at, next_at, bool_at, i8_at, i16_at, i32_at, i64_at, struct_at, size_in, sequence_at, list_at, set_at, map_head_at, no_pairs_at, map_then, map_at, end_at, value_at, opens, value_in}
 use Rattle.json_protocol.specs.Reading.{State, begun, rest, lead_by, lead_pairs, lead_fields, lead_key, lead_at, fields_at, item_in, begun_at, led, opening_after as own_after, reads}
 use Rattle.json_protocol.specs.Head.{front_at, back_at, head_at, headed, reads_head, end_scan, reads_end}
@@ -506,6 +509,48 @@ pub text_read : (frame : List ℕ) (at behind : ℕ) (stand : Stand) (hint : Hin
     → (opening : Opening) (nest : List Slot) → Calls stand kinds.Str opening nest → Steps reads stands_at frame at opening nest hint item behind
 text_read frame at behind stand hint item found opening nest calls_here =
     valued_read frame at behind stand kinds.Str item opening nest hint calls_here (λ bytes. flat_in (length nest) (stand_key stand) hint kinds.Str bytes refl) found
+
+-- a string behind its marks
+pub string_there : (frame : List ℕ) (at begin behind : ℕ) (stand : Stand) (hint : Hint) (item : Item) → Leads stand frame at begin → slice_index frame begin ≡ 34
+    → Finds frame begin (string_in hint) item behind → Valued frame at stand (value_at (stand_key stand) hint kinds.Str) item behind
+unfolding value_at
+string_there frame at begin behind stand hint item leads quote found = record { begin = begin; leads = leads; solid = ap is_white quote; found = found }
+
+-- ---- strings that are decoded
+
+-- what a scan left at the front of the room is what stands behind the place from which it counts
+scan_found : (at size behind : ℕ) (room : List ℕ) (scan : Text ℕ) (found : Text (List ℕ)) → scan ≡ Whole size behind → words.Reads scan room (words.moved at found) → found ≡ Whole (take size room) (behind - at)
+scan_found at size behind room scan found whole reads_it = unmoved found (subst (λ (s : Text ℕ). words.Reads s room (words.moved at found)) whole reads_it).0
+  where
+    unmoved : (found : Text (List ℕ)) → words.moved at found ≡ Whole (take size room) behind → found ≡ Whole (take size room) (behind - at)
+    unmoved (Whole x n) e =
+        let same : x ≡ take size room = cc in
+        let places : at + n ≡ behind = cc in
+        ap (λ (y : List ℕ). Whole y n) same ∙ ap (Whole (take size room)) (omega (arith, places))
+    unmoved Short e = absurd (cc)
+    unmoved (Bad place) e = absurd (cc)
+
+pub text_decoded : (frame room : List ℕ) (at size behind : ℕ) (scan : Text ℕ) → scan ≡ Whole size behind → behind < length frame → words.IsShorterThan at scan → words.Reads scan room (words.moved at (text_at (drop at frame)))
+    → Finds frame at (string_in hints.Text) (text (take size room)) behind
+unfolding text_in
+text_decoded frame room at size behind scan whole within shorter reads_it =
+    let found = scan_found at size behind room scan (text_at (drop at frame)) whole reads_it in
+    let order : size + at + 2 ≤ behind = subst (words.IsShorterThan at) whole shorter in
+    let content : text_in (drop at frame) ≡ Ok (take size room, behind - at) = ap (λ s. item reasons.BadString (drop at frame) (words.moved 0 s)) found ∙ ap (λ n. Ok (take size room, n)) (omega arith) in
+    (text_known (drop at frame) (take size room) (behind - at) hints.Text refl content, (omega (arith, order), within))
+
+blob_known : (bytes content : List ℕ) (n : ℕ) → blob_in bytes ≡ Ok (content, n) → string_in hints.Blob bytes ≡ Ok (text content, n)
+unfolding string_in
+blob_known bytes content n found = rw found refl
+
+pub blob_decoded : (frame room : List ℕ) (at size behind : ℕ) (scan : Text ℕ) → scan ≡ Whole size behind → behind < length frame → words.Reads scan room (words.moved at (blob_at (drop at frame)))
+    → Finds frame at (string_in hints.Blob) (text (take size room)) behind
+unfolding blob_in
+blob_decoded frame room at size behind scan whole within reads_it =
+    let found = scan_found at size behind room scan (blob_at (drop at frame)) whole reads_it in
+    let fits : BlobFits (length (drop at frame)) (Whole (take size room) (behind - at)) = subst (BlobFits (length (drop at frame))) found (blob_fits (drop at frame)) in
+    let content : blob_in (drop at frame) ≡ Ok (take size room, behind - at) = ap (λ s. item reasons.BadBase64 (drop at frame) (words.moved 0 s)) found ∙ ap (λ n. Ok (take size room, n)) (omega arith) in
+    (blob_known (drop at frame) (take size room) (behind - at) content, (omega (arith, fits.1), within))
 
 -- ---- structs and containers
 

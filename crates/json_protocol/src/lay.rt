@@ -119,7 +119,7 @@ pub fn lay_marks(cells: &mut [u8], to: usize, marks: &[u8]) -> usize
 }
 
 /// Lays marks and what stands behind them.
-#[inline(always)]
+#[inline]
 pub fn lay_both(cells: &mut [u8], to: usize, marks: &[u8], word: &[u8]) -> usize
     requires few { length marks.now ≤ 2 }
     requires room { to + (length marks.now + length word.now) ≤ length cells.old }
@@ -131,7 +131,7 @@ pub fn lay_both(cells: &mut [u8], to: usize, marks: &[u8], word: &[u8]) -> usize
 }
 
 /// Lays an integer in quotes.
-#[inline(always)]
+#[inline(never)]
 fn lay_quoted(cells: &mut [u8], to: usize, value: i64) -> usize
     requires { to + 22 ≤ length cells.old }
     ensures laid { take result cells.new ≡ take to cells.old ++ quoted (signed_decimal value) }

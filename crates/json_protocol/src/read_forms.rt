@@ -1,5 +1,5 @@
 //! The reader's quick forms: one item at a place of a frame, by value.
-ghost use Rattle.std.specs.Prelude.{◌≡◌, ℕ, ℤ, pos, ◌+◌, ◌≤◌, ◌<◌, ◌^◌, List, [], ◌∷◌, length, true, Ok, IfSome};
+ghost use Rattle.std.specs.Prelude.{◌≡◌, ℕ, ℤ, pos, ◌+◌, ◌≤◌, ◌<◌, ◌^◌, List, [], ◌∷◌, length, take, true, Ok, IfSome};
 ghost use Rattle.std.specs.Int.{w64, to_be_bytes};
 ghost use Rattle.thrift_value.specs.declared.kind.Kind.{Kind};
 ghost use Rattle.thrift_value.specs.Items.{field, bool_value, i8_value, i16_value, i32_value, i64_value, double_value, text, struct_begin, end, uuid_value};
@@ -11,11 +11,13 @@ ghost use Rattle.protocol_traits.specs.declared.nest.Slot.TheVariants.{Fields};
 ghost use Rattle.protocol_traits.specs.declared.proto.Hint.{Hint};
 ghost use Rattle.protocol_traits.specs.Forms.{lead_item, elements_item, container_kind, pairs_item, part, Calls, IsDone, IsPast, Steps, StepsTwice, StepsValue, StepsInto};
 ghost use Rattle.protocol_traits.specs.Heads.{header_of};
+ghost use Rattle.json_text.specs.declared.scanned.Scan.TheVariants.{Whole};
 ghost use Rattle.json_protocol.specs.Reading.{State, begun, reads};
 ghost use Rattle.json_protocol.specs.Head.{reads_head};
 ghost use Rattle.json_protocol.specs.Values.{value_at};
+ghost use Rattle.json_protocol.specs.Words.{string_in};
 ghost use Rattle.json_protocol.specs.WriteForms.{stand_key};
-ghost use Rattle.json_protocol.specs.ReadForms.{Valued, stands_at, whole_ends};
+ghost use Rattle.json_protocol.specs.ReadForms.{Finds, Valued, stands_at, whole_ends};
 
 use crate::head::front_of;
 use crate::places::{behind_mark, value_place, whole_value};
@@ -24,8 +26,10 @@ use crate::starts::{
     behind_container, behind_stop, field_head, field_place, lead_of, lead_place, no_pairs_behind,
     pairs_start, sequence_start,
 };
-use json_text::plain_text;
-use protocol_traits::{Container, FormRead, Head, Hint, Lead, Opening, Pairs, Span, Stand, UUID};
+use json_text::{Scan, plain_text, read_blob, read_text};
+use protocol_traits::{
+    Container, Decoded, FormRead, Head, Hint, Lead, Opening, Pairs, Span, Stand, UUID,
+};
 use thrift_value::Kind;
 
 impl<'f> FormRead for JsonRead<'f> {
@@ -178,6 +182,31 @@ impl<'f> FormRead for JsonRead<'f> {
     }
 
     #[inline(always)]
+    fn decode_text(
+        frame: &[u8],
+        at: usize,
+        stand: Stand,
+        hint: Hint,
+        room: &mut [u8],
+    ) -> Option<Decoded>
+        requires place { at ≤ length frame.now }
+        requires size { length frame.now < 2 ^ 31 }
+        requires room { length frame.now ≤ length room.old + at }
+        ensures kept { length room.new ≡ length room.old }
+        ensures past { IfSome result (λ x. IsPast at frame.now x.behind) }
+        ensures shorter { IfSome result (λ x. at + x.size + 1 ≤ x.behind) }
+        ensures steps { IfSome result (λ x. (opening : Opening) (nest : List Slot) (known : Hint) → (true ≡ true → known ≡ hint)
+            → Calls stand Kind.Str opening nest → Steps reads stands_at frame.now at opening nest known (text (take x.size room.new)) x.behind) }
+    {
+        let begin = value_place(frame, at, stand)?;
+        if frame[begin] != b'"' {
+            return None;
+        }
+        let text = decode_string(frame, begin, hint, room)?;
+        Some(text)
+    }
+
+    #[inline(always)]
     fn struct_begin(frame: &[u8], at: usize, stand: Stand) -> Option<usize>
         requires { at ≤ length frame.now }
         ensures within { IfSome result (λ x. (at ≤ x) × (x ≤ length frame.now)) }
@@ -256,4 +285,36 @@ fn plain_string(frame: &[u8], at: usize, stand: Stand) -> Option<Span>
         end,
         behind,
     })
+}
+
+/// A string that is known to be text or bytes, decoded to the front of the room.
+fn decode_string(frame: &[u8], at: usize, hint: Hint, room: &mut [u8]) -> Option<Decoded>
+    requires place { at ≤ length frame.now }
+    requires size { length frame.now < 2 ^ 31 }
+    requires room { length frame.now ≤ length room.old + at }
+    ensures kept { length room.new ≡ length room.old }
+    ensures shorter { IfSome result (λ x. at + x.size ≤ x.behind) }
+    ensures found { IfSome result (λ x. Finds frame.now at (string_in hint) (text (take x.size room.new)) x.behind) }
+{
+    match hint {
+        Hint::Text => {
+            let text = inside(frame, read_text(frame, at, room))?;
+            Some(text)
+        }
+        Hint::Blob => {
+            let blob = inside(frame, read_blob(frame, at, room))?;
+            Some(blob)
+        }
+        Hint::Unknown => None,
+    }
+}
+
+/// What was decoded, where a byte stands behind its spelling.
+fn inside(frame: &[u8], scan: Scan<usize>) -> Option<Decoded>
+    ensures { IfSome result (λ x. (scan ≡ Whole x.size x.behind) × (x.behind < length frame.now)) }
+{
+    match scan {
+        Scan::Whole(size, behind) if behind < frame.len() => Some(Decoded { size, behind }),
+        _ => None,
+    }
 }

@@ -1,7 +1,7 @@
 //! A protocol's quick reader and quick writer: one call an item, by value, and no fault told.
 //!
 //! The quick way is right where it answers. What isn't plain good is left to `WireRead` and `WireWrite`.
-ghost use Rattle.std.specs.Prelude.{◌≡◌, ℕ, ℤ, pos, ◌+◌, ◌-◌, ◌≤◌, ◌<◌, ◌^◌, List, [], ◌∷◌, ◌++◌, length, Bool, true, Option, Some, None, Ok, IfSome};
+ghost use Rattle.std.specs.Prelude.{◌≡◌, ℕ, ℤ, pos, ◌+◌, ◌-◌, ◌≤◌, ◌<◌, ◌^◌, List, [], ◌∷◌, ◌++◌, length, take, Bool, true, Option, Some, None, Ok, IfSome};
 ghost use Rattle.std.specs.Int.{w64, to_be_bytes};
 ghost use Rattle.thrift_value.specs.declared.kind.Kind.{Kind};
 ghost use Rattle.thrift_value.specs.Items.{Item, field, stop, bool_value, i8_value, i16_value, i32_value, i64_value, double_value, text, struct_begin, empty_map, map_begin, end, uuid_value};
@@ -18,7 +18,7 @@ ghost use Rattle.protocol_traits.specs.Follow.{after as levels_after};
 ghost use Rattle.protocol_traits.specs.Forms.{lead_item, elements_item, container_kind, pairs_item, part, text_weight, opening_after, Calls, IsDone, IsPast, Steps, StepsTwice, StepsValue, StepsInto, Spells, SpellsTwice, SpellsValue};
 ghost use Rattle.protocol_traits.specs.Room.{weight};
 
-use crate::forms::{Container, Lead, Opening, Pairs, Span, Stand};
+use crate::forms::{Container, Decoded, Lead, Opening, Pairs, Span, Stand};
 use crate::{Head, Hint, Mark, ReadRules, WireWrite};
 use gate_io::Out;
 use thrift_value::Kind;
@@ -116,6 +116,24 @@ pub trait FormRead: ReadRules {
         ensures part { IfSome result (λ x. (at < x.begin) × (x.begin ≤ x.end) × (x.end ≤ x.behind)) }
         ensures steps { IfSome result (λ x. (opening : Opening) (nest : List Slot) (known : Hint) → (hinted ≡ true → known ≡ hint)
             → Calls stand Kind.Str opening nest → Steps Self.reads stands_at frame.now at opening nest known (text (part frame.now x.begin x.end)) x.behind) };
+
+    /// A string that doesn't lie in the frame as it is meant: its bytes come to the front of the room, which is as long as
+    /// what is left of the frame. Where reading depends on the position, `hint` is what it says.
+    fn decode_text(
+        frame: &[u8],
+        at: usize,
+        stand: Stand,
+        hint: Hint,
+        room: &mut [u8],
+    ) -> Option<Decoded>
+        requires place { at ≤ length frame.now }
+        requires size { length frame.now < 2 ^ 31 }
+        requires room { length frame.now ≤ length room.old + at }
+        ensures kept { length room.new ≡ length room.old }
+        ensures past { IfSome result (λ x. IsPast at frame.now x.behind) }
+        ensures shorter { IfSome result (λ x. at + x.size + 1 ≤ x.behind) }
+        ensures steps { IfSome result (λ x. (opening : Opening) (nest : List Slot) (known : Hint) → (hinted ≡ true → known ≡ hint)
+            → Calls stand Kind.Str opening nest → Steps Self.reads stands_at frame.now at opening nest known (text (take x.size room.new)) x.behind) };
 
     /// The beginning of a struct. It may have no bytes.
     fn struct_begin(frame: &[u8], at: usize, stand: Stand) -> Option<usize>

@@ -64,6 +64,13 @@ pub struct Span {
     pub behind: usize,
 }
 
+/// How many bytes a string means that was decoded, and the place behind its spelling.
+#[derive(Clone, Copy)]
+pub struct Decoded {
+    pub size: usize,
+    pub behind: usize,
+}
+
 /// The beginning of a map: the kinds of keys and values, how many pairs follow, and the place behind. The kinds of a
 /// map without pairs mean nothing.
 #[derive(Clone, Copy)]

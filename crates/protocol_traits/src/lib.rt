@@ -16,7 +16,7 @@ mod traits;
 pub use fault::{Bar, Fault, Reason};
 pub use following::{follow, follow_in};
 pub use form_traits::{FormRead, FormWrite, UUID, WIDE};
-pub use forms::{Container, Lead, Opening, Pairs, Span, Stand};
+pub use forms::{Container, Decoded, Lead, Opening, Pairs, Span, Stand};
 pub use nest::{DEPTH, Nest, Slot};
 pub use proto::{Head, Hint, Mark, Proto};
 pub use traits::{ReadRules, WireRead, WireWrite};

@@ -187,7 +187,7 @@ fn take_double<R: FormRead, W: FormWrite>(
 }
 
 /// A uuid.
-#[inline(always)]
+#[inline]
 fn take_uuid<R: FormRead, W: FormWrite>(
     frame: &[u8],
     at: usize,
@@ -230,10 +230,44 @@ pub fn take_text<R: FormRead, W: FormWrite>(
     ensures takes { IfSome result (λ x. (d : Declarations) (ty : Ty) (depth : ℕ) → (R.hinted ≡ true → hint_at ty ≡ hint) → (W.hinted ≡ true → hint_at ty ≡ hint) → TakesValue (source_of R.begun R.reads_head R.reads R.reads_end R.value_place R.ahead) (target_of W.begun W.name_bar W.plain_head W.bar W.plain W.after) R.stands_at W.stands_at
         d ty depth frame.now at stand Kind.Str cells.old to cells.new x.read x.written) }
 {
-    let span = R::text(frame, at, stand, hint)?;
-    let written = W::text(cells, to, stand, hint, frame, span.begin, span.end)?;
+    match R::text(frame, at, stand, hint) {
+        Some(span) => {
+            let written = W::text(cells, to, stand, hint, frame, span.begin, span.end)?;
+            Some(Reach {
+                read: span.behind,
+                written,
+            })
+        }
+        None => take_decoded::<R, W>(frame, at, cells, to, stand, hint),
+    }
+}
+
+/// Takes a string that is decoded first, into cells behind those that its spelling may take.
+#[inline]
+fn take_decoded<R: FormRead, W: FormWrite>(
+    frame: &[u8],
+    at: usize,
+    cells: &mut [u8],
+    to: usize,
+    stand: Stand,
+    hint: Hint,
+) -> Option<Reach>
+    requires place { at ≤ length frame.now }
+    requires room { HasRoom AROUND frame.now at cells.old to }
+    requires size { length frame.now < 2 ^ 31 }
+    ensures kept { length cells.new ≡ length cells.old }
+    ensures past { IfSome result (λ x. IsPast at frame.now x.read) }
+    ensures grows { IfSome result (λ x. Grows at to x.read x.written) }
+    ensures takes { IfSome result (λ x. (d : Declarations) (ty : Ty) (depth : ℕ) → (R.hinted ≡ true → hint_at ty ≡ hint) → (W.hinted ≡ true → hint_at ty ≡ hint) → TakesValue (source_of R.begun R.reads_head R.reads R.reads_end R.value_place R.ahead) (target_of W.begun W.name_bar W.plain_head W.bar W.plain W.after) R.stands_at W.stands_at
+        d ty depth frame.now at stand Kind.Str cells.old to cells.new x.read x.written) }
+{
+    let apart = to + 6 * (frame.len() - at) + AROUND;
+    let (front, room) = cells.split_at_mut(apart);
+    let text = R::decode_text(frame, at, stand, hint, room)?;
+    let decoded = &room[..frame.len() - at];
+    let written = W::text(front, to, stand, hint, decoded, 0, text.size)?;
     Some(Reach {
-        read: span.behind,
+        read: text.behind,
         written,
     })
 }

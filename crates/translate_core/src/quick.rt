@@ -462,7 +462,7 @@ fn take_struct<R: FormRead, W: FormWrite, K: Known>(
 
 /// Takes a list or set inside so many levels.
 #[cycle(body)]
-#[inline(always)]
+#[inline(never)]
 fn take_list<R: FormRead, W: FormWrite, K: Known>(
     known: K,
     schema: &Schema,
@@ -674,7 +674,7 @@ fn run_of<R: FormRead, W: FormWrite, K: Known>(
 
 /// Takes a map inside so many levels.
 #[cycle(body)]
-#[inline(always)]
+#[inline(never)]
 fn take_map<R: FormRead, W: FormWrite, K: Known>(
     known: K,
     schema: &Schema,

@@ -28,6 +28,7 @@ pub(crate) struct Told {
 }
 
 /// What a header says of its message: its name is looked up once.
+#[inline(always)]
 #[tactic(auto, unfolding(crate::specs::Routes::info_of))]
 pub(crate) fn told_of(schema: &Schema, route: Route, head: &Head<'_>) -> Told
     requires { IsKnownRoute schema.now route }
