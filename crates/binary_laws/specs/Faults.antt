@@ -18,6 +18,10 @@ extent reasons.BadBool = 1
 extent reasons.BadSize = 4
 extent other = 0
 
+-- the frame through the item at fault, as far as it has it
+abbrev pub with_item : Reason → List ℕ → ℕ → List ℕ
+with_item reason bytes place = take (place + extent reason) bytes
+
 -- the bytes spell a message of depth at most 256, of which its body is one level
 abbrev pub IsWhole : List ℕ → Type 0
 IsWhole bytes = (m : Message) × BinarySpells m bytes × (depth_of_members m.body < 256)
@@ -36,7 +40,7 @@ abbrev pub StandsAt : Reason → List ℕ → ℕ → Type 0
 StandsAt reasons.TooDeep bytes place = (place ≤ length bytes) × IsCalled reasons.TooDeep bytes place × ((before : ℕ) → before < place → IsCalled reasons.TooDeep bytes before → ⊥)
 StandsAt reasons.Truncated bytes place = (place ≡ length bytes) × IsShallow bytes place × IsViable bytes × (IsWhole bytes → ⊥)
 StandsAt reasons.Trailing bytes place = (place < length bytes) × IsShallow bytes place × IsWhole (take place bytes)
-StandsAt reason bytes place = (1 ≤ extent reason) × (place < length bytes) × IsShallow bytes place × IsCalled reason bytes place × (IsViable (take (place + extent reason) bytes) → ⊥)
+StandsAt reason bytes place = (1 ≤ extent reason) × (place < length bytes) × IsShallow bytes place × IsCalled reason bytes place × (IsViable (with_item reason bytes place) → ⊥)
 
 abbrev pub FaultAt : List ℕ → Fault → Type 0
 FaultAt bytes f = StandsAt f.reason bytes f.place

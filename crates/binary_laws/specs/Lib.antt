@@ -3,4 +3,5 @@ pub mod Called
 pub mod Faults
 pub mod Reads
 pub mod Refused
+pub mod Stated
 pub mod Written

@@ -3,7 +3,7 @@
 //! Each law is the contract of a function that does nothing. The code rests on none of them.
 #![tactic(auto)]
 
-ghost use Rattle.std.specs.Prelude.{◌≡◌, ◌<◌, ◌≤◌, ◌+◌, ◌⊎◌, List, ℕ, [], ◌++◌, length, take};
+ghost use Rattle.std.specs.Prelude.{◌≡◌, ◌<◌, ◌≤◌, ◌+◌, ◌⊎◌, List, ℕ, [], ◌++◌, length, ◌≢◌};
 ghost use Rattle.thrift_value.specs.Trees.{Message, Members, depth_of_members, items_of_members};
 ghost use Rattle.binary_protocol.specs.Grammar.{BinarySpells, SpellsMembers};
 ghost use Rattle.protocol_traits.specs.Heads.{Header};
@@ -12,23 +12,23 @@ ghost use Rattle.protocol_traits.specs.declared.fault.Fault.{Fault};
 ghost use Rattle.protocol_traits.specs.declared.fault.Reason.TheVariants as reasons;
 ghost use Rattle.gate_base.specs.Bytes.{AreBytes};
 ghost use Rattle.binary_laws.specs.Refused.{IsViable, IsRefused};
-ghost use Rattle.binary_laws.specs.Reads.{header_of_message, IsRead};
+ghost use Rattle.binary_laws.specs.Reads.{IsRead, IsReadAs};
 ghost use Rattle.binary_laws.specs.Called.{width_of_all};
-ghost use Rattle.binary_laws.specs.Faults.{extent, IsWhole, FaultAt};
+ghost use Rattle.binary_laws.specs.Faults.{IsWhole, FaultAt, with_item};
 ghost use Rattle.binary_laws.specs.Written.{IsMessage, IsWritten};
+ghost use Rattle.binary_laws.specs.Stated.{IsSpelled, NoMessage, IsRefusedAs, IsInItem};
+ghost use Rattle.protocol_traits.specs.declared.nest.TheConstants.{DEPTH};
 
 /// What the grammar spells is read: the header of the message, the items of its body and the end, for every message of depth
 /// at most 256, of which its body is one level.
 pub fn spelled_is_read()
-    ensures { (m : Message) (bytes : List ℕ) → BinarySpells m bytes → depth_of_members m.body < 256
-        → IsRead bytes (header_of_message m) (items_of_members m.body) }
+    ensures { (m : Message) (bytes : List ℕ) → BinarySpells m bytes → depth_of_members m.body < DEPTH → IsReadAs m bytes }
 {}
 
 /// What is read is spelled: a frame of bytes that is read whole spells a message of depth at most 256, with that header and those
 /// items.
 pub fn read_is_spelled()
-    ensures { (bytes : List ℕ) (header : Header) (items : List Item) → AreBytes bytes → IsRead bytes header items
-        → (m : Message) × (header ≡ header_of_message m) × (items ≡ items_of_members m.body) × (depth_of_members m.body < 256) × BinarySpells m bytes }
+    ensures { (bytes : List ℕ) (header : Header) (items : List Item) → AreBytes bytes → IsRead bytes header items → IsSpelled BinarySpells bytes header items }
 {}
 
 /// Bytes spell one message at most, of any depth, and no spelling of a message is a proper front of another's.
@@ -43,18 +43,19 @@ pub fn truncated_is_viable()
 
 /// A frame that is refused with another reason is refused so whatever comes behind, and so begins no message of depth at most 256.
 pub fn refused_stays_refused()
-    ensures { (bytes more : List ℕ) (f : Fault) → AreBytes bytes → IsRefused bytes f → (f.reason ≡ reasons.Truncated → ⊥)
-        → IsRefused (bytes ++ more) f × ((m : Message) → depth_of_members m.body < 256 → BinarySpells m (bytes ++ more) → ⊥) }
+    ensures refused { (bytes more : List ℕ) (f : Fault) → AreBytes bytes → IsRefused bytes f → f.reason ≢ reasons.Truncated → IsRefused (bytes ++ more) f }
+    ensures none { (bytes more : List ℕ) (f : Fault) → AreBytes bytes → IsRefused bytes f → f.reason ≢ reasons.Truncated
+        → NoMessage BinarySpells (bytes ++ more) }
 {}
 
 /// A message that lies deeper than 256 levels is refused as too deep.
 pub fn deeper_is_too_deep()
-    ensures { (m : Message) (bytes : List ℕ) → BinarySpells m bytes → 256 ≤ depth_of_members m.body → (f : Fault) × IsRefused bytes f × (f.reason ≡ reasons.TooDeep) }
+    ensures { (m : Message) (bytes : List ℕ) → BinarySpells m bytes → DEPTH ≤ depth_of_members m.body → IsRefusedAs IsRefused reasons.TooDeep bytes }
 {}
 
 /// A frame that is refused, other than as truncated or as too deep, begins no message, of any depth.
 pub fn refused_is_not_viable()
-    ensures { (bytes : List ℕ) (f : Fault) → AreBytes bytes → IsRefused bytes f → (f.reason ≡ reasons.Truncated → ⊥) → (f.reason ≡ reasons.TooDeep → ⊥) → IsViable bytes → ⊥ }
+    ensures { (bytes : List ℕ) (f : Fault) → AreBytes bytes → IsRefused bytes f → f.reason ≢ reasons.Truncated → f.reason ≢ reasons.TooDeep → IsViable bytes → ⊥ }
 {}
 
 /// Each frame is read whole, as one header and one list of items, or it is refused with one fault, and never both.
@@ -76,7 +77,7 @@ pub fn the_fault_that_stands_there()
     ensures judged { (bytes : List ℕ) → AreBytes bytes → IsWhole bytes ⊎ ((f : Fault) × IsRefused bytes f × FaultAt bytes f) }
     ensures apart { (bytes : List ℕ) (f : Fault) → AreBytes bytes → FaultAt bytes f → IsWhole bytes → ⊥ }
     ensures one { (bytes : List ℕ) (f g : Fault) → AreBytes bytes → FaultAt bytes f → FaultAt bytes g → f ≡ g }
-    ensures item_tells { (bytes : List ℕ) (f : Fault) → AreBytes bytes → IsRefused bytes f → (f.reason ≡ reasons.Truncated → ⊥) → (f.reason ≡ reasons.Trailing → ⊥) → IsRefused (take (f.place + extent f.reason) bytes) f }
+    ensures item_tells { (bytes : List ℕ) (f : Fault) → AreBytes bytes → IsRefused bytes f → IsInItem f.reason → IsRefused (with_item f.reason bytes f.place) f }
 {}
 
 /// A body's spelling is as long as the spellings of its items together, one behind another. So the places of items in a spelling are

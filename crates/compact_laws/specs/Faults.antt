@@ -41,6 +41,10 @@ StandsAt reason bytes place = (place < length bytes) × IsShallow bytes place ×
 abbrev pub FaultAt : List ℕ → Fault → Type 0
 FaultAt bytes f = StandsAt f.reason bytes f.place
 
+-- with the item at fault, as far as the frame has it, it begins no message
+abbrev pub ItemBeginsNone : List ℕ → Fault → Type 0
+ItemBeginsNone bytes f = IsViable (with_item f.reason bytes f.place) → ⊥
+
 -- ---- a part, by what the grammar spells
 
 -- The part is called for at this place of some bytes. A byte stands there, and no value up to there lies too deep.
@@ -49,6 +53,14 @@ pub record IsPartAt (part : Part) (bytes : List ℕ) (place : ℕ) : Type 0 wher
   pub within : place < length bytes
   pub shallow : IsShallow bytes place
   pub called : IsCalled part bytes place
+
+-- what begins there is none of it
+abbrev pub IsBadPart : Part → List ℕ → ℕ → Type 0
+IsBadPart part bytes place = (reason : Reason) × IsFaulty part reason (drop place bytes)
+
+-- with the part, as far as the frame has it, it begins no message
+abbrev pub BeginsNone : Part → List ℕ → ℕ → Type 0
+BeginsNone part bytes place = IsViable (with_part part bytes place) → ⊥
 
 -- the frame is refused there, and not for what trails a message
 abbrev pub IsRefusedAt : List ℕ → ℕ → Type 0

@@ -1,7 +1,9 @@
 -- A whole frame that is read, call by call: a header, the items of a body, and the end.
 use Rattle.std.specs.Prelude.{◌≡◌, ℕ, List, [], ◌∷◌, Ok}
 use Rattle.thrift_value.specs.Items.{Item}
+use Rattle.thrift_value.specs.Trees.{Message, items_of_members}
 use Rattle.protocol_traits.specs.Heads.{Header}
+use Rattle.binary_laws.specs.Reads.{header_of_message}
 use Rattle.compact_protocol.specs.Reading.{State, begun, reads, reads_head, reads_end}
 
 -- item after item, from one state to another
@@ -13,3 +15,7 @@ Reads s (item ∷ items) last = (next : State) × (reads s ≡ Ok (item, next)) 
 abbrev pub IsRead : List ℕ → Header → List Item → Type 0
 IsRead frame header items =
     (first : State) × (last : State) × (reads_head (begun frame) ≡ Ok (header, first)) × Reads first items last × (reads_end last ≡ Ok (tt, last))
+
+-- the header and the items of this message
+abbrev pub IsReadAs : Message → List ℕ → Type 0
+IsReadAs m frame = IsRead frame (header_of_message m) (items_of_members m.body)

@@ -3,39 +3,36 @@
 //! Each law is the contract of a function that does nothing. The code rests on none of them.
 #![tactic(auto)]
 
-ghost use Rattle.std.specs.Prelude.{◌≡◌, ◌<◌, ◌≤◌, ◌⊎◌, List, ℕ, ℤ, pos, [], ◌∷◌, ◌++◌, length, take, drop};
+ghost use Rattle.std.specs.Prelude.{◌≡◌, ◌<◌, ◌≤◌, ◌⊎◌, List, ℕ, ℤ, pos, [], ◌∷◌, ◌++◌, length, take, ◌≢◌};
 ghost use Rattle.thrift_value.specs.Items.{Item};
 ghost use Rattle.thrift_value.specs.Trees.{Message, Members, depth_of_members, items_of_members};
 ghost use Rattle.protocol_traits.specs.Heads.{Header};
 ghost use Rattle.protocol_traits.specs.declared.fault.Fault.{Fault};
-ghost use Rattle.protocol_traits.specs.declared.fault.Reason.{Reason};
 ghost use Rattle.protocol_traits.specs.declared.fault.Reason.TheVariants as reasons;
 ghost use Rattle.protocol_traits.specs.declared.nest.Slot.TheVariants as slots;
 ghost use Rattle.compact_protocol.specs.Grammar.{CompactSpells, SpellsMembers};
 ghost use Rattle.gate_base.specs.Bytes.{AreBytes};
-ghost use Rattle.binary_laws.specs.Reads.{header_of_message};
 ghost use Rattle.binary_laws.specs.Written.{IsMessage};
 ghost use Rattle.compact_laws.specs.Called.{Part};
-ghost use Rattle.compact_laws.specs.Faults.{IsWhole, with_item, with_part, FaultAt, IsPartAt, IsRefusedAt, IsInside, HasNone};
-ghost use Rattle.compact_laws.specs.Faulty.{IsFaulty};
+ghost use Rattle.compact_laws.specs.Faults.{IsWhole, with_item, FaultAt, IsPartAt, IsRefusedAt, IsInside, HasNone, IsBadPart, BeginsNone, ItemBeginsNone};
 ghost use Rattle.compact_laws.specs.Fronts.{Leads};
-ghost use Rattle.compact_laws.specs.Reads.{IsRead};
+ghost use Rattle.compact_laws.specs.Reads.{IsRead, IsReadAs};
 ghost use Rattle.compact_laws.specs.Refused.{IsViable, IsRefused};
 ghost use Rattle.compact_laws.specs.Written.{IsWritten};
+ghost use Rattle.binary_laws.specs.Stated.{IsSpelled, NoMessage, IsRefusedAs, IsInItem};
+ghost use Rattle.protocol_traits.specs.declared.nest.TheConstants.{DEPTH};
 
 /// What the grammar spells is read: the header of the message, the items of its body and the end, for every message of depth
 /// at most 256, of which its body is one level. The numbers may be padded, the fields and lists may have either form, and a
 /// false bool in a container may be 0 or 2.
 pub fn spelled_is_read()
-    ensures { (m : Message) (bytes : List ℕ) → CompactSpells m bytes → depth_of_members m.body < 256
-        → IsRead bytes (header_of_message m) (items_of_members m.body) }
+    ensures { (m : Message) (bytes : List ℕ) → CompactSpells m bytes → depth_of_members m.body < DEPTH → IsReadAs m bytes }
 {}
 
 /// What is read is spelled: a frame of bytes that is read whole spells a message of depth at most 256, with that header and those
 /// items.
 pub fn read_is_spelled()
-    ensures { (bytes : List ℕ) (header : Header) (items : List Item) → AreBytes bytes → IsRead bytes header items
-        → (m : Message) × (header ≡ header_of_message m) × (items ≡ items_of_members m.body) × (depth_of_members m.body < 256) × CompactSpells m bytes }
+    ensures { (bytes : List ℕ) (header : Header) (items : List Item) → AreBytes bytes → IsRead bytes header items → IsSpelled CompactSpells bytes header items }
 {}
 
 /// What is written of a message spells it: the plain header and the plain spelling of each item of its body, each by the levels
@@ -56,18 +53,19 @@ pub fn truncated_is_viable()
 
 /// A frame that is refused with another reason is refused so whatever comes behind, and so begins no message of depth at most 256.
 pub fn refused_stays_refused()
-    ensures { (bytes more : List ℕ) (f : Fault) → AreBytes bytes → IsRefused bytes f → (f.reason ≡ reasons.Truncated → ⊥)
-        → IsRefused (bytes ++ more) f × ((m : Message) → depth_of_members m.body < 256 → CompactSpells m (bytes ++ more) → ⊥) }
+    ensures refused { (bytes more : List ℕ) (f : Fault) → AreBytes bytes → IsRefused bytes f → f.reason ≢ reasons.Truncated → IsRefused (bytes ++ more) f }
+    ensures none { (bytes more : List ℕ) (f : Fault) → AreBytes bytes → IsRefused bytes f → f.reason ≢ reasons.Truncated
+        → NoMessage CompactSpells (bytes ++ more) }
 {}
 
 /// A message that lies deeper than 256 levels is refused as too deep.
 pub fn deeper_is_too_deep()
-    ensures { (m : Message) (bytes : List ℕ) → CompactSpells m bytes → 256 ≤ depth_of_members m.body → (f : Fault) × IsRefused bytes f × (f.reason ≡ reasons.TooDeep) }
+    ensures { (m : Message) (bytes : List ℕ) → CompactSpells m bytes → DEPTH ≤ depth_of_members m.body → IsRefusedAs IsRefused reasons.TooDeep bytes }
 {}
 
 /// A frame that is refused, other than as truncated or as too deep, begins no message, of any depth.
 pub fn refused_is_not_viable()
-    ensures { (bytes : List ℕ) (f : Fault) → AreBytes bytes → IsRefused bytes f → (f.reason ≡ reasons.Truncated → ⊥) → (f.reason ≡ reasons.TooDeep → ⊥) → IsViable bytes → ⊥ }
+    ensures { (bytes : List ℕ) (f : Fault) → AreBytes bytes → IsRefused bytes f → f.reason ≢ reasons.Truncated → f.reason ≢ reasons.TooDeep → IsViable bytes → ⊥ }
 {}
 
 /// Each frame is read whole, as one header and one list of items, or it is refused with one fault, and never both.
@@ -91,17 +89,16 @@ pub fn the_fault_that_stands_there()
     ensures apart { (bytes : List ℕ) (f : Fault) → AreBytes bytes → FaultAt bytes f → IsWhole bytes → ⊥ }
     ensures one { (bytes : List ℕ) (f g : Fault) → AreBytes bytes → FaultAt bytes f → FaultAt bytes g → f ≡ g }
     ensures before { (bytes : List ℕ) (f : Fault) → AreBytes bytes → FaultAt bytes f → IsViable (take f.place bytes) }
-    ensures behind { (bytes : List ℕ) (f : Fault) → AreBytes bytes → FaultAt bytes f → (f.reason ≡ reasons.Truncated → ⊥) → (f.reason ≡ reasons.Trailing → ⊥) → (f.reason ≡ reasons.TooDeep → ⊥) → IsViable (with_item f.reason bytes f.place) → ⊥ }
-    ensures item_tells { (bytes : List ℕ) (f : Fault) → AreBytes bytes → IsRefused bytes f → (f.reason ≡ reasons.Truncated → ⊥) → (f.reason ≡ reasons.Trailing → ⊥) → IsRefused (with_item f.reason bytes f.place) f }
+    ensures behind { (bytes : List ℕ) (f : Fault) → AreBytes bytes → FaultAt bytes f → IsInItem f.reason → f.reason ≢ reasons.TooDeep → ItemBeginsNone bytes f }
+    ensures item_tells { (bytes : List ℕ) (f : Fault) → AreBytes bytes → IsRefused bytes f → IsInItem f.reason → IsRefused (with_item f.reason bytes f.place) f }
 {}
 
 /// Where a part of a message is called for, with no value so far that lies too deep, the grammar alone tells whether it is at fault. If what
 /// begins there is none of the part, the frame through the part, as far as it has it, begins no message, of any depth. If that begins none,
 /// the frame is refused there, and not for what trails a message. Inside a part no other is called for, and no message ends.
 pub fn a_part_at_fault_begins_no_message()
-    ensures behind { (bytes : List ℕ) (place : ℕ) (part : Part) (reason : Reason) → IsPartAt part bytes place → IsFaulty part reason (drop place bytes)
-        → IsViable (with_part part bytes place) → ⊥ }
-    ensures refused { (bytes : List ℕ) (place : ℕ) (part : Part) → IsPartAt part bytes place → (IsViable (with_part part bytes place) → ⊥) → IsRefusedAt bytes place }
+    ensures behind { (bytes : List ℕ) (place : ℕ) (part : Part) → IsPartAt part bytes place → IsBadPart part bytes place → BeginsNone part bytes place }
+    ensures refused { (bytes : List ℕ) (place : ℕ) (part : Part) → IsPartAt part bytes place → BeginsNone part bytes place → IsRefusedAt bytes place }
     ensures inside { (bytes : List ℕ) (place later : ℕ) (part : Part) → IsPartAt part bytes place → IsInside part bytes place later → HasNone bytes later }
 {}
 

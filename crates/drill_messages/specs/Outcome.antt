@@ -1,5 +1,6 @@
 -- What is written of the messages, and their lengths.
-use Rattle.std.specs.Prelude.{ℕ, List, length}
+use Rattle.std.specs.Prelude.{◌≡◌, ℕ, List, Option, length}
+use Rattle.std.specs.Io.KnownBytes.{Appends}
 use Rattle.std.specs.List.{flat_map, sum_by}
 use Rattle.framed_transport.specs.Frames.{framed}
 use Rattle.drill_messages.specs.declared.totals.Totals.{Totals}
@@ -17,3 +18,7 @@ totals_of messages = record {
   compact = sum_by (λ m. length (compact_of m)) messages;
   json = sum_by (λ m. length (json_of m)) messages;
 }
+
+-- these messages were written, and are so long
+abbrev pub AreWritten : List Put → Option (List ℕ) → Option (List ℕ) → Totals → Type 0
+AreWritten messages old new totals = (totals ≡ totals_of messages) × Appends old new (stream_of messages)

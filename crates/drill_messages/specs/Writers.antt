@@ -27,8 +27,12 @@ pub record TakesAll (name_bar : List ℕ → Option Bar) (bar : Item → Mark �
   pub finish : bar stop other ≡ None
   pub ends : bar end other ≡ None
 
+-- these bytes were appended
+abbrev pub IsAppended : Buffer → Buffer → List ℕ → Type 0
+IsAppended old new bytes = new ≡ record old { bytes = old.bytes ++ bytes }
+
 module _ {T : Type 0} (plain : T → Item → Mark → List ℕ) (after : T → Item → Mark → T) where
   -- a writer went from one state to another, and these events were appended
   pub record Writes (from : T) (old : Buffer) (to : T) (new : Buffer) (events : Events) : Type 0 where
     pub state : to ≡ behind plain after from events
-    pub out : new ≡ record old { bytes = old.bytes ++ spelled plain after from events }
+    pub out : IsAppended old new (spelled plain after from events)

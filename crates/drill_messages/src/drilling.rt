@@ -1,9 +1,8 @@
 //! Making the messages and writing them.
 ghost use Rattle.std.specs.Prelude.{◌≡◌, ◌≤◌, ◌+◌, [], length, IfSome};
-ghost use Rattle.std.specs.Io.KnownBytes.{Appends};
 ghost use Rattle.gate_base.specs.Causes.{Rose};
 ghost use Rattle.drill_messages.specs.Messages.{messages};
-ghost use Rattle.drill_messages.specs.Outcome.{stream_of, totals_of};
+ghost use Rattle.drill_messages.specs.Outcome.{stream_of, AreWritten};
 ghost use Rattle.gate_io.specs.Fronts.{AppendsFront, Flushed};
 ghost use Rattle.drill_messages.specs.Ends.{IfDone};
 ghost use Rattle.drill_messages.specs.Rooms.{IsOpen};
@@ -33,8 +32,7 @@ pub enum Drilled {
 /// first message is made, and wasn't found.
 pub fn drill<O: Sink>(alloc: Global, seed: u64, count: u64, output: &mut O) -> Drilled
     requires { count ≤ MOST_MESSAGES }
-    ensures done { let made = messages seed count in
-        IfDone result (λ totals. (totals ≡ totals_of made) × Appends (O.written output.old) (O.written output.new) (stream_of made)) }
+    ensures done { IfDone result (AreWritten (messages seed count) (O.written output.old) (O.written output.new)) }
     ensures front { AppendsFront (O.written output.old) (O.written output.new) (stream_of (messages seed count)) }
     ensures memory { result ≡ Drilled.OutOfMemory → output.new ≡ output.old }
     ensures later { O.faults output.old ≤ O.faults output.new }
@@ -54,8 +52,7 @@ fn make_all<O: Sink>(rooms: &mut Rooms, seed: u64, count: u64, output: &mut O) -
     requires count { count ≤ MOST_MESSAGES }
     requires open { IsOpen rooms.old }
     requires nothing { rooms.old.stream.bytes ≡ [] }
-    ensures done { let made = messages seed count in
-        IfSome result (λ totals. (totals ≡ totals_of made) × Appends (O.written output.old) (O.written output.new) (stream_of made)) }
+    ensures done { IfSome result (AreWritten (messages seed count) (O.written output.old) (O.written output.new)) }
     ensures front { AppendsFront (O.written output.old) (O.written output.new) (stream_of (messages seed count)) }
     ensures later { O.faults output.old ≤ O.faults output.new }
     ensures cause { result ≡ None → Rose (O.faults output.old) (O.faults output.new) }

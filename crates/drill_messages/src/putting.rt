@@ -6,10 +6,10 @@ ghost use Rattle.thrift_value.specs.Items.{item_of, end};
 ghost use Rattle.protocol_traits.specs.Heads.{header_of};
 ghost use Rattle.protocol_traits.specs.Follow.{depth_after};
 ghost use Rattle.protocol_traits.specs.Room.{weight, IsSized};
-ghost use Rattle.drill_messages.specs.Events.{other, id_events, name_events, raw_events, numbers, marks_events, pairs, flags_events, item_events, body_events, call};
+ghost use Rattle.drill_messages.specs.Events.{other, id_events, name_events, raw_events, numbers, marks_events, pairs, flags_events, item_events, call};
 ghost use Rattle.drill_messages.specs.Spellings.{spelled};
-ghost use Rattle.drill_messages.specs.Views.{fields_of, all_fields};
-ghost use Rattle.drill_messages.specs.Writers.{TakesAll, Writes};
+ghost use Rattle.drill_messages.specs.Views.{fields_of, all_fields, events_of};
+ghost use Rattle.drill_messages.specs.Writers.{TakesAll, Writes, IsAppended};
 
 use crate::item::Item;
 use crate::sizes::{
@@ -52,8 +52,8 @@ pub fn put_message<W: WireWrite>(seq: u64, items: &[Item], out: &mut Out)
     requires takes { TakesAll W.name_bar W.bar }
     requires few { length items.now ≤ MOST_ITEMS }
     requires room { length out.old.bytes + MESSAGE_ROOM ≤ out.old.room }
-    ensures out { let body = spelled W.plain W.after W.begun (body_events (all_fields items.now)) in
-        out.new ≡ record out.old { bytes = out.old.bytes ++ (W.plain_head (call (pos seq)) ++ body) } }
+    ensures out { let body = spelled W.plain W.after W.begun (events_of items.now) in
+        IsAppended out.old out.new (W.plain_head (call (pos seq)) ++ body) }
     ensures short { length out.new.bytes ≤ length out.old.bytes + MESSAGE_ROOM }
 {
     let mut writer = W::over();

@@ -18,3 +18,9 @@ pub record Splits (limit : ℕ) (bytes : List ℕ) (frames : List (List ℕ)) (r
   pub whole : bytes ≡ flat_map framed frames ++ rest
   pub each : All (λ frame. length frame ≤ limit) frames
   pub no_more : is_whole (front limit rest) ≡ false
+
+-- how bytes are split
+pub record Splitting (limit : ℕ) (bytes : List ℕ) : Type 0 where
+  pub frames : List (List ℕ)
+  pub rest : List ℕ
+  pub splits : Splits limit bytes frames rest

@@ -1,7 +1,8 @@
 //! Laws of streams of frames. Each is the contract of a function that does nothing.
-ghost use Rattle.std.specs.Prelude.{◌≡◌, ◌<◌, ◌≤◌, ◌^◌, ◌+◌, ◌++◌, false, ℕ, ℤ, List, length, get_or};
-ghost use Rattle.framed_transport.specs.Frames.{framed, IsCut, Splits};
+ghost use Rattle.std.specs.Prelude.{◌≡◌, ◌<◌, ◌≤◌, ◌^◌, ◌+◌, ◌++◌, false, ℕ, ℤ, List, length};
+ghost use Rattle.framed_transport.specs.Frames.{framed, IsCut, Splitting};
 ghost use Rattle.framed_transport.specs.Front.{front, Whole, Large, is_part};
+ghost use Rattle.gate_base.specs.Bytes.{AreBytes};
 
 /// A frame on the stream is the frame at its front.
 pub fn frame_stands_at_the_front()
@@ -25,12 +26,10 @@ pub fn a_whole_frame_stays()
 
 /// Each stream is some frames and a rest that begins with none.
 pub fn a_stream_is_split()
-    ensures { (limit : ℕ) (bytes : List ℕ) → limit < 2 ^ 31 → ((k : ℕ) → get_or bytes k 0 < 256) →
-        ((frames : List (List ℕ)) × (rest : List ℕ) × Splits limit bytes frames rest) }
+    ensures { (limit : ℕ) (bytes : List ℕ) → limit < 2 ^ 31 → AreBytes bytes → Splitting limit bytes }
 {}
 
 /// A stream is split in no two ways.
 pub fn one_splitting()
-    ensures { (limit : ℕ) (bytes : List ℕ) (frames others : List (List ℕ)) (rest left : List ℕ) → limit < 2 ^ 31 →
-        Splits limit bytes frames rest → Splits limit bytes others left → (frames ≡ others) × (rest ≡ left) }
+    ensures { (limit : ℕ) (bytes : List ℕ) → limit < 2 ^ 31 → (a b : Splitting limit bytes) → (a.frames ≡ b.frames) × (a.rest ≡ b.rest) }
 {}

@@ -6,9 +6,9 @@ use Rattle.idl_document.specs.Item.{ValueItem}
 use Rattle.idl_names.specs.Files.{FileTree}
 use Rattle.idl_consts.specs.declared.pieces.Piece.{Piece}
 use Rattle.idl_consts.specs.declared.row.ConstRow.{ConstRow}
-use Rattle.idl_consts.specs.declared.survey.Open.{Open}
+use Rattle.idl_consts.specs.declared.survey.OpenValue.{OpenValue}
 use Rattle.idl_consts.specs.declared.survey.ConstRef.{ConstRef}
-use Rattle.idl_consts.specs.declared.survey.Turn.{Turn}
+use Rattle.idl_consts.specs.declared.survey.SurveyStep.{SurveyStep}
 use Rattle.idl_consts.specs.Course.{Course, ends, stands, Context, Move, moved, item_move, course_from}
 use Rattle.idl_consts.specs.Meant.{meant_at}
 use Rattle.idl_consts.specs.Pieces.{chained, contexts, context_of, item_of, move_of, ending, Takes}
@@ -22,17 +22,17 @@ pub over : (d : List FileTree) (file : _) (items : List ValueItem) → course_fr
 over d file [] = refl
 over d file (item ∷ items) = over d file items
 
-pub contexts_push : (d : List FileTree) (ls : List Open) (o : Open) → contexts d (ls ++ o ∷ []) ≡ context_of d o ∷ contexts d ls
+pub contexts_push : (d : List FileTree) (ls : List OpenValue) (o : OpenValue) → contexts d (ls ++ o ∷ []) ≡ context_of d o ∷ contexts d ls
 contexts_push d ls o = grind (arith, common_steps)
 
-pub take_stands : (d : List FileTree) (go : List Context → Course) (ss : List ConstRef) (ls : List Open) (s : ConstRef) (next : Open)
+pub take_stands : (d : List FileTree) (go : List Context → Course) (ss : List ConstRef) (ls : List OpenValue) (s : ConstRef) (next : OpenValue)
     → chained d ss (stands s.at s.constant (meant_at d s.ty) (go (context_of d next ∷ contexts d ls))) ≡ chained d (ss ++ s ∷ []) (go (contexts d (ls ++ next ∷ [])))
 take_stands d go ss ls s next =
     sym (chained_push d ss s (go (contexts d (ls ++ next ∷ [])))
     ∙ ap (λ (up : List Context). chained d ss (stands s.at s.constant (meant_at d s.ty) (go up))) (contexts_push d ls next))
 
 -- a piece was taken from the front
-pub one_piece : (d : List FileTree) (file : ℕ) (ss : List ConstRef) (ls before : List Open) (top : Open) (items rest : List ValueItem) (item : ValueItem) (turn : Turn)
+pub one_piece : (d : List FileTree) (file : ℕ) (ss : List ConstRef) (ls before : List OpenValue) (top : OpenValue) (items rest : List ValueItem) (item : ValueItem) (turn : SurveyStep)
     → ls ≡ before ++ top ∷ [] → items ≡ item ∷ rest
     → move_of d (contexts d before) turn ≡ item_move d file (context_of d top) (contexts d before) item
     → chained d ss (course_from d file (contexts d ls) items) ≡ chained d ss (moved (move_of d (contexts d before) turn) (λ next. course_from d file next rest))
@@ -41,20 +41,20 @@ one_piece d file ss ls before top items rest item turn popped first same =
     ∙ ap (λ (all : List ValueItem). chained d ss (course_from d file (context_of d top ∷ contexts d before) all)) first
     ∙ ap (λ (m : Move). chained d ss (moved m (λ next. course_from d file next rest))) (sym same)
 
-pub takes_none : (d : List FileTree) (turn : Turn) (before : List ConstRef) (stack : List Open) (fault : Option (ℕ × ConstRow)) (after : List ConstRef) (left : List Open)
+pub takes_none : (d : List FileTree) (turn : SurveyStep) (before : List ConstRef) (stack : List OpenValue) (fault : Option (ℕ × ConstRow)) (after : List ConstRef) (left : List OpenValue)
     → is_some fault ≡ false → Takes d turn before stack fault after left
     → (go : List Context → Course) → chained d before (moved (move_of d (contexts d stack) turn) go) ≡ chained d after (go (contexts d left))
 takes_none d turn before stack None after left none takes go = takes go
 takes_none d turn before stack (Some fault) after left none takes go = absurd (cc)
 
-pub takes_fault : (d : List FileTree) (turn : Turn) (before : List ConstRef) (stack : List Open) (fault : Option (ℕ × ConstRow)) (after : List ConstRef) (left : List Open)
+pub takes_fault : (d : List FileTree) (turn : SurveyStep) (before : List ConstRef) (stack : List OpenValue) (fault : Option (ℕ × ConstRow)) (after : List ConstRef) (left : List OpenValue)
     → is_some fault ≡ true → Takes d turn before stack fault after left
     → (go : List Context → Course) → chained d before (moved (move_of d (contexts d stack) turn) go) ≡ chained d after (ending fault)
 takes_fault d turn before stack None after left some takes go = absurd (cc)
 takes_fault d turn before stack (Some fault) after left some takes go = takes go
 
 -- nothing is open any more
-pub none_open : (d : List FileTree) (file : ℕ) (ss : List ConstRef) (ls : List Open) (items : List ValueItem) → length ls ≡ 0
+pub none_open : (d : List FileTree) (file : ℕ) (ss : List ConstRef) (ls : List OpenValue) (items : List ValueItem) → length ls ≡ 0
     → chained d ss (course_from d file (contexts d ls) items) ≡ chained d ss ends
 none_open d file ss [] items e = ap (chained d ss) (over d file items)
 none_open d file ss (o ∷ ls) items e = absurd (omega arith)

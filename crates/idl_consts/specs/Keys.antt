@@ -36,13 +36,17 @@ abbrev pub constant_items : Option DefinitionTree → List ValueItem
 constant_items (Some (const_of name ty items)) = items
 constant_items definition = []
 
+-- the literals that names stand for, by the file in which they are written
+abbrev pub NamedLiterals : Type 0
+NamedLiterals = ℕ → List ℕ → Option (List ℕ)
+
 -- a literal, or that of a name that is written in a file
-abbrev pub literal_by : (ℕ → List ℕ → Option (List ℕ)) → ℕ → List ValueItem → Option (List ℕ)
+abbrev pub literal_by : NamedLiterals → ℕ → List ValueItem → Option (List ℕ)
 literal_by again file (literal at text ∷ []) = Some text
 literal_by again file (named at word ∷ []) = again file word
 literal_by again file items = None
 
-abbrev pub spot_literal : List FileTree → (ℕ → List ℕ → Option (List ℕ)) → Option Spot → Option (List ℕ)
+abbrev pub spot_literal : List FileTree → NamedLiterals → Option Spot → Option (List ℕ)
 spot_literal d again None = None
 spot_literal d again (Some spot) = literal_by again spot.file (constant_items (definition_of d spot))
 
@@ -80,7 +84,7 @@ key_answer d file s (named at word) = key_by_name d file s word
 key_answer d file s item = Err rows.WrongForm
 
 -- the literal of what a constant is written as
-abbrev pub written_literal : (ℕ → List ℕ → Option (List ℕ)) → ℕ → Written → Option (List ℕ)
+abbrev pub written_literal : NamedLiterals → ℕ → Written → Option (List ℕ)
 written_literal again file (written.Literal text) = Some text.now
 written_literal again file (written.Name word) = again file word.now
 written_literal again file written.Other = None

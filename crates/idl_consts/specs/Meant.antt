@@ -26,21 +26,25 @@ pub data Meant : Type 0 where
 abbrev pub definition_of : List FileTree → Spot → Option DefinitionTree
 definition_of d spot = option_and_then (λ f. slice_get f.document.definitions spot.definition) (slice_get d spot.file)
 
+-- the types that names mean, by the file in which they are written
+abbrev pub NamedTypes : Type 0
+NamedTypes = ℕ → List ℕ → Meant
+
 -- a type, where names mean this
-abbrev pub type_by : (ℕ → List ℕ → Meant) → ℕ → TypeTree → Meant
+abbrev pub type_by : NamedTypes → ℕ → TypeTree → Meant
 type_by named file (base_at at word) = base word
 type_by named file (named_at at word) = named file word
 type_by named file (map_at at key value) = mapping (type_by named file key) (type_by named file value)
 type_by named file (set_at at element) = sequence (type_by named file element)
 type_by named file (list_at at element) = sequence (type_by named file element)
 
-abbrev pub defined_type : (ℕ → List ℕ → Meant) → Spot → Option DefinitionTree → Meant
+abbrev pub defined_type : NamedTypes → Spot → Option DefinitionTree → Meant
 defined_type named spot (Some (typedef_of name ty)) = type_by named spot.file ty
 defined_type named spot (Some (enum_of name members)) = enumeration spot
 defined_type named spot (Some (struct_of kin name fields)) = structure spot
 defined_type named spot definition = unknown
 
-abbrev pub spot_type : List FileTree → (ℕ → List ℕ → Meant) → Option Spot → Meant
+abbrev pub spot_type : List FileTree → NamedTypes → Option Spot → Meant
 spot_type d named None = unknown
 spot_type d named (Some spot) = defined_type named spot (definition_of d spot)
 

@@ -6,7 +6,7 @@ use Rattle.idl_names.specs.Files.{FileTree}
 use Rattle.idl_names.specs.Meaning.{HasFewDefinitions}
 use Rattle.idl_consts.specs.declared.row.ConstError.{ConstError}
 use Rattle.idl_consts.specs.declared.row.ConstError.TheVariants as errors
-use Rattle.idl_consts.specs.Course.{course}
+use Rattle.idl_consts.specs.Course.{Course, course}
 use Rattle.idl_consts.specs.Following.{Fault, IsFirst}
 use Rattle.idl_consts.specs.Meant.{type_of}
 use Rattle.idl_consts.specs.Rows.{rank_of}
@@ -19,10 +19,14 @@ abbrev pub preset_by : TypeTree → Option (List ValueItem) → List Asked
 preset_by ty None = []
 preset_by ty (Some items) = (ty, items) ∷ []
 
+-- the preset of a field, if it has one
+abbrev pub preset_of : FieldTree → List Asked
+preset_of f = preset_by f.ty f.preset
+
 -- the presets of fields
 abbrev pub presets : List FieldTree → List Asked
 presets [] = []
-presets (f ∷ fs) = preset_by f.ty f.preset ++ presets fs
+presets (f ∷ fs) = preset_of f ++ presets fs
 
 abbrev pub function_values : List FunctionTree → List Asked
 function_values [] = []
@@ -47,11 +51,15 @@ lesser None b = b
 lesser (Some a) None = Some a
 lesser (Some a) (Some b) = if is_before b a then Some b else Some a
 
+-- the course of a value that is written in a file, where its own type is asked for
+abbrev pub asked_course : List FileTree → ℕ → Asked → Course
+asked_course d file v = course d file (type_of d file v.0) v.1
+
 -- the fault that is told of the values of a file behind one that was found before
 abbrev pub IsLeast : List FileTree → ℕ → Option Fault → List Asked → Option Fault → Type 0
 IsLeast d file before [] told = told ≡ before
 IsLeast d file before (v ∷ vs) told =
-    (first : Option Fault) × (IsFirst d (course d file (type_of d file v.0) v.1) first) × (IsLeast d file (lesser before first) vs told)
+    (first : Option Fault) × (IsFirst d (asked_course d file v) first) × (IsLeast d file (lesser before first) vs told)
 
 -- the name of a file, an offset in it and a row
 abbrev pub Told : Type 0

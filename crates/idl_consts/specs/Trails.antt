@@ -46,6 +46,11 @@ abbrev pub IsAmong : List FileTree → Spot → Meant → List Frame → Spot �
 IsAmong d x y [] t n = (x ≡ t) × (y ≡ n)
 IsAmong d x y (f ∷ fs) t n = ((x ≡ f.constant) × (y ≡ meant_at d f.ty)) ⊎ IsAmong d x y fs t n
 
+-- the name stands for what a frame of the trail is of, where the same type is asked for
+abbrev pub IsOnTrail : List FileTree → ConstRef → Trail → Type 0
+IsOnTrail d name trail =
+    IsAmong d name.constant (meant_at d name.ty) trail.outer.items (trail.top).constant (meant_at d (trail.top).ty)
+
 -- the name stands for a frame's constant, and the type is asked for in the same words
 abbrev pub IsOf : ConstRef → Frame → Type 0
 IsOf name f = (name.constant ≡ f.constant) × IsSameRef name.ty f.ty

@@ -1,14 +1,12 @@
 //! The values of all files, each judged against its type.
-ghost use Rattle.std.specs.Prelude.{◌≡◌, ◌<◌, ◌^◌, IfOk, length, option_map, option_copied, Option};
-ghost use Rattle.idl_document.specs.Trees.{definition_tree, definition_trees, function_trees, field_trees, type_tree};
+ghost use Rattle.std.specs.Prelude.{◌≡◌, ◌<◌, ◌^◌, IfOk, length, option_copied, Option};
+ghost use Rattle.idl_document.specs.Trees.{definition_tree, definition_trees, function_trees, field_trees, type_tree, field_tree};
 ghost use Rattle.idl_document.specs.Items.{items_of_value};
 ghost use Rattle.idl_names.specs.Files.{file_trees};
-ghost use Rattle.idl_consts.specs.Course.{course};
 ghost use Rattle.idl_consts.specs.Following.{IsFirst};
 ghost use Rattle.idl_consts.specs.Knowing.{IsSound};
-ghost use Rattle.idl_consts.specs.Meant.{type_of};
 ghost use Rattle.idl_consts.specs.Pieces.{chained, ending};
-ghost use Rattle.idl_consts.specs.Told.{lesser, is_before, presets, preset_by, function_values, definition_values, all_values, IsLeast, IsReady, Answers};
+ghost use Rattle.idl_consts.specs.Told.{lesser, is_before, presets, function_values, definition_values, all_values, IsLeast, IsReady, Answers, asked_course, preset_of};
 ghost use Rattle.idl_consts.specs.Views.{files_of};
 
 use crate::follow::name_row;
@@ -151,7 +149,7 @@ fn preset_fault<'d>(
     before: Option<Fault>,
 ) -> Result<Option<Fault>, OutOfMemory>
     requires known { IsSound (files_of view.now) known.old }
-    ensures told { let preset = preset_by (type_tree field.now.ty) (option_map items_of_value field.now.preset) in IfOk result (λ told. IsLeast (files_of view.now) place before preset told) }
+    ensures told { IfOk result (IsLeast (files_of view.now) place before (preset_of (field_tree field.now))) }
     ensures known { IsSound (files_of view.now) known.new }
 {
     match &field.preset {
@@ -173,7 +171,7 @@ fn value_fault<'d>(
     value: &'d ValueExpr,
 ) -> Result<Option<Fault>, OutOfMemory>
     requires known { IsSound (files_of view.now) known.old }
-    ensures told { let d = files_of view.now in IfOk result (λ told. IsFirst d (course d place (type_of d place (type_tree ty.now)) (items_of_value value.now)) told) }
+    ensures told { let d = files_of view.now in IfOk result (IsFirst d (asked_course d place (type_tree ty.now, items_of_value value.now))) }
     ensures known { IsSound (files_of view.now) known.new }
 {
     let written = TypeRef {

@@ -7,7 +7,7 @@ ghost use Rattle.idl_consts.specs.Following.{IsRow, constant_course};
 ghost use Rattle.idl_consts.specs.Knowing.{IsSound};
 ghost use Rattle.idl_consts.specs.Meant.{Meant, meant_at};
 ghost use Rattle.idl_consts.specs.Pieces.{course_of};
-ghost use Rattle.idl_consts.specs.Trails.{IsFrame, IsTrail, IsAmong, IsNext, IsFollowing, IsLeaving, IsHalted, IsOf, IsHalfway, GoesOn, met, upcoming_fault};
+ghost use Rattle.idl_consts.specs.Trails.{IsFrame, IsTrail, IsNext, IsFollowing, IsLeaving, IsHalted, IsOf, IsHalfway, GoesOn, met, upcoming_fault, IsOnTrail};
 ghost use Rattle.idl_consts.specs.Views.{files_of};
 
 use crate::fitting::same_spot;
@@ -132,7 +132,7 @@ fn go_on<'d>(
 ) -> Result<Option<Option<ConstRow>>, OutOfMemory>
     requires known { IsSound (files_of view.now) known.old }
     requires top { IsFrame (files_of view.now) trail.old.top }
-    ensures goes { let d = files_of view.now in IfOk result (λ done. (s : Spot) → (m : Meant) → IsTrail d s m trail.old → GoesOn d s m done trail.new) }
+    ensures goes { let d = files_of view.now in IfOk result (λ done. (s : Spot) (m : Meant) → IsTrail d s m trail.old → GoesOn d s m done trail.new) }
     ensures known { IsSound (files_of view.now) known.new }
 {
     match take_next(&mut trail.top) {
@@ -183,7 +183,7 @@ fn meet_name<'d>(
     name: ConstRef<'d>,
 ) -> Result<Option<Option<ConstRow>>, OutOfMemory>
     requires known { IsSound (files_of view.now) known.now }
-    ensures { let d = files_of view.now in IfOk result (λ done. (s : Spot) → (m : Meant) → IsFollowing d s m trail.old name.entry → GoesOn d s m done trail.new) }
+    ensures { let d = files_of view.now in IfOk result (λ row. (s : Spot) (m : Meant) → IsFollowing d s m trail.old name.entry → GoesOn d s m row trail.new) }
 {
     match known_row(view, known, name) {
         Some(row) => Ok(met(row)),
@@ -208,7 +208,7 @@ fn follow_name<'d>(
     name: ConstRef<'d>,
 ) -> Result<Option<Option<ConstRow>>, OutOfMemory>
     ensures cycle { IsHalfway name.entry trail.old → result ≡ Ok (Some (Some ConstRow.CycleOfConstants)) }
-    ensures goes { let d = files_of view.now in IfOk result (λ done. (s : Spot) → (m : Meant) → IsFollowing d s m trail.old name.entry → GoesOn d s m done trail.new) }
+    ensures goes { let d = files_of view.now in IfOk result (λ row. (s : Spot) (m : Meant) → IsFollowing d s m trail.old name.entry → GoesOn d s m row trail.new) }
 {
     if comes_again(trail, name) {
         return Ok(Some(Some(ConstRow::CycleOfConstants)));
@@ -285,7 +285,7 @@ fn unwind<'d>(
 
 /// Leaves the innermost value, in which nothing is refused.
 fn leave(trail: &mut Trail<'_>) -> Option<Option<ConstRow>>
-    ensures { (d : List FileTree) → (s : Spot) → (m : Meant) → IsLeaving d s m trail.old → GoesOn d s m result trail.new }
+    ensures { (d : List FileTree) → (s : Spot) (m : Meant) → IsLeaving d s m trail.old → GoesOn d s m result trail.new }
 {
     match trail.outer.pop() {
         Some(frame) => {
@@ -303,7 +303,7 @@ fn leave(trail: &mut Trail<'_>) -> Option<Option<ConstRow>>
 /// ends.
 fn comes_again(trail: &Trail<'_>, name: ConstRef<'_>) -> bool
     ensures half { IsHalfway name.entry trail.now → IsTrue result }
-    ensures among { IsTrue result → ((d : List FileTree) → IsAmong d name.entry.constant (meant_at d name.entry.ty) trail.now.outer.items trail.now.top.constant (meant_at d trail.now.top.ty)) }
+    ensures among { IsTrue result → ((d : List FileTree) → IsOnTrail d name.entry trail.now) }
 {
     let half = (trail.outer.len() + 1) / 2;
     match frame_at(trail.outer.as_slice(), half) {

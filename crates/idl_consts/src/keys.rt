@@ -1,11 +1,11 @@
 //! The keys of a struct's value.
-ghost use Rattle.std.specs.Prelude.{◌≡◌, ◌<◌, ◌-◌, ℕ, List, Option, Result, IfSome, option_map, option_copied};
+ghost use Rattle.std.specs.Prelude.{◌≡◌, ◌<◌, ◌-◌, ℕ, Option, Result, IfSome, option_map, option_copied};
 ghost use Rattle.idl_document.specs.Trees.{definition_tree, field_trees, type_tree};
 ghost use Rattle.idl_document.specs.Items.{items_of_value};
-ghost use Rattle.idl_consts.specs.Keys.{fields_in, field_named, field_type, constant_items, literal_by, spot_literal, named_literal, literal_at, written_literal, key_by_text, key_by_name, key_answer};
+ghost use Rattle.idl_consts.specs.Keys.{fields_in, field_named, field_type, constant_items, literal_by, spot_literal, named_literal, literal_at, written_literal, key_by_text, key_by_name, key_answer, NamedLiterals};
 ghost use Rattle.idl_names.specs.Targets.{definition_count};
 ghost use Rattle.idl_consts.specs.Pieces.{item_of, key_meant};
-ghost use Rattle.idl_consts.specs.Views.{files_of};
+ghost use Rattle.idl_consts.specs.Views.{files_of, found_tree};
 
 use crate::fitting::is_truth;
 use crate::members::any_member;
@@ -134,7 +134,7 @@ fn literal_at<'d>(view: &View<'_, 'd>, spot: Spot) -> Option<&'d [u8]>
 }
 
 fn written_as<'d>(definition: Option<&'d Definition>) -> Written<'d>
-    ensures { (again : ℕ → List ℕ → Option (List ℕ)) → (file : ℕ) → written_literal again file result ≡ literal_by again file (constant_items (option_map definition_tree (option_copied definition.entry))) }
+    ensures { (again : NamedLiterals) (file : ℕ) → written_literal again file result ≡ literal_by again file (constant_items (found_tree definition.entry)) }
 {
     match definition {
         Some(Definition::Const(_, _, value)) => written_value(value),
@@ -143,7 +143,7 @@ fn written_as<'d>(definition: Option<&'d Definition>) -> Written<'d>
 }
 
 fn written_value(value: &ValueExpr) -> Written<'_>
-    ensures { (again : ℕ → List ℕ → Option (List ℕ)) → (file : ℕ) → written_literal again file result ≡ literal_by again file (items_of_value value.now) }
+    ensures { (again : NamedLiterals) (file : ℕ) → written_literal again file result ≡ literal_by again file (items_of_value value.now) }
 {
     match &value.form {
         ValueForm::Literal(text) => Written::Literal(text.as_slice()),

@@ -1,11 +1,10 @@
 //! What is refused through constants, so that each is looked through once.
-ghost use Rattle.std.specs.Prelude.{◌≡◌, List, IfOk, IfSome, IsTrue, Some, slice_get, option_copied, option_map};
-ghost use Rattle.idl_document.specs.Trees.{definition_tree};
+ghost use Rattle.std.specs.Prelude.{◌≡◌, List, IfOk, IfSome, IsTrue, Some, slice_get};
 ghost use Rattle.idl_names.specs.Files.{FileTree};
 ghost use Rattle.idl_names.specs.Targets.{definition_count};
 ghost use Rattle.idl_consts.specs.Knowing.{own_by, own_type, AreRows, IsOwnRow, IsSound};
 ghost use Rattle.idl_consts.specs.Meant.{meant_at};
-ghost use Rattle.idl_consts.specs.Views.{files_of};
+ghost use Rattle.idl_consts.specs.Views.{files_of, found_tree};
 
 use crate::row::ConstRow;
 use crate::same::{is_spot, same_meaning};
@@ -120,7 +119,7 @@ pub fn is_own(view: &View<'_, '_>, spot: Spot, ty: TypeRef<'_>) -> bool
 }
 
 fn own_ref<'d>(definition: Option<&'d Definition>, limit: usize, spot: Spot) -> Option<TypeRef<'d>>
-    ensures { (d : List FileTree) → limit ≡ definition_count d → IfSome result (λ t. meant_at d t ≡ own_by d spot (option_map definition_tree (option_copied definition.entry))) }
+    ensures { (d : List FileTree) → limit ≡ definition_count d → IfSome result (λ t. meant_at d t ≡ own_by d spot (found_tree definition.entry)) }
 {
     match definition {
         Some(Definition::Const(_, ty, _)) => Some(TypeRef {

@@ -2,7 +2,7 @@
 ghost use Rattle.std.specs.Prelude.{◌≡◌, ℕ, List, IsTrue};
 ghost use Rattle.idl_document.specs.Trees.{type_tree};
 ghost use Rattle.idl_names.specs.Files.{FileTree};
-ghost use Rattle.idl_consts.specs.Meant.{Meant, meant_at, meant_by, type_by};
+ghost use Rattle.idl_consts.specs.Meant.{meant_at, meant_by, type_by, NamedTypes};
 ghost use Rattle.idl_consts.specs.Views.{files_of};
 ghost use Rattle.idl_consts.specs.Words.{words_of, AreOneWord, IsSameRef};
 
@@ -57,7 +57,7 @@ pub fn is_spot(spot: Spot, other: Spot) -> bool
 /// Whether two types are the same word of the language.
 fn same_word(a: &TypeExpr, b: &TypeExpr) -> bool
     ensures word { AreOneWord (type_tree a.now) (type_tree b.now) → IsTrue result }
-    ensures meant { IsTrue result → ((named : ℕ → List ℕ → Meant) → (other : ℕ → List ℕ → Meant) → (file : ℕ) → (place : ℕ) → type_by named file (type_tree a.now) ≡ type_by other place (type_tree b.now)) }
+    ensures meant { IsTrue result → ((named other : NamedTypes) (file place : ℕ) → type_by named file (type_tree a.now) ≡ type_by other place (type_tree b.now)) }
 {
     match (&a.form, &b.form) {
         (TypeForm::Base(word), TypeForm::Base(other)) => *word == *other,
@@ -68,7 +68,7 @@ fn same_word(a: &TypeExpr, b: &TypeExpr) -> bool
 /// Whether two types are written in the same words.
 fn same_type(a: &TypeExpr, b: &TypeExpr) -> bool
     ensures words { words_of (type_tree a.now) ≡ words_of (type_tree b.now) → IsTrue result }
-    ensures meant { IsTrue result → ((named : ℕ → List ℕ → Meant) → (file : ℕ) → type_by named file (type_tree a.now) ≡ type_by named file (type_tree b.now)) }
+    ensures meant { IsTrue result → ((named : NamedTypes) (file : ℕ) → type_by named file (type_tree a.now) ≡ type_by named file (type_tree b.now)) }
 {
     match (&a.form, &b.form) {
         (TypeForm::Base(word), TypeForm::Base(other)) => *word == *other,

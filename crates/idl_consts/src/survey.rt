@@ -2,9 +2,9 @@
 ghost use Rattle.std.specs.Prelude.{◌≡◌, List, IfOk, [], ◌∷◌, map};
 ghost use Rattle.idl_document.specs.Items.{items_of_value};
 ghost use Rattle.idl_names.specs.Files.{FileTree};
-ghost use Rattle.idl_consts.specs.Course.{Context, course_from, answered, opened_list, opened_map, value_move, key_move, inner_move, item_move, offset_of, course};
+ghost use Rattle.idl_consts.specs.Course.{Context, answered, opened_list, opened_map, key_move, inner_move, item_move, offset_of, course};
 ghost use Rattle.idl_consts.specs.Meant.{meant_at, meant_by};
-ghost use Rattle.idl_consts.specs.Pieces.{chained, contexts, ending, item_of, context_of, move_of, course_of, key_meant, Takes};
+ghost use Rattle.idl_consts.specs.Pieces.{item_of, context_of, move_of, course_of, key_meant, Takes, Surveys, piece_move};
 ghost use Rattle.idl_consts.specs.Views.{files_of};
 
 use crate::fitting::{Answer, double_answer, literal_answer, named_answer, whole_answer};
@@ -35,7 +35,7 @@ pub struct Survey<'d> {
 
 /// What is asked for next in an open list, map or struct.
 #[derive(Clone, Copy)]
-pub enum Open<'d> {
+pub enum OpenValue<'d> {
     Elements(TypeRef<'d>),
     Keys(TypeRef<'d>, TypeRef<'d>),
     Values(TypeRef<'d>, TypeRef<'d>),
@@ -45,12 +45,12 @@ pub enum Open<'d> {
 
 /// What one piece leads to.
 #[derive(Clone, Copy)]
-pub enum Turn<'d> {
+pub enum SurveyStep<'d> {
     Fails(usize, ConstRow),
-    Reference(ConstRef<'d>, Open<'d>),
-    Goes(Open<'d>),
+    Reference(ConstRef<'d>, OpenValue<'d>),
+    Goes(OpenValue<'d>),
     /// The outer one and the inner one.
-    Opens(Open<'d>, Open<'d>),
+    Opens(OpenValue<'d>, OpenValue<'d>),
     Closes,
 }
 
@@ -68,7 +68,7 @@ pub fn survey_value<'d>(
     let mut pieces = Vec::new(alloc);
     append_pieces(value, &mut pieces)?;
     let mut levels = Vec::new(alloc);
-    levels.push(Open::Elements(ty))?;
+    levels.push(OpenValue::Elements(ty))?;
     let mut references = Vec::new(alloc);
     let fault = survey_pieces(view, file, pieces.as_slice(), &mut levels, &mut references)?;
     Ok(Survey { references, fault })
@@ -79,10 +79,10 @@ fn survey_pieces<'d>(
     view: &View<'_, 'd>,
     file: u32,
     pieces: &[Piece<'d>],
-    levels: &mut Vec<Open<'d>>,
+    levels: &mut Vec<OpenValue<'d>>,
     references: &mut Vec<ConstRef<'d>>,
 ) -> Result<Option<(usize, ConstRow)>, OutOfMemory>
-    ensures { let d = files_of view.now in IfOk result (λ fault. chained d references.new.items (ending fault) ≡ chained d references.old.items (course_from d file (contexts d levels.old.items) (map item_of pieces.now))) }
+    ensures { let d = files_of view.now in IfOk result (Surveys d file references.old.items levels.old.items pieces.now references.new.items) }
 {
     for piece in pieces {
         let Some(top) = levels.pop() else {
@@ -99,60 +99,78 @@ fn survey_pieces<'d>(
 
 /// Takes a turn: what is refused by it, or else the names and what is open behind it.
 fn take<'d>(
-    turn: Turn<'d>,
+    turn: SurveyStep<'d>,
     references: &mut Vec<ConstRef<'d>>,
-    levels: &mut Vec<Open<'d>>,
+    levels: &mut Vec<OpenValue<'d>>,
 ) -> Result<Option<(usize, ConstRow)>, OutOfMemory>
     ensures { IfOk result (λ fault. (d : List FileTree) → Takes d turn.entry references.old.items levels.old.items fault references.new.items levels.new.items) }
 {
     match turn {
-        Turn::Fails(at, row) => Ok(Some((at, row))),
-        Turn::Reference(reference, next) => {
+        SurveyStep::Fails(at, row) => Ok(Some((at, row))),
+        SurveyStep::Reference(reference, next) => {
             references.push(reference)?;
             levels.push(next)?;
             Ok(None)
         }
-        Turn::Goes(next) => {
+        SurveyStep::Goes(next) => {
             levels.push(next)?;
             Ok(None)
         }
-        Turn::Opens(outer, inner) => {
+        SurveyStep::Opens(outer, inner) => {
             levels.push(outer)?;
             levels.push(inner)?;
             Ok(None)
         }
-        Turn::Closes => Ok(None),
+        SurveyStep::Closes => Ok(None),
     }
 }
 
 /// What a piece leads to where `top` is the innermost that is open.
-fn turn_at<'d>(view: &View<'_, 'd>, file: u32, top: Open<'d>, piece: &Piece<'d>) -> Turn<'d>
+fn turn_at<'d>(
+    view: &View<'_, 'd>,
+    file: u32,
+    top: OpenValue<'d>,
+    piece: &Piece<'d>,
+) -> SurveyStep<'d>
     ensures { let d = files_of view.now in (up : List Context) → move_of d up result ≡ item_move d file (context_of d top.entry) up (item_of piece.now) }
 {
     match piece {
-        Piece::ListEnd | Piece::MapEnd => Turn::Closes,
+        Piece::ListEnd | Piece::MapEnd => SurveyStep::Closes,
         _ => inner_turn(view, file, top, piece),
     }
 }
 
-fn inner_turn<'d>(view: &View<'_, 'd>, file: u32, top: Open<'d>, piece: &Piece<'d>) -> Turn<'d>
+fn inner_turn<'d>(
+    view: &View<'_, 'd>,
+    file: u32,
+    top: OpenValue<'d>,
+    piece: &Piece<'d>,
+) -> SurveyStep<'d>
     ensures { let d = files_of view.now in (up : List Context) → move_of d up result ≡ inner_move d file (context_of d top.entry) up (item_of piece.now) }
 {
     match top {
-        Open::Elements(ty) => value_turn(view, file, ty, piece, Open::Elements(ty)),
-        Open::Keys(key, value) => { value_turn(view, file, key, piece, Open::Values(key, value)) }
-        Open::Values(key, value) => { value_turn(view, file, value, piece, Open::Keys(key, value)) }
-        Open::Names(spot) => { key_turn(key_answer(view, file, spot, piece), offset(piece), spot) }
-        Open::FieldValue(spot, ty) => { value_turn(view, file, ty, piece, Open::Names(spot)) }
+        OpenValue::Elements(ty) => value_turn(view, file, ty, piece, OpenValue::Elements(ty)),
+        OpenValue::Keys(key, value) => {
+            value_turn(view, file, key, piece, OpenValue::Values(key, value))
+        }
+        OpenValue::Values(key, value) => {
+            value_turn(view, file, value, piece, OpenValue::Keys(key, value))
+        }
+        OpenValue::Names(spot) => {
+            key_turn(key_answer(view, file, spot, piece), offset(piece), spot)
+        }
+        OpenValue::FieldValue(spot, ty) => {
+            value_turn(view, file, ty, piece, OpenValue::Names(spot))
+        }
     }
 }
 
-fn key_turn<'d>(key: Result<TypeRef<'d>, ConstRow>, at: usize, spot: Spot) -> Turn<'d>
+fn key_turn<'d>(key: Result<TypeRef<'d>, ConstRow>, at: usize, spot: Spot) -> SurveyStep<'d>
     ensures { (d : List FileTree) → (up : List Context) → move_of d up result ≡ key_move (key_meant d key.entry) at spot up }
 {
     match key {
-        Ok(ty) => Turn::Goes(Open::FieldValue(spot, ty)),
-        Err(row) => Turn::Fails(at, row),
+        Ok(ty) => SurveyStep::Goes(OpenValue::FieldValue(spot, ty)),
+        Err(row) => SurveyStep::Fails(at, row),
     }
 }
 
@@ -176,9 +194,9 @@ fn value_turn<'d>(
     file: u32,
     ty: TypeRef<'d>,
     piece: &Piece<'d>,
-    next: Open<'d>,
-) -> Turn<'d>
-    ensures { let d = files_of view.now in (up : List Context) → move_of d up result ≡ value_move d file (meant_at d ty.entry) (context_of d next.entry ∷ up) (item_of piece.now) }
+    next: OpenValue<'d>,
+) -> SurveyStep<'d>
+    ensures { let d = files_of view.now in (up : List Context) → move_of d up result ≡ piece_move d file ty.entry next.entry up piece.now }
 {
     let shape = resolve(view, ty);
     match piece {
@@ -190,35 +208,40 @@ fn value_turn<'d>(
         }
         Piece::ListBegin(at) => list_turn(shape, *at, next),
         Piece::MapBegin(at) => map_turn(shape, *at, next),
-        Piece::ListEnd | Piece::MapEnd => Turn::Goes(next),
+        Piece::ListEnd | Piece::MapEnd => SurveyStep::Goes(next),
     }
 }
 
-fn answer_turn<'d>(answer: Answer, at: usize, ty: TypeRef<'d>, next: Open<'d>) -> Turn<'d>
+fn answer_turn<'d>(
+    answer: Answer,
+    at: usize,
+    ty: TypeRef<'d>,
+    next: OpenValue<'d>,
+) -> SurveyStep<'d>
     ensures { (d : List FileTree) → (up : List Context) → move_of d up result ≡ answered answer at (meant_at d ty.entry) (context_of d next.entry ∷ up) }
 {
     match answer {
-        Answer::Fits => Turn::Goes(next),
-        Answer::Refused(row) => Turn::Fails(at, row),
-        Answer::StandsFor(constant) => Turn::Reference(ConstRef { at, constant, ty }, next),
+        Answer::Fits => SurveyStep::Goes(next),
+        Answer::Refused(row) => SurveyStep::Fails(at, row),
+        Answer::StandsFor(constant) => SurveyStep::Reference(ConstRef { at, constant, ty }, next),
     }
 }
 
-fn list_turn<'d>(shape: Shape<'d>, at: usize, next: Open<'d>) -> Turn<'d>
+fn list_turn<'d>(shape: Shape<'d>, at: usize, next: OpenValue<'d>) -> SurveyStep<'d>
     ensures { (d : List FileTree) → (up : List Context) → move_of d up result ≡ opened_list (meant_by d shape.entry) at (context_of d next.entry ∷ up) }
 {
     match shape {
-        Shape::Sequence(element) => Turn::Opens(next, Open::Elements(element)),
-        _ => Turn::Fails(at, ConstRow::WrongForm),
+        Shape::Sequence(element) => SurveyStep::Opens(next, OpenValue::Elements(element)),
+        _ => SurveyStep::Fails(at, ConstRow::WrongForm),
     }
 }
 
-fn map_turn<'d>(shape: Shape<'d>, at: usize, next: Open<'d>) -> Turn<'d>
+fn map_turn<'d>(shape: Shape<'d>, at: usize, next: OpenValue<'d>) -> SurveyStep<'d>
     ensures { (d : List FileTree) → (up : List Context) → move_of d up result ≡ opened_map (meant_by d shape.entry) at (context_of d next.entry ∷ up) }
 {
     match shape {
-        Shape::Map(key, value) => Turn::Opens(next, Open::Keys(key, value)),
-        Shape::Struct(spot) => Turn::Opens(next, Open::Names(spot)),
-        _ => Turn::Fails(at, ConstRow::WrongForm),
+        Shape::Map(key, value) => SurveyStep::Opens(next, OpenValue::Keys(key, value)),
+        Shape::Struct(spot) => SurveyStep::Opens(next, OpenValue::Names(spot)),
+        _ => SurveyStep::Fails(at, ConstRow::WrongForm),
     }
 }

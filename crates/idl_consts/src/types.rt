@@ -3,7 +3,7 @@ ghost use Rattle.std.specs.Prelude.{◌≡◌, ◌+◌, List, option_copied, opt
 ghost use Rattle.idl_document.specs.Trees.{definition_tree, type_tree};
 ghost use Rattle.idl_names.specs.Files.{FileTree};
 ghost use Rattle.idl_consts.specs.Meant.{definition_of, type_by, named_type, meant_at, meant_by, meant_next, left_below, defined_type};
-ghost use Rattle.idl_consts.specs.Views.{files_of};
+ghost use Rattle.idl_consts.specs.Views.{files_of, found_tree};
 
 use crate::view::View;
 use idl_document::{BaseWord, Definition, TypeExpr, TypeForm};
@@ -114,7 +114,7 @@ fn resolved<'d>(view: &View<'_, 'd>, spot: Spot, left: usize) -> Step<'d>
 }
 
 fn defined<'d>(spot: Spot, definition: Option<&'d Definition>, left: usize) -> Step<'d>
-    ensures meant { (d : List FileTree) → meant_next d result ≡ defined_type (named_type d left) spot (option_map definition_tree (option_copied definition.entry)) }
+    ensures meant { (d : List FileTree) → meant_next d result ≡ defined_type (named_type d left) spot (found_tree definition.entry) }
     ensures fewer { left_below (left + 1) result }
 {
     match definition {

@@ -14,9 +14,13 @@ Gives view (Err (errors.Idl fault)) given = given ≡ Err fault
 Gives view (Err errors.FileFault) given = ⊤
 Gives view (Err errors.OutOfMemory) given = ⊤
 
--- what is true for what the files hold under each name, where they tell it
-abbrev pub WhereTold : Option (List ℕ → Option (List ℕ)) → ((List ℕ → Option (List ℕ)) → Type 0) → Type 0
-WhereTold told means = (holds : List ℕ → Option (List ℕ)) → told ≡ Some holds → means holds
+-- what files hold under each name
+abbrev pub Contents : Type 0
+Contents = List ℕ → Option (List ℕ)
+
+-- what is true for what the files hold, where they tell it
+abbrev pub WhereTold : Option Contents → (Contents → Type 0) → Type 0
+WhereTold told means = (holds : Contents) → told ≡ Some holds → means holds
 
 -- the answer of a call that leaves these files
 abbrev pub LeavesFiles : {X : Type 0} → List FileDoc → Result X LoadError → Result (List FileTree) IdlFault → Type 0
@@ -25,6 +29,13 @@ LeavesFiles files result given = Gives (λ x. file_trees files) result given
 -- likewise, beside what it returned
 abbrev pub LeavesBeside : {X : Type 0} → List FileDoc → Result X LoadError → Result (List FileTree × X) IdlFault → Type 0
 LeavesBeside files result given = Gives (λ x. (file_trees files, x)) result given
+
+-- a call leaves these files, and answers what is meant for what the files hold, where they tell it
+abbrev pub TellsFiles : {X : Type 0} → Option Contents → List FileDoc → Result X LoadError → (Contents → Result (List FileTree) IdlFault) → Type 0
+TellsFiles told files result given = WhereTold told (λ holds. LeavesFiles files result (given holds))
+
+abbrev pub TellsBeside : {X : Type 0} → Option Contents → List FileDoc → Result X LoadError → (Contents → Result (List FileTree × X) IdlFault) → Type 0
+TellsBeside told files result given = WhereTold told (λ holds. LeavesBeside files result (given holds))
 
 -- a refusal is the one that was meant, want of memory aside
 abbrev pub Refuses : LoadError → IdlFault → Type 0

@@ -4,7 +4,7 @@ ghost use Rattle.idl_parser.specs.Documents.{parsed};
 ghost use Rattle.idl_document.specs.Trees.{document_tree};
 ghost use Rattle.idl_names.specs.Files.{file_trees};
 ghost use Rattle.idl_names.specs.Meaning.{HasFewDefinitions};
-ghost use Rattle.idl_files.specs.Answers.{AllBelow, AllWhole, Extends, Gives, HasCause, IsNoFileFault, LeavesBeside, LeavesFiles, WhereTold};
+ghost use Rattle.idl_files.specs.Answers.{AllBelow, AllWhole, Extends, Gives, HasCause, IsNoFileFault, LeavesBeside, WhereTold, TellsFiles, TellsBeside};
 ghost use Rattle.idl_files.specs.Listing.{place_of};
 ghost use Rattle.idl_files.specs.Walk.{document_by, document_of, included, is_full, known_by, loaded, mentioned, opened, walked};
 
@@ -55,7 +55,7 @@ fn load<F: Files>(
     levels: usize,
 ) -> Result<(), LoadError>
     requires { place_of name.now (file_trees list.old) ≡ None }
-    ensures exact { WhereTold (F.holds files.old) (λ holds. LeavesFiles list.new result (loaded holds levels (file_trees list.old) file.now at name.now)) }
+    ensures exact { TellsFiles (F.holds files.old) list.new result (λ holds. loaded holds levels (file_trees list.old) file.now at name.now) }
     ensures extends { OnOk result (Extends (file_trees list.old) (file_trees list.new)) }
     ensures grows { OnOk result (length list.old < length list.new) }
     ensures same { F.holds files.new ≡ F.holds files.old }
@@ -135,7 +135,7 @@ fn open<F: Files>(
     requires room { length list.old < MOST_FILES }
     requires new { place_of name.now (file_trees list.old) ≡ None }
     requires few { length document.definitions < 2 ^ 32 }
-    ensures exact { WhereTold (F.holds files.old) (λ holds. LeavesFiles list.new result (opened (loaded holds levels) (file_trees list.old) name.now (document_tree document))) }
+    ensures exact { TellsFiles (F.holds files.old) list.new result (λ holds. opened (loaded holds levels) (file_trees list.old) name.now (document_tree document)) }
     ensures extends { OnOk result (Extends (file_trees list.old) (file_trees list.new)) }
     ensures grows { OnOk result (length list.old < length list.new) }
     ensures same { F.holds files.new ≡ F.holds files.old }
@@ -160,7 +160,7 @@ fn include_all<F: Files>(
     mentions: &[Mention],
     levels: usize,
 ) -> Result<Seq<u32>, LoadError>
-    ensures exact { WhereTold (F.holds files.old) (λ holds. LeavesBeside list.new result (included (loaded holds levels) file.now mentions.now (file_trees list.old) [])) }
+    ensures exact { TellsBeside (F.holds files.old) list.new result (λ holds. included (loaded holds levels) file.now mentions.now (file_trees list.old) []) }
     ensures all { IfOk result (λ places. (length places ≡ length mentions.now) × AllBelow (length (file_trees list.new)) places) }
     ensures extends { OnOk result (Extends (file_trees list.old) (file_trees list.new)) }
     ensures same { F.holds files.new ≡ F.holds files.old }
@@ -188,7 +188,7 @@ fn include<F: Files>(
     mention: &Mention,
     levels: usize,
 ) -> Result<u32, LoadError>
-    ensures exact { WhereTold (F.holds files.old) (λ holds. LeavesBeside list.new result (mentioned (loaded holds levels) (file_trees list.old) file.now mention.now)) }
+    ensures exact { TellsBeside (F.holds files.old) list.new result (λ holds. mentioned (loaded holds levels) (file_trees list.old) file.now mention.now) }
     ensures below { IfOk result (λ place. place < length list.new) }
     ensures extends { OnOk result (Extends (file_trees list.old) (file_trees list.new)) }
     ensures same { F.holds files.new ≡ F.holds files.old }

@@ -12,9 +12,14 @@ use Rattle.idl_rules.specs.declared.scopes.Scope.{Scope}
 use Rattle.idl_rules.specs.declared.scopes.Scope.TheVariants as scopes
 use Rattle.idl_names.specs.declared.documents.Spot.{Spot}
 use Rattle.idl_names.specs.Cycles.{cycle_at, is_absent, is_on}
-use Rattle.idl_names.specs.Files.{FileTree}
+use Rattle.idl_names.specs.declared.names.Names.{Names}
+use Rattle.idl_names.specs.Files.{FileTree, file_trees}
 use Rattle.idl_names.specs.Meaning.{meaning, spot_at}
 use Rattle.idl_names.specs.Targets.{TargetTree, written_in, enum_spot, struct_spot, target_of}
+
+-- the files that names are looked up in
+abbrev pub files_of : Names → List FileTree
+files_of names = file_trees names.files.now
 
 -- whether any scope has this name
 abbrev pub is_known : List FileTree → ℕ → List ℕ → Bool
@@ -69,8 +74,12 @@ abbrev pub is_refused : Bool → Bool → Bool
 is_refused true other = false
 is_refused false other = other
 
+-- whether what is thrown is known not to be an exception
+abbrev pub is_refused_type : List FileTree → List (List Cycle) → ℕ → TypeTree → Bool
+is_refused_type files told file ty = is_refused (is_round files told file ty) (is_other (target_of files file ty))
+
 abbrev pub thrown_refusals : List FileTree → List (List Cycle) → ℕ → TypeTree → List Refusal
-thrown_refusals files told file ty = when (is_refused (is_round files told file ty) (is_other (target_of files file ty))) (offset_of ty) rows.NotAnException
+thrown_refusals files told file ty = when (is_refused_type files told file ty) (offset_of ty) rows.NotAnException
 
 abbrev pub throws_refusals : List FileTree → List (List Cycle) → ℕ → List FieldTree → List Refusal
 throws_refusals files told file [] = []

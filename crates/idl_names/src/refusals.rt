@@ -2,9 +2,7 @@
 ghost use Rattle.std.specs.Prelude.{◌≡◌, ◌<◌, ◌^◌, length, if◌then◌else◌, option_map};
 ghost use Rattle.idl_document.specs.Trees.{definition_tree, definition_trees, function_tree, function_trees, field_trees, type_tree};
 ghost use Rattle.idl_rules.specs.Order.{lesser, least_of};
-ghost use Rattle.idl_names.specs.Files.{file_trees};
-ghost use Rattle.idl_names.specs.Refusals.{base_refusals, cycle_refusals, definition_refusals, definitions_refusals, fields_refusals, function_refusals, functions_refusals, is_known, is_other, is_refused, is_round, leads_round, name_refusals, returned_refusals, throws_refusals, thrown_refusals, type_refusals, word_refusals};
-ghost use Rattle.idl_names.specs.Targets.{target_of};
+ghost use Rattle.idl_names.specs.Refusals.{base_refusals, cycle_refusals, definition_refusals, definitions_refusals, fields_refusals, function_refusals, functions_refusals, is_known, is_other, is_refused, is_round, leads_round, name_refusals, returned_refusals, throws_refusals, thrown_refusals, type_refusals, word_refusals, is_refused_type, files_of};
 ghost use Rattle.idl_names.specs.Told.{target_tree};
 
 use crate::cycles::Cycles;
@@ -25,7 +23,7 @@ fn check_word(
     word: &[u8],
     least: &mut Least,
 )
-    ensures { least.new ≡ lesser least.old (least_of (word_refusals (file_trees names.now.files.now) file scope row at word.now)) }
+    ensures { least.new ≡ lesser least.old (least_of (word_refusals (files_of names.now) file scope row at word.now)) }
 {
     let refused = names.look_up(file, scope, word).is_none();
     let row = absent_row(names, file, row, word);
@@ -33,7 +31,7 @@ fn check_word(
 }
 
 fn absent_row(names: &Names<'_>, file: u32, row: IdlRow, word: &[u8]) -> IdlRow
-    ensures { result ≡ (if is_known (file_trees names.now.files.now) file word.now then row else IdlRow.UnknownName) }
+    ensures { result ≡ (if is_known (files_of names.now) file word.now then row else IdlRow.UnknownName) }
 {
     if is_known(names, file, word) {
         row
@@ -43,7 +41,7 @@ fn absent_row(names: &Names<'_>, file: u32, row: IdlRow, word: &[u8]) -> IdlRow
 }
 
 fn is_known(names: &Names<'_>, file: u32, word: &[u8]) -> bool
-    ensures { result ≡ is_known (file_trees names.now.files.now) file word.now }
+    ensures { result ≡ is_known (files_of names.now) file word.now }
 {
     names.look_up(file, Scope::Types, word).is_some()
         || names.look_up(file, Scope::Constants, word).is_some()
@@ -51,7 +49,7 @@ fn is_known(names: &Names<'_>, file: u32, word: &[u8]) -> bool
 }
 
 fn check_type(names: &Names<'_>, file: u32, ty: &TypeExpr, least: &mut Least)
-    ensures { least.new ≡ lesser least.old (least_of (type_refusals (file_trees names.now.files.now) file (type_tree ty.now))) }
+    ensures { least.new ≡ lesser least.old (least_of (type_refusals (files_of names.now) file (type_tree ty.now))) }
 {
     match &ty.form {
         TypeForm::Base(_) => {}
@@ -77,7 +75,7 @@ fn check_type(names: &Names<'_>, file: u32, ty: &TypeExpr, least: &mut Least)
 }
 
 fn check_fields(names: &Names<'_>, file: u32, fields: &[FieldDecl], least: &mut Least)
-    ensures { least.new ≡ lesser least.old (least_of (fields_refusals (file_trees names.now.files.now) file (field_trees fields.now))) }
+    ensures { least.new ≡ lesser least.old (least_of (fields_refusals (files_of names.now) file (field_trees fields.now))) }
 {
     for field in fields {
         check_type(names, file, &field.ty, least);
@@ -85,7 +83,7 @@ fn check_fields(names: &Names<'_>, file: u32, fields: &[FieldDecl], least: &mut 
 }
 
 fn is_round(names: &Names<'_>, cycles: &Cycles, file: u32, ty: &TypeExpr) -> bool
-    ensures { result ≡ is_round (file_trees names.now.files.now) cycles.now file (type_tree ty.now) }
+    ensures { result ≡ is_round (files_of names.now) cycles.now file (type_tree ty.now) }
 {
     match &ty.form {
         TypeForm::Named(word) => leads_round(
@@ -123,7 +121,7 @@ fn is_other(target: Option<Target<'_>>) -> bool
 
 // Only an exception is thrown.
 fn is_refused(names: &Names<'_>, cycles: &Cycles, file: u32, ty: &TypeExpr) -> bool
-    ensures { let d = file_trees names.now.files.now in let t = type_tree ty.now in result ≡ is_refused (is_round d cycles.now file t) (is_other (target_of d file t)) }
+    ensures { result ≡ is_refused_type (files_of names.now) cycles.now file (type_tree ty.now) }
 {
     if is_round(names, cycles, file, ty) {
         false
@@ -133,7 +131,7 @@ fn is_refused(names: &Names<'_>, cycles: &Cycles, file: u32, ty: &TypeExpr) -> b
 }
 
 fn check_thrown(names: &Names<'_>, cycles: &Cycles, file: u32, ty: &TypeExpr, least: &mut Least)
-    ensures { least.new ≡ lesser least.old (least_of (thrown_refusals (file_trees names.now.files.now) cycles.now file (type_tree ty.now))) }
+    ensures { least.new ≡ lesser least.old (least_of (thrown_refusals (files_of names.now) cycles.now file (type_tree ty.now))) }
 {
     let refused = is_refused(names, cycles, file, ty);
     least.note_when(refused, ty.at, IdlRow::NotAnException);
@@ -146,7 +144,7 @@ fn check_throws(
     fields: &[FieldDecl],
     least: &mut Least,
 )
-    ensures { least.new ≡ lesser least.old (least_of (throws_refusals (file_trees names.now.files.now) cycles.now file (field_trees fields.now))) }
+    ensures { least.new ≡ lesser least.old (least_of (throws_refusals (files_of names.now) cycles.now file (field_trees fields.now))) }
 {
     for field in fields {
         check_type(names, file, &field.ty, least);
@@ -155,7 +153,7 @@ fn check_throws(
 }
 
 fn check_returned(names: &Names<'_>, file: u32, function: &Function, least: &mut Least)
-    ensures { least.new ≡ lesser least.old (least_of (returned_refusals (file_trees names.now.files.now) file (function_tree function.now).returns)) }
+    ensures { least.new ≡ lesser least.old (least_of (returned_refusals (files_of names.now) file (function_tree function.now).returns)) }
 {
     if let Some(ty) = &function.returns {
         check_type(names, file, ty, least);
@@ -169,7 +167,7 @@ fn check_function(
     function: &Function,
     least: &mut Least,
 )
-    ensures { least.new ≡ lesser least.old (least_of (function_refusals (file_trees names.now.files.now) cycles.now file (function_tree function.now))) }
+    ensures { least.new ≡ lesser least.old (least_of (function_refusals (files_of names.now) cycles.now file (function_tree function.now))) }
 {
     check_returned(names, file, function, least);
     check_fields(names, file, function.args.as_slice(), least);
@@ -183,7 +181,7 @@ fn check_functions(
     functions: &[Function],
     least: &mut Least,
 )
-    ensures { least.new ≡ lesser least.old (least_of (functions_refusals (file_trees names.now.files.now) cycles.now file (function_trees functions.now))) }
+    ensures { least.new ≡ lesser least.old (least_of (functions_refusals (files_of names.now) cycles.now file (function_trees functions.now))) }
 {
     for function in functions {
         check_function(names, cycles, file, function, least);
@@ -191,7 +189,7 @@ fn check_functions(
 }
 
 fn check_base(names: &Names<'_>, file: u32, base: &Option<Name>, least: &mut Least)
-    ensures { least.new ≡ lesser least.old (least_of (base_refusals (file_trees names.now.files.now) file base.now)) }
+    ensures { least.new ≡ lesser least.old (least_of (base_refusals (files_of names.now) file base.now)) }
 {
     if let Some(name) = base {
         let word = name.text.as_slice();
@@ -221,7 +219,7 @@ fn check_definition(
     definition: &Definition,
     least: &mut Least,
 )
-    ensures { let d = file_trees names.now.files.now in least.new ≡ lesser least.old (least_of (definition_refusals d cycles.now spot (definition_tree definition.now))) }
+    ensures { least.new ≡ lesser least.old (least_of (definition_refusals (files_of names.now) cycles.now spot (definition_tree definition.now))) }
 {
     match definition {
         Definition::Const(_, ty, _) => check_type(names, spot.file, ty, least),
@@ -252,7 +250,7 @@ fn check_definitions(
     least: &mut Least,
 )
     requires { length definitions.now < 2 ^ 32 }
-    ensures { let d = file_trees names.now.files.now in least.new ≡ lesser least.old (least_of (definitions_refusals d cycles.now file 0 (definition_trees definitions.now))) }
+    ensures { least.new ≡ lesser least.old (least_of (definitions_refusals (files_of names.now) cycles.now file 0 (definition_trees definitions.now))) }
 {
     for (place, definition) in definitions.iter().enumerate() {
         let spot = Spot {
@@ -268,7 +266,7 @@ fn check_definitions(
 ///
 /// A thrown type is not asked for where it leads into a cycle or has no meaning, which is refused by itself.
 pub fn check_names(names: &Names<'_>, cycles: &Cycles, file: u32, least: &mut Least)
-    ensures { least.new ≡ lesser least.old (least_of (name_refusals (file_trees names.now.files.now) cycles.now file)) }
+    ensures { least.new ≡ lesser least.old (least_of (name_refusals (files_of names.now) cycles.now file)) }
 {
     if let Some(found) = file_at(names.files, file) {
         check_definitions(

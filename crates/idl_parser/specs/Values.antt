@@ -38,10 +38,14 @@ list_of inner edge tokens =
     onward n (mark_at square_close edge (drop n tokens)) λ u n.
     Ok (list_begin (offset_of edge tokens) ∷ (items ++ list_end ∷ []), n)
 
+-- pairs as long as the map is not closed
+abbrev pub pairs_of : Inner → ℕ → List Seen → Scan (List ValueItem)
+pairs_of inner edge tokens = run (not_closed curly_close) (pair_of inner edge) edge tokens 0
+
 -- behind the mark that opens a map
 unfoldable pub map_of : Inner → ℕ → List Seen → Scan (List ValueItem)
 map_of inner edge tokens =
-    onward 1 (run (not_closed curly_close) (pair_of inner edge) edge (drop 1 tokens) 0) λ items n.
+    onward 1 (pairs_of inner edge (drop 1 tokens)) λ items n.
     onward n (mark_at curly_close edge (drop n tokens)) λ u n.
     Ok (map_begin (offset_of edge tokens) ∷ (items ++ map_end ∷ []), n)
 

@@ -2,10 +2,10 @@
 ghost use Rattle.std.specs.Prelude.{◌≡◌, ◌≤◌, ◌<◌, ◌-◌, length};
 ghost use Rattle.idl_document.specs.Items.{items_of_value, items_of_pair};
 ghost use Rattle.idl_parser.specs.Lexemes.{Gives, IsWithin, IsUpTo, itself};
-ghost use Rattle.idl_parser.specs.Marks.{curly_close, square_close};
+ghost use Rattle.idl_parser.specs.Marks.{square_close};
 ghost use Rattle.idl_parser.specs.Notes.{not_closed};
 ghost use Rattle.idl_parser.specs.Run.{run};
-ghost use Rattle.idl_parser.specs.Values.{value_at, value_step, list_of, map_of, element_of, pair_of, key_at};
+ghost use Rattle.idl_parser.specs.Values.{value_at, value_step, list_of, map_of, element_of, pair_of, key_at, pairs_of};
 
 use crate::fault::{Fault, Stop};
 use crate::marks::{mark_at, sep_len};
@@ -147,7 +147,7 @@ fn map_of(alloc: Global, tokens: &Tokens<'_>, levels: usize) -> Result<(ValueExp
 fn pairs(alloc: Global, tokens: &Tokens<'_>, levels: usize) -> Result<(PairList, usize), Stop>
     requires level { 0 < levels }
     ensures within { IsUpTo (length tokens.now.list) result }
-    ensures exact { let inner = value_at (levels - 1) tokens.now.edge in Gives itself result (run (not_closed curly_close) (pair_of inner tokens.now.edge) tokens.now.edge tokens.now.list 0) }
+    ensures exact { Gives itself result (pairs_of (value_at (levels - 1) tokens.now.edge) tokens.now.edge tokens.now.list) }
 {
     let mut list = PairList::new(alloc);
     let mut n = 0;

@@ -9,7 +9,7 @@ use Rattle.idl_names.specs.Files.{FileTree}
 use Rattle.idl_names.specs.Targets.{TargetTree, written_in, enum_spot, struct_spot, definition_at}
 use Rattle.idl_schema.specs.declared.numbers.First.{First}
 use Rattle.idl_schema.specs.Numbers.{first_of}
-use Rattle.idl_schema.specs.Types.{plain_ty}
+use Rattle.idl_schema.specs.Types.{plain_ty, ty_in}
 
 -- the number of the enum, or of the struct, that stands at a spot
 abbrev pub IsEnum : Ty → Option First → Type 0
@@ -36,3 +36,7 @@ module _ (files : List FileTree) (file base : ℕ) (tree : TypeTree) where
   IsMeant ty (enum_spot spot) = IsEnum ty (first_of files spot)
   IsMeant ty (struct_spot kin spot) = IsStruct ty (first_of files spot)
   IsMeant ty (written_in place written) = ((place ≡ file) × (written ≡ tree) × (ty ≡ plain_ty base tree)) ⊎ IsAliased files ty place written
+
+  -- the type that the expression has in the schema means this
+  abbrev pub HasMeaning : TargetTree → Type 0
+  HasMeaning t = IsMeant (ty_in files file base tree) t

@@ -20,6 +20,7 @@ use Rattle.idl_schema.specs.Fields.{fields_from, fields_types, form_of}
 use Rattle.idl_schema.specs.Methods.{methods_from, methods_structs, methods_types}
 use Rattle.idl_schema.specs.Numbers.{after, after_all, first_of}
 use Rattle.idl_schema.specs.Types.{part_types, ty_in}
+use Rattle.idl_schema.specs.Adding.{firsts}
 
 -- in the order of the numbers
 pub record Share : Type 0 where
@@ -100,6 +101,10 @@ service_share files file n name base functions = record {
   services = record { base = base_of files file base; methods = methods_from n.structs functions } ∷ [];
   names = with_name [] name (number n.services);
 }
+
+-- with a service behind all that there is
+abbrev pub with_service : Declarations → List FileTree → ℕ → Option (List ℕ) → Option Name → List FunctionTree → Declarations
+with_service d files file name base functions = with_share d (service_share files file (firsts d) name base functions)
 
 -- what a definition of the file at this place adds, where these are the first numbers
 abbrev pub share : List FileTree → ℕ → First → DefinitionTree → Share

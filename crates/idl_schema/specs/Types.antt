@@ -1,5 +1,5 @@
 -- What a type of the text means.
-use Rattle.std.specs.Prelude.{ℕ, zero, suc, ◌+◌, List, [], ◌∷◌, ◌++◌, length, Option, Some, None}
+use Rattle.std.specs.Prelude.{◌≡◌, ℕ, zero, suc, ◌+◌, List, [], ◌∷◌, ◌++◌, length, Option, Some, None}
 use Rattle.idl_document.specs.declared.document.BaseWord.{BaseWord}
 use Rattle.idl_document.specs.declared.document.BaseWord.TheVariants as words
 use Rattle.idl_document.specs.Trees.{DefinitionTree, typedef_of, enum_of, struct_of, TypeTree, base_at, named_at, map_at, set_at, list_at, type_tree}
@@ -97,6 +97,10 @@ element_types ty base element = ty (base + 1) element ∷ part_types ty (base + 
 abbrev pub pair_types : (ℕ → TypeTree → Ty) → ℕ → TypeTree → TypeTree → List Ty
 pair_types ty base key value =
     ty (base + 2) key ∷ ty (base + 2 + parts key) value ∷ (part_types ty (base + 2) key ++ part_types ty (base + 2 + parts key) value)
+
+-- the types of a map's key and value, where the first of its parts has this number
+abbrev pub AreWithin : (ℕ → TypeTree → Ty) → ℕ → TypeTree → TypeTree → Ty × Ty → Type 0
+AreWithin ty base key value tys = (tys.0 ≡ ty (base + 2) key) × (tys.1 ≡ ty (base + 2 + parts key) value)
 
 -- with these types behind the parts that there are
 module _ (ty : ℕ → TypeTree → Ty) (d : Declarations) where

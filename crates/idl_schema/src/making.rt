@@ -9,7 +9,7 @@ ghost use Rattle.type_tables.specs.Declarations.{with_enum, with_files};
 ghost use Rattle.idl_schema.specs.Adding.{firsts};
 ghost use Rattle.idl_schema.specs.Fields.{form_of};
 ghost use Rattle.idl_schema.specs.Schema.{declarations_of};
-ghost use Rattle.idl_schema.specs.Shares.{share, shares, files_shares, with_share, service_share, prefix_of, root_name};
+ghost use Rattle.idl_schema.specs.Shares.{share, shares, files_shares, with_share, prefix_of, root_name, with_service};
 ghost use Rattle.idl_schema.specs.Indexes.{files_of};
 
 use crate::fields::add_fields;
@@ -216,7 +216,7 @@ fn add_service(
     base: &Option<Name>,
     functions: &[Function],
 ) -> Result<(), OutOfMemory>
-    ensures { let first = firsts builder.old in OnOk result (builder.new ≡ with_share builder.old (service_share (files_of index.now) file first name base.now (function_trees functions.now))) }
+    ensures { OnOk result (builder.new ≡ with_service builder.old (files_of index.now) file name base.now (function_trees functions.now)) }
 {
     let first = small(builder.struct_count())?;
     if !builder.has_room() {

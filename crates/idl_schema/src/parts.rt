@@ -3,7 +3,7 @@ ghost use Rattle.std.specs.Prelude.{◌≡◌, IfOk, OnOk, length};
 ghost use Rattle.idl_document.specs.Trees.{type_tree};
 ghost use Rattle.type_tables.specs.Declarations.{with_type, with_fields};
 ghost use Rattle.idl_schema.specs.Indexes.{files_of};
-ghost use Rattle.idl_schema.specs.Types.{with_parts, with_pair, with_element, ty_in};
+ghost use Rattle.idl_schema.specs.Types.{with_parts, with_pair, with_element, ty_in, AreWithin};
 
 use crate::index::SchemaIndex;
 use crate::numbers::{parts, small, sum};
@@ -58,14 +58,29 @@ fn add_pair(
 ) -> Result<(), OutOfMemory>
     ensures { OnOk result (builder.new ≡ with_pair (ty_in (files_of index.now) file) builder.old (type_tree key.now) (type_tree value.now)) }
 {
-    let inner = sum(next_part(builder)?, 2)?;
+    let base = next_part(builder)?;
+    let found = types_within(index, file, base, key, value)?;
+    add_part(builder, found.0)?;
+    add_part(builder, found.1)?;
+    add_parts(builder, index, file, key)?;
+    add_parts(builder, index, file, value)
+}
+
+// The types of a map's key and value, where `base` is the number of the first of its parts.
+fn types_within(
+    index: &SchemaIndex<'_, '_>,
+    file: u32,
+    base: u32,
+    key: &TypeExpr,
+    value: &TypeExpr,
+) -> Result<(Ty, Ty), OutOfMemory>
+    ensures { IfOk result (AreWithin (ty_in (files_of index.now) file) base (type_tree key.now) (type_tree value.now)) }
+{
+    let inner = sum(base, 2)?;
     let behind = sum(inner, parts(key)?)?;
     let key_ty = index.type_of(file, inner, key)?;
     let value_ty = index.type_of(file, behind, value)?;
-    add_part(builder, key_ty)?;
-    add_part(builder, value_ty)?;
-    add_parts(builder, index, file, key)?;
-    add_parts(builder, index, file, value)
+    Ok((key_ty, value_ty))
 }
 
 // The type within a set or a list, and its parts.

@@ -5,20 +5,12 @@ use Rattle.std.proofs.lemmas.Bool.Decides.{nat_tests}
 use Rattle.json_text.specs.declared.scanned.Scan.TheVariants.{Short, Bad}
 use Rattle.json_text.specs.Int.{is_int_byte, integer, within, can_grow, run_scan, int_run, int_at}
 use Rattle.json_text.specs.Grammar.{AreDigits, IsCounting, value_from, value_of, negated, SpellsInt}
-use Rattle.json_text_laws.specs.Judged.{NoneGood, Judges, GoodInt}
+use Rattle.json_text_laws.specs.Judged.{NoneGood, Judges, GoodInt, IsRange}
 use Rattle.json_text_laws.proofs.Choices.{cond_none, cond_false, either_way}
 use Rattle.json_text_laws.proofs.Fronts.{Full, Stops, full_or_stops}
 use Rattle.json_text_laws.proofs.Integers.{Fits64, int_sound, int_found, grows, counting_some}
 
--- the range of an integer's kind
-pub record Range (low high : ℤ) : Type 0 where
-  pub least : negsuc 9223372036854775807 ≤ℤ low
-  pub most : high ≤ℤ pos 9223372036854775807
-  pub one : low ≤ℤ pos 1
-  pub none : pos 0 ≤ℤ high
-  pub some : low ≤ℤ high
-
-module _ (low high : ℤ) (range : Range low high) where
+module _ (low high : ℤ) (range : IsRange low high) where
   fits : (z : ℤ) → low ≤ℤ z → z ≤ℤ high → Fits64 z
   fits z p q = let l = range.least in let m = range.most in (grind (arith, nat_tests), grind (arith, nat_tests))
 

@@ -1,5 +1,5 @@
 -- What a scan has to tell of a word: it is good, or some continuation makes it good, or none does.
-use Rattle.std.specs.Prelude.{◌≡◌, ℕ, ℤ, ◌≤ℤ◌, List, ◌++◌, length}
+use Rattle.std.specs.Prelude.{◌≡◌, ℕ, ℤ, pos, negsuc, ◌≤ℤ◌, List, ◌++◌, length}
 use Rattle.json_text.specs.declared.scanned.Scan.{Scan}
 use Rattle.json_text.specs.declared.scanned.Scan.TheVariants.{Whole, Short, Bad}
 use Rattle.json_text.specs.Int.{int_run}
@@ -18,6 +18,21 @@ abbrev pub Judges : {X : Type 0} → Good X → List ℕ → Scan X → Type 0
 Judges good bytes (Whole x after) = good bytes x after
 Judges {X} good bytes Short = NoneGood good bytes × ((more : List ℕ) × (x : X) × (after : ℕ) × good (bytes ++ more) x after)
 Judges good bytes (Bad place) = (place ≡ 0) × ((more : List ℕ) → NoneGood good (bytes ++ more))
+
+-- the least and the greatest integer of 64 bits
+abbrev pub least_i64 : ℤ
+least_i64 = negsuc 9223372036854775807
+
+abbrev pub greatest_i64 : ℤ
+greatest_i64 = pos 9223372036854775807
+
+-- a range of integers of 64 bits, among them 0 or 1
+pub record IsRange (low high : ℤ) : Type 0 where
+  pub least : least_i64 ≤ℤ low
+  pub most : high ≤ℤ greatest_i64
+  pub one : low ≤ℤ pos 1
+  pub none : pos 0 ≤ℤ high
+  pub some : low ≤ℤ high
 
 -- the longest run of digits and `-` spells an integer of the range
 abbrev pub GoodInt : ℤ → ℤ → Good ℤ

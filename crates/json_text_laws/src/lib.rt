@@ -3,20 +3,19 @@
 //! Each law is the contract of a function that does nothing. The code rests on none of them.
 #![tactic(auto)]
 
-ghost use Rattle.std.specs.Prelude.{◌≡◌, ◌≤ℤ◌, pos, negsuc, ℕ, ℤ, List, ◌++◌};
+ghost use Rattle.std.specs.Prelude.{◌≡◌, ℕ, ℤ, List, ◌++◌};
 ghost use Rattle.json_text.specs.Int.{int_at};
 ghost use Rattle.json_text.specs.Blob.{blob_at};
 ghost use Rattle.json_text.specs.Text.{text_at};
 ghost use Rattle.json_text.specs.declared.scanned.Scan.TheVariants.{Bad};
 ghost use Rattle.json_text.specs.Number.{number_at};
-ghost use Rattle.json_text_laws.specs.Judged.{Judges, NoneGood, GoodInt, GoodNumber, GoodBlob, GoodText};
+ghost use Rattle.json_text_laws.specs.Judged.{Judges, NoneGood, GoodInt, GoodNumber, GoodBlob, GoodText, IsRange};
 ghost use Rattle.json_text_laws.specs.Strings.{JudgesText};
 
 /// An integer is read exactly where the longest run of digits and `-` spells one of the range. Else the scan is `Short`
 /// exactly where some continuation of the bytes makes it one.
 pub fn integers_are_judged()
-    ensures { (low high : ℤ) (bytes : List ℕ) → negsuc 9223372036854775807 ≤ℤ low → high ≤ℤ pos 9223372036854775807
-        → low ≤ℤ pos 1 → pos 0 ≤ℤ high → low ≤ℤ high → Judges (GoodInt low high) bytes (int_at low high bytes) }
+    ensures { (low high : ℤ) (bytes : List ℕ) → IsRange low high → Judges (GoodInt low high) bytes (int_at low high bytes) }
 {}
 
 /// A number is passed over exactly where the longest run of digits and `+ - . e E` is a number of RFC 8259. Else the scan is

@@ -91,6 +91,10 @@ kind_text kind = codes " " ++ kind_word kind ++ codes " "
 unfoldable pub field_text : ℤ → Option (List ℕ) → Kind → List ℕ
 field_text id name kind = signed_decimal id ++ name_text name ++ kind_text kind
 
+-- the same behind the mark that stands before it
+abbrev pub field_piece : Slot → Bool → ℤ → Option FieldInfo → Kind → List ℕ
+field_piece level first id info kind = mark_before first (Some level) ++ field_text id (field_name info) kind
+
 -- {KEY,VALUE|
 unfoldable pub map_text : Kind → Kind → List ℕ
 map_text key value = codes "{" ++ kind_word key ++ codes "," ++ kind_word value ++ codes "| "

@@ -17,7 +17,7 @@ use Rattle.protocol_traits.specs.Steps.{Step}
 use Rattle.translate_core.specs.declared.route.Route.TheVariants.{ByName}
 use Rattle.translate_core.specs.Positions.{typed}
 use Rattle.translate_core.specs.Routes.{start_of}
-use Rattle.translate_core.specs.Body.{Source, Target, Ended, going, whole}
+use Rattle.translate_core.specs.Body.{Source, Target, Ended, going, whole, source_of}
 use Rattle.protocol_pairs.specs.Pairs.{binary_source, compact_source, json_source}
 use Rattle.message_show.specs.declared.showing.Shown.{Shown}
 use Rattle.message_show.specs.declared.showing.Shown.TheVariants as shown_as
@@ -27,6 +27,7 @@ use Rattle.message_show.specs.Line.{Levels, begun, after, item_text, head_text, 
 use Rattle.gate_base.specs.Causes.{Rose}
 use Rattle.gate_io.specs.Fronts.{AppendsFront}
 use Rattle.message_show.specs.Pieces.{Output}
+use Rattle.protocol_traits.specs.declared.traits.ReadRules.{Ghosts as ReadRules}
 
 -- where the next item stands
 pub record Place : Type 0 where
@@ -123,3 +124,21 @@ abbrev pub HasLine : Showing → Type 0
 HasLine (Line text) = ⊤
 HasLine (Refused f) = ⊥
 HasLine (Unread f) = ⊥
+
+-- ---- by the rules of any reader
+
+abbrev pub source_in : {S : Type 0} → ReadRules S → Source S
+source_in rules = source_of rules.begun rules.reads_head rules.reads rules.reads_end rules.value_place rules.ahead
+
+-- what is shown of a frame; names without a service before them are those of this service
+abbrev pub shown_in : {S : Type 0} → ReadRules S → Declarations → Option ServiceId → List ℕ → Showing
+shown_in rules d service frame = shown_by (source_in rules) (start_of d (ByName service)) frame
+
+-- a pass through the frame found this
+abbrev pub Finds : {S : Type 0} → ReadRules S → Declarations → Option ServiceId → List ℕ → Checked → Type 0
+Finds rules d service frame found = IsChecked found (shown_in rules d service frame)
+
+-- a pass through a body from a position on found this, whatever was told before
+abbrev pub FindsBody : {S : Type 0} → ReadRules S → S → Position → Checked → Type 0
+FindsBody rules reader position found =
+    (told : List ℕ) → IsChecked found (after_body (source_in rules) (body_from (source_in rules) reader position told))

@@ -1,12 +1,20 @@
 -- What a turn through a body does: items are read, and their texts are told.
-use Rattle.std.specs.Prelude.{◌≡◌, ℕ, List, ◌++◌, length, Bool, None, Result, Ok, Err}
+use Rattle.std.specs.Prelude.{◌≡◌, ⊤, ℕ, suc, List, [], ◌∷◌, ◌++◌, length, Bool, true, false, None, Result, Ok, Err}
+use Rattle.gate_io.specs.declared.byte_streams.Sink.{Ghosts as Sink}
+use Rattle.protocol_traits.specs.declared.traits.ReadRules.{Ghosts as ReadRules}
+use Rattle.type_tables.specs.Declarations.{Declarations}
+use Rattle.type_walk.specs.declared.levels.Level.{Level}
 use Rattle.protocol_traits.specs.declared.fault.Fault.{Fault}
 use Rattle.protocol_traits.specs.declared.nest.Slot.{Slot}
-use Rattle.type_walk.specs.Positions.{Position}
+use Rattle.type_walk.specs.Positions.{Position, standing as open_at}
 use Rattle.translate_core.specs.Positions.{typed}
-use Rattle.translate_core.specs.Body.{Source, Ended, going, whole}
-use Rattle.message_show.specs.Pieces.{Waiting, Output, Tells}
-use Rattle.message_show.specs.Shown.{Place, place, line_target}
+use Rattle.translate_core.specs.Body.{Source, Ended, Going, going, whole}
+use Rattle.message_show.specs.Pieces.{Waiting, Output, Told, Tells, output}
+use Rattle.message_show.specs.Inside.{at, behind, begins}
+use Rattle.message_show.specs.Shown.{Place, Showing, place, line_target, source_in, body_from, IsLine, IsWritten}
+use Rattle.message_show.specs.declared.open_level.LevelStep.{LevelStep}
+use Rattle.message_show.specs.declared.open_level.OpenLevel.{OpenLevel}
+use Rattle.message_show.specs.declared.showing.Shown.{Shown}
 
 -- where the reading of a body stands: the reader, the position, and whether the next item is the first of its level
 pub record Standing (S : Type 0) : Type 0 where
@@ -30,3 +38,40 @@ module _ {S : Type 0} (source : Source S) (nest : S → List Slot) where
   abbrev pub Turned : {X : Type 0} → Result X Fault → Standing S → (X → Standing S) → Output → Waiting → Output → Waiting → Type 0
   Turned (Ok x) before after old line new behind = (text : List ℕ) × Leads before (after x) text × Tells old line new behind text
   Turned (Err f) before after old line new behind = (begun : Place) (told : List ℕ) → rest_from begun before told ≡ Err f
+
+-- ---- what is told to a sink, by what the sink says of itself and by the rules of any reader
+
+abbrev pub output_in : {O : Type 0} → Sink O → O → Output
+output_in sinks out = output (sinks.written out) (sinks.faults out)
+
+-- where this is shown as a line, the line was told
+abbrev pub TellsLine : {O : Type 0} → Sink O → Showing → O → Waiting → O → Waiting → Type 0
+TellsLine sinks showing old line new line' =
+    (from : Output) (text : List ℕ) → IsLine showing text → Told from (output_in sinks old) line [] → Told from (output_in sinks new) line' text
+
+-- where a body goes to its end, its text was told behind what was told before
+abbrev pub TellsBody : {S O : Type 0} → ReadRules S → Sink O → S → Position → O → Waiting → O → Waiting → Type 0
+TellsBody {S} rules sinks reader position old line new line' =
+    (from : Output) (text : List ℕ) (last : Going S Position Place) → body_from (source_in rules) reader position text ≡ Ok last
+    → Told from (output_in sinks old) line text → Told from (output_in sinks new) line' last.bytes
+
+-- an open struct or container, of which this is declared, was told to its end
+abbrev pub TellsLevel : {S O : Type 0} → ReadRules S → Sink O → Declarations → Level → S → O → Waiting → S → O → Waiting × Result ⊤ Fault → Type 0
+TellsLevel rules sinks d known reader old line reader' new told =
+    (up : List Level) → rules.depth reader ≡ suc (length up) →
+    let before = standing reader (open_at d (known ∷ up)) true in
+    let after = standing reader' (open_at d up) false in
+    Turned (source_in rules) rules.nest told.1 before (λ u. after) (output_in sinks old) line (output_in sinks new) told.0
+
+-- the next item of an open struct or container was told
+abbrev pub TellsEvent : {S O : Type 0} → ReadRules S → Sink O → Declarations → S → OpenLevel → O → Waiting → S → OpenLevel → O → Waiting × Result LevelStep Fault → Type 0
+TellsEvent rules sinks d reader here old line reader' here' new told =
+    (up : List Level) → rules.depth reader ≡ suc (length up) →
+    let before = standing reader (at d here up) here.first in
+    let after = λ (step : LevelStep). standing reader' (behind d step here' up) (begins step here') in
+    Turned (source_in rules) rules.nest told.1 before after (output_in sinks old) line (output_in sinks new) told.0
+
+-- what waits of a line was written
+abbrev pub EndsLine : {O : Type 0} → Sink O → O → Waiting → O → Shown → Type 0
+EndsLine sinks old line new answer =
+    (from : Output) (text : List ℕ) → Told from (output_in sinks old) line text → IsWritten answer from (output_in sinks new) text

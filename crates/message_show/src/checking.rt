@@ -1,11 +1,9 @@
 //! A pass through a frame that tells nothing: whether it is a message.
-ghost use Rattle.std.specs.Prelude.{refl, ◌≡◌, ◌≤◌, ◌<◌, ◌^◌, ℕ, List, IfSome, length};
+ghost use Rattle.std.specs.Prelude.{refl, ◌≡◌, ◌≤◌, ◌<◌, ◌^◌, IfSome, length};
 ghost use Rattle.protocol_traits.specs.declared.proto.Hint.{Hint};
 ghost use Rattle.type_walk.specs.Positions.{Position, start};
-ghost use Rattle.translate_core.specs.Body.{source_of};
-ghost use Rattle.translate_core.specs.Routes.{start_of};
 ghost use Rattle.translate_core.specs.declared.route.Route.TheVariants.{ByName};
-ghost use Rattle.message_show.specs.Shown.{shown_by, after_body, body_from, IsService, IsChecked};
+ghost use Rattle.message_show.specs.Shown.{IsService, Finds, FindsBody};
 
 use binary_protocol::BinaryRead;
 use compact_protocol::CompactRead;
@@ -44,8 +42,7 @@ pub fn check_undeclared<'f, R: WireRead<'f> + HintIndependent>(
 ) -> Checked
     requires room { length frame.now ≤ length room.old }
     requires size { length frame.now < 2 ^ 31 }
-    ensures { let source = source_of R.begun R.reads_head R.reads R.reads_end R.value_place R.ahead in
-        IsChecked result (shown_by source (start_of schema.now (ByName service)) frame.now) }
+    ensures { Finds R.ReadRules schema.now service frame.now result }
 {
     let mut reader = R::over(frame, room);
     match reader.head() {
@@ -58,8 +55,7 @@ pub fn check_undeclared<'f, R: WireRead<'f> + HintIndependent>(
 /// Whether the rest of a message follows, whatever its body's struct, or the fault that stands in it.
 fn check_any<'f, R: WireRead<'f> + HintIndependent>(schema: &Schema, reader: &mut R) -> Checked
     requires begins { R.depth reader.old ≡ 1 }
-    ensures { let source = source_of R.begun R.reads_head R.reads R.reads_end R.value_place R.ahead in
-        (position : Position) (told : List ℕ) → IsChecked result (after_body source (body_from source reader.old position told)) }
+    ensures { (position : Position) → FindsBody R.ReadRules reader.old position result }
 {
     let mut walk = Undeclared::start(schema);
     'events: while walk.is_open() {
@@ -86,8 +82,7 @@ pub fn check<'f, R: WireRead<'f>>(
     requires service { IsService schema.now service }
     requires room { length frame.now ≤ length room.old }
     requires size { length frame.now < 2 ^ 31 }
-    ensures { let source = source_of R.begun R.reads_head R.reads R.reads_end R.value_place R.ahead in
-        IsChecked result (shown_by source (start_of schema.now (ByName service)) frame.now) }
+    ensures { Finds R.ReadRules schema.now service frame.now result }
 {
     let mut reader = R::over(frame, room);
     let body = match reader.head() {
@@ -105,8 +100,7 @@ fn check_body<'f, R: WireRead<'f>>(
 ) -> Checked
     requires known { IfSome body (λ s. s.0 < length schema.now.structs) }
     requires begins { R.depth reader.old ≡ 1 }
-    ensures { let source = source_of R.begun R.reads_head R.reads R.reads_end R.value_place R.ahead in
-        (told : List ℕ) → IsChecked result (after_body source (body_from source reader.old (start schema.now body) told)) }
+    ensures { FindsBody R.ReadRules reader.old (start schema.now body) result }
 {
     if body.is_none() {
         let mut walk = Undeclared::start(schema);
@@ -124,8 +118,7 @@ fn check_declared<'f, R: WireRead<'f>>(
 ) -> Checked
     requires known { IfSome body (λ s. s.0 < length schema.now.structs) }
     requires begins { R.depth reader.old ≡ 1 }
-    ensures { let source = source_of R.begun R.reads_head R.reads R.reads_end R.value_place R.ahead in
-        (told : List ℕ) → IsChecked result (after_body source (body_from source reader.old (start schema.now body) told)) }
+    ensures { FindsBody R.ReadRules reader.old (start schema.now body) result }
 {
     let mut walk = Walk::start(schema, body);
     check_by(reader, &mut walk)
@@ -135,8 +128,7 @@ fn check_declared<'f, R: WireRead<'f>>(
 fn check_by<'f, R: WireRead<'f>, K: Walking>(reader: &mut R, walk: &mut K) -> Checked
     requires begins { R.depth reader.old ≡ 1 }
     requires walks { length (K.at walk.old).levels ≡ 1 }
-    ensures { let source = source_of R.begun R.reads_head R.reads R.reads_end R.value_place R.ahead in
-        (told : List ℕ) → IsChecked result (after_body source (body_from source reader.old (K.at walk.old) told)) }
+    ensures { FindsBody R.ReadRules reader.old (K.at walk.old) result }
 {
     'events: while walk.is_open() {
         match reader.next(walk.hint()) {

@@ -1,8 +1,8 @@
 //! A frame of any protocol as a line.
-ghost use Rattle.std.specs.Prelude.{◌≡◌, ◌≤◌, ◌<◌, ◌^◌, [], ℕ, List, length};
+ghost use Rattle.std.specs.Prelude.{◌≡◌, ◌≤◌, ◌<◌, ◌^◌, length};
 ghost use Rattle.gate_base.specs.Causes.{Rose};
-ghost use Rattle.message_show.specs.Pieces.{Output, Told, output as output_of};
-ghost use Rattle.message_show.specs.Shown.{shown, IsService, IsShown, IsLeft, IsChecked, IsLine, IsWritten, HasLine};
+ghost use Rattle.message_show.specs.Shown.{shown, IsService, IsShown, IsLeft, IsChecked, HasLine};
+ghost use Rattle.message_show.specs.Turns.{EndsLine, TellsLine};
 
 use crate::checking::{Checked, check, check_undeclared};
 use crate::failing_sink::FailingSink;
@@ -140,8 +140,7 @@ fn show_long<O: Sink>(
 
 /// Writes what waits of a line.
 fn end<O: Sink>(line: Line<'_>, output: &mut O) -> Shown
-    ensures { (front : Output) (text : List ℕ) → Told front (output_of (O.written output.old) (O.faults output.old)) line.entry text
-        → IsWritten result front (output_of (O.written output.new) (O.faults output.new)) text }
+    ensures { EndsLine O.Sink output.old line.entry output.new result }
 {
     if line.flush(output).is_whole() {
         Shown::Passed
@@ -186,9 +185,7 @@ fn tell_frame<'c, O: Sink>(
     requires room { length frame.now ≤ length room.old }
     requires size { length frame.now < 2 ^ 31 }
     ensures found { IsChecked result.1 (shown schema.now service from frame.now) }
-    ensures told { (front : Output) (text : List ℕ) → IsLine (shown schema.now service from frame.now) text
-        → Told front (output_of (O.written output.old) (O.faults output.old)) line.entry []
-        → Told front (output_of (O.written output.new) (O.faults output.new)) result.0 text }
+    ensures told { TellsLine O.Sink (shown schema.now service from frame.now) output.old line.entry output.new result.0 }
 {
     match from {
         Proto::Binary => tell::<BinaryRead, O>(schema, service, frame, room, line, output),

@@ -1,5 +1,5 @@
 //! A pass through a frame: its line, or the fault that stands in it.
-ghost use Rattle.std.specs.Prelude.{◌≡◌, ◌≤◌, ◌<◌, ◌^◌, ◌+◌, ◌++◌, ◌∷◌, [], ℕ, suc, pos, true, false, List, IfSome, Some, IfOk, Ok, length};
+ghost use Rattle.std.specs.Prelude.{◌≡◌, ◌≤◌, ◌<◌, ◌^◌, ◌+◌, ◌++◌, ◌∷◌, [], suc, pos, IfSome, Some, IfOk, Ok, length};
 ghost use Rattle.gate_base.specs.Causes.{Rose};
 ghost use Rattle.protocol_traits.specs.declared.nest.Slot.TheVariants.{Fields};
 ghost use Rattle.protocol_traits.specs.Heads.{header_of};
@@ -7,15 +7,13 @@ ghost use Rattle.type_tables.specs.Declarations.{Declarations};
 ghost use Rattle.type_walk.specs.declared.levels.Level.{Level};
 ghost use Rattle.message_show.specs.declared.open_level.LevelStep.{LevelStep};
 ghost use Rattle.type_walk.specs.Known.{IsKnownLevel};
-ghost use Rattle.type_walk.specs.Positions.{Position, start, struct_level, standing as open_at};
-ghost use Rattle.translate_core.specs.Body.{Going, source_of};
-ghost use Rattle.translate_core.specs.Routes.{start_of};
+ghost use Rattle.type_walk.specs.Positions.{start, struct_level};
 ghost use Rattle.translate_core.specs.declared.route.Route.TheVariants.{ByName};
 ghost use Rattle.message_show.specs.Inside.{IsSound, IsSpent, at, behind, begins, depth_behind};
 ghost use Rattle.message_show.specs.Line.{type_text, sequence_text, head_text, line_end};
-ghost use Rattle.message_show.specs.Pieces.{Output, Told, TellsTo, output};
-ghost use Rattle.message_show.specs.Turns.{Turned, standing};
-ghost use Rattle.message_show.specs.Shown.{Place, shown_by, body_from, after_body, IsService, IsChecked, IsLine};
+ghost use Rattle.message_show.specs.Pieces.{TellsTo};
+ghost use Rattle.message_show.specs.Turns.{TellsLine, TellsBody, TellsLevel, TellsEvent};
+ghost use Rattle.message_show.specs.Shown.{IsService, Finds, FindsBody, shown_in};
 
 use crate::checking::Checked;
 use crate::events::Events;
@@ -43,13 +41,8 @@ pub fn tell<'c, 'f, R: WireRead<'f> + Events, O: Sink>(
     requires service { IsService schema.now service }
     requires room { length frame.now ≤ length room.old }
     requires size { length frame.now < 2 ^ 31 }
-    ensures found { let source = source_of R.begun R.reads_head R.reads R.reads_end R.value_place R.ahead in
-        IsChecked result.1 (shown_by source (start_of schema.now (ByName service)) frame.now) }
-    ensures told { let source = source_of R.begun R.reads_head R.reads R.reads_end R.value_place R.ahead in
-        let old = output (O.written out.old) (O.faults out.old) in
-        let new = output (O.written out.new) (O.faults out.new) in
-        (from : Output) (text : List ℕ) → IsLine (shown_by source (start_of schema.now (ByName service)) frame.now) text
-        → Told from old line.entry [] → Told from new result.0 text }
+    ensures found { Finds R.ReadRules schema.now service frame.now result.1 }
+    ensures told { TellsLine O.Sink (shown_in R.ReadRules schema.now service frame.now) out.old line.entry out.new result.0 }
 {
     let mut reader = R::over(frame, room);
     let (line, body) = match reader.head() {
@@ -97,13 +90,8 @@ fn tell_body<'c, 'f, R: WireRead<'f> + Events, O: Sink>(
 ) -> (Line<'c>, Checked)
     requires known { IfSome body (λ s. s.0 < length schema.now.structs) }
     requires begins { R.nest reader.old ≡ Fields (pos 0) ∷ [] }
-    ensures found { let source = source_of R.begun R.reads_head R.reads R.reads_end R.value_place R.ahead in
-        (told : List ℕ) → IsChecked result.1 (after_body source (body_from source reader.old (start schema.now body) told)) }
-    ensures told { let source = source_of R.begun R.reads_head R.reads R.reads_end R.value_place R.ahead in
-        let old = output (O.written out.old) (O.faults out.old) in
-        let new = output (O.written out.new) (O.faults out.new) in
-        (from : Output) (text : List ℕ) (end : Going R Position Place) → body_from source reader.old (start schema.now body) text ≡ Ok end
-        → Told from old line.entry text → Told from new result.0 end.bytes }
+    ensures found { FindsBody R.ReadRules reader.old (start schema.now body) result.1 }
+    ensures told { TellsBody R.ReadRules O.Sink reader.old (start schema.now body) out.old line.entry out.new result.0 }
 {
     let (line, told) = tell_level(reader, schema, body_level(body), line, out);
     match told {
@@ -138,13 +126,7 @@ fn tell_level<'c, R: Events, O: Sink>(
 ) -> (Line<'c>, Result<(), Fault>)
     requires open { 0 < R.depth reader.old }
     requires known { IsKnownLevel schema.now known }
-    ensures turned { let source = source_of R.begun R.reads_head R.reads R.reads_end R.value_place R.ahead in
-        let old = output (O.written out.old) (O.faults out.old) in
-        let new = output (O.written out.new) (O.faults out.new) in
-        (up : List Level) → R.depth reader.old ≡ suc (length up) →
-        let before = standing reader.old (open_at schema.now (known ∷ up)) true in
-        let after = standing reader.new (open_at schema.now up) false in
-        Turned source R.nest result.1 before (λ u. after) old line.entry new result.0 }
+    ensures turned { TellsLevel R.ReadRules O.Sink schema.now known reader.old out.old line.entry reader.new out.new result }
     ensures depth { IfOk result.1 (λ u. R.depth reader.old ≡ suc (R.depth reader.new)) }
     ensures falls { IfOk result.1 (λ u. R.ahead reader.new < R.ahead reader.old) }
 {
@@ -182,13 +164,7 @@ fn event<'c, R: Events, O: Sink>(
 ) -> (Line<'c>, Result<LevelStep, Fault>)
     requires open { 0 < R.depth reader.old }
     requires sound { IsSound schema.now here.old }
-    ensures turned { let source = source_of R.begun R.reads_head R.reads R.reads_end R.value_place R.ahead in
-        let old = output (O.written out.old) (O.faults out.old) in
-        let new = output (O.written out.new) (O.faults out.new) in
-        (up : List Level) → R.depth reader.old ≡ suc (length up) →
-        let before = standing reader.old (at schema.now here.old up) here.old.first in
-        let after = λ (step : LevelStep). standing reader.new (behind schema.now step here.new up) (begins step here.new) in
-        Turned source R.nest result.1 before after old line.entry new result.0 }
+    ensures turned { TellsEvent R.ReadRules O.Sink schema.now reader.old here.old out.old line.entry reader.new here.new out.new result }
     ensures depth { IfOk result.1 (λ step. R.depth reader.new ≡ depth_behind step (R.depth reader.old)) }
     ensures sound { IfOk result.1 (λ step. IsSound schema.now here.new) }
     ensures spent { IfOk result.1 (λ step. IsSpent schema.now step here.new) }

@@ -6,7 +6,7 @@ ghost use Rattle.protocol_traits.specs.declared.nest.Slot.{Slot};
 ghost use Rattle.protocol_traits.specs.Stack.{first_of};
 ghost use Rattle.message_show.specs.Inside.{IsSound, Passes};
 ghost use Rattle.message_show.specs.Texts.{is_plain, upper_byte, byte_text, quoted};
-ghost use Rattle.message_show.specs.Line.{value_text, mark_before, closing, item_text, field_name, field_text, name_text, kind_text, map_text, list_text};
+ghost use Rattle.message_show.specs.Line.{value_text, closing, item_text, field_name, name_text, kind_text, map_text, list_text, field_piece};
 ghost use Rattle.message_show.specs.Pieces.{TellsTo};
 
 use crate::levels::{closing, push_lead};
@@ -82,7 +82,7 @@ pub fn tell_field<'c, O: Sink>(
     out: &mut O,
 ) -> Line<'c>
     requires { length line.bytes + SPARE ≤ ROOM }
-    ensures told { TellsTo O.written O.faults out.old out.new line.entry result (mark_before first (Some level) ++ field_text id (field_name (option_copied field.entry)) kind) }
+    ensures told { TellsTo O.written O.faults out.old out.new line.entry result (field_piece level first id (option_copied field.entry) kind) }
 {
     let line = tell_number(id, field, push_lead(line, level, first), out);
     push_kind(line.make_room(out), kind)

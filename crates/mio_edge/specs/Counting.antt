@@ -4,6 +4,7 @@ use Rattle.gate_hub.specs.Hubs.{Counts}
 use Rattle.gate_fan.specs.Fans as fans
 use Rattle.gate_hub.specs.declared.hub.Side.{Side}
 use Rattle.gate_hub.specs.declared.hub.Side.TheVariants as side
+use Rattle.mio_edge.specs.declared.hub.MioHub.{MioHub}
 use Rattle.mio_edge.specs.declared.hub.SideCounts.{SideCounts}
 
 abbrev pub side_counts : SideCounts → SideCounts → Side → SideCounts
@@ -16,6 +17,10 @@ counts_of faults client upstream = record {
   link_faults = λ k s. (side_counts client upstream s).faults;
   waits = λ k s. (side_counts client upstream s).waits;
 }
+
+-- the counts of this hub
+abbrev pub counts_in : {N : Type 0} → MioHub N → Counts
+counts_in hub = counts_of hub.sockets.faults hub.client hub.upstream
 
 -- the counts of the fan over sockets: those of a port are of all ports and sessions together
 abbrev pub fan_counts : ℕ → SideCounts → fans.Counts

@@ -2,10 +2,10 @@
 //! wasn't ready.
 ghost use Rattle.std.specs.Prelude.{◌≡◌, ◌<◌, ◌-◌, ◌^◌, ◌≤◌};
 ghost use Rattle.gate_base.specs.Causes.{Rose};
-ghost use Rattle.gate_hub.specs.Hubs.{HasStarted, Later, Leads, NextLeads, NotStarted, StartLeads};
+ghost use Rattle.gate_hub.specs.Hubs.{HasStarted, Later, Leads, NextLeads, NotStarted, StartLeads, started_with};
 ghost use Rattle.gate_hub.specs.declared.hub.Began.TheVariants as began;
 ghost use Rattle.gate_hub.specs.declared.hub.HubNext.TheVariants as event;
-ghost use Rattle.mio_edge.specs.Counting.{counts_of, side_counts};
+ghost use Rattle.mio_edge.specs.Counting.{side_counts, counts_in};
 ghost use Rattle.mio_edge.specs.Numbers.{Numbers};
 
 use crate::Sockets;
@@ -53,7 +53,7 @@ impl<'n, N: Net> MioHub<'n, N> {
 
     // Counts a fault of a side.
     fn count_fault(&mut self, side: Side)
-        ensures later { Later (counts_of self.old.sockets.faults self.old.client self.old.upstream) (counts_of self.new.sockets.faults self.new.client self.new.upstream) }
+        ensures later { Later (counts_in self.old) (counts_in self.new) }
         ensures cause { Rose (side_counts self.old.client self.old.upstream side).faults (side_counts self.new.client self.new.upstream side).faults }
     {
         match side {
@@ -64,7 +64,7 @@ impl<'n, N: Net> MioHub<'n, N> {
 
     // Counts an answer of a side that it isn't ready.
     fn count_wait(&mut self, side: Side)
-        ensures later { Later (counts_of self.old.sockets.faults self.old.client self.old.upstream) (counts_of self.new.sockets.faults self.new.client self.new.upstream) }
+        ensures later { Later (counts_in self.old) (counts_in self.new) }
         ensures cause { Rose (side_counts self.old.client self.old.upstream side).waits (side_counts self.new.client self.new.upstream side).waits }
     {
         match side {
@@ -77,7 +77,7 @@ impl<'n, N: Net> MioHub<'n, N> {
 impl<N: Net> Hub for MioHub<'_, N> {
     ghost tells = { λ _ _. ⊥ };
 
-    ghost counts = { λ h. counts_of h.sockets.faults h.client h.upstream };
+    ghost counts = { λ h. counts_in h };
 
     ghost kept = { λ _. tt };
 
@@ -89,8 +89,8 @@ impl<N: Net> Hub for MioHub<'_, N> {
         accept: u64,
         sessions: usize,
     ) -> Began
-        ensures leads { Leads (λ _. ⊥) (λ _. ⊥) NotStarted (StartLeads (record { listen = listen.now; upstream = upstream.now; accept = accept; sessions = sessions }) result) }
-        ensures later { Later (counts_of self.old.sockets.faults self.old.client self.old.upstream) (counts_of self.new.sockets.faults self.new.client self.new.upstream) }
+        ensures leads { Leads (λ _. ⊥) (λ _. ⊥) NotStarted (StartLeads (started_with listen.now upstream.now accept sessions) result) }
+        ensures later { Later (counts_in self.old) (counts_in self.new) }
         ensures cause { result ≡ began.Failed → Rose self.old.sockets.faults self.new.sockets.faults }
         ensures accept { result ≡ began.Done → self.new.sockets.accept ≡ accept }
     {
@@ -104,7 +104,7 @@ impl<N: Net> Hub for MioHub<'_, N> {
 
     fn next(&mut self) -> HubNext
         ensures leads { Leads (λ _. ⊥) (λ _. ⊥) HasStarted (NextLeads result) }
-        ensures later { Later (counts_of self.old.sockets.faults self.old.client self.old.upstream) (counts_of self.new.sockets.faults self.new.client self.new.upstream) }
+        ensures later { Later (counts_in self.old) (counts_in self.new) }
         ensures cause { result ≡ event.Failed → Rose self.old.sockets.faults self.new.sockets.faults }
         ensures numbers { Numbers result self.old.sockets.announced self.new.sockets.announced }
         ensures stopped { result ≡ event.Stopped → (0 < self.new.sockets.accept) × (self.new.sockets.accept ≤ self.new.sockets.announced) }

@@ -1,6 +1,8 @@
 -- The calls of a hub: which sessions were closed and in which order, and where a call on a side failed.
 use Rattle.std.specs.Prelude.{◌≡◌, ℕ, ⊤, ◌≤◌, List, [], ◌∷◌, ◌++◌}
 use Rattle.std.specs.List.{flat_map}
+use Rattle.gate_base.specs.Causes.{Rose}
+use Rattle.gate_hub.specs.Hubs.{Counts}
 use Rattle.gate_hub.specs.Meaning.{HubCall, Asked, Read, Wrote, Closed}
 use Rattle.gate_hub.specs.declared.hub.Side.{Side}
 use Rattle.gate_hub.specs.declared.hub.LinkGot.TheVariants as got
@@ -57,6 +59,10 @@ pub record FailsLast (k : ℕ) (x : Side) (calls : List HubCall) : Type 0 where
   pub late : List HubCall
   pub calls_are : calls ≡ early ++ call ∷ Closed k ∷ late
   pub fails : Fails k x call
+
+-- the count of faults of a side of session k rose
+abbrev pub LinkRose : Counts → Counts → ℕ → Side → Type 0
+LinkRose before now k x = Rose (before.link_faults k x) (now.link_faults k x)
 
 -- what a turn asks for first: so many bytes are to be written to a side, or as many to be read of it at most
 pub data Wanted : Type 0 where

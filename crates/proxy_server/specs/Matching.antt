@@ -30,6 +30,10 @@ pub record Matches (J : Type 0) (rules : J → Rules) (session : Seen J) (h : Hi
   pub fits : Fits (rules session.judge) session.limit session.max_calls h session.standing
   pub rest : IsAtRest (rules session.judge) session.limit session.max_calls session.standing session.outcome
 
+-- where a session matched what came and went, it matches that with what was added on the way
+abbrev pub MatchesOn : {J : Type 0} → (J → Rules) → Seen J → Seen J → (History → History) → Type 0
+MatchesOn {J} rules old new on = (h : History) → Matches J rules old h → Matches J rules new (on h)
+
 -- the same judge, limit, number of calls and rooms
 pub record IsSame (J : Type 0) (a b : Seen J) : Type 0 where
   pub judge : b.judge ≡ a.judge

@@ -1,7 +1,6 @@
 -- What a server stands on while it serves.
 use Rattle.std.specs.Prelude.{◌≡◌, ◌≢◌, ℕ, ◌<◌, ◌≤◌, ◌⊎◌, List, [], ◌∷◌, ◌++◌, Bool, true, false, Option, None, Some, slice_get}
 use Rattle.std.specs.List.{flat_map}
-use Rattle.gate_base.specs.Causes.{Rose}
 use Rattle.gate_hub.specs.Meaning.{Told, HubCall, Closed, Meaning}
 use Rattle.gate_hub.specs.Hubs.{Counts, HasStarted}
 use Rattle.gate_hub.specs.declared.hub.Side.{Side}
@@ -17,7 +16,7 @@ use Rattle.session_core.specs.Session.{Seen, HoldsWithin, rooms_for}
 use Rattle.session_core.specs.declared.outcome.Outcome.{Outcome}
 use Rattle.session_core.specs.declared.outcome.Outcome.TheVariants as outcome
 use Rattle.proxy_server.specs.Lines.{line_text}
-use Rattle.proxy_server.specs.Calling.{closings_of, FailsLast}
+use Rattle.proxy_server.specs.Calling.{closings_of, FailsLast, LinkRose}
 use Rattle.proxy_server.specs.Matching.{history_of, Matches}
 use Rattle.proxy_server.specs.Turning.{IsSettled, HasFailed}
 
@@ -124,7 +123,7 @@ pub record IsJustClosed (ended : List Closing) (calls : List HubCall) : Type 0 w
 -- each of these that ended by a fault of a side was counted there
 abbrev pub AreCounted : Counts → Counts → List Closing → Type 0
 AreCounted before now ended =
-    (i : ℕ) (c : Closing) (x : Side) → slice_get ended i ≡ Some c → c.1 ≡ outcome.LinkFault x → Rose (before.link_faults c.0 x) (now.link_faults c.0 x)
+    (i : ℕ) (c : Closing) (x : Side) → slice_get ended i ≡ Some c → c.1 ≡ outcome.LinkFault x → LinkRose before now c.0 x
 
 -- ---- the lines
 

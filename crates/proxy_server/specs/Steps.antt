@@ -3,23 +3,28 @@ use Rattle.std.specs.Prelude.{◌≡◌, ℕ, ⊤, ◌^◌, ◌<◌, ◌≤◌, 
 use Rattle.std.specs.Io.KnownBytes.{Appends}
 use Rattle.gate_base.specs.Causes.{Rose}
 use Rattle.gate_io.specs.Fronts.{AppendsFront}
+use Rattle.gate_io.specs.declared.byte_streams.Sink.{Ghosts as Sink}
 use Rattle.gate_io.specs.declared.writing.Wrote.{Wrote}
 use Rattle.gate_io.specs.declared.writing.Wrote.TheVariants as wrote
 use Rattle.gate_hub.specs.Meaning.{HubCall, Closed, Meaning}
-use Rattle.gate_hub.specs.Hubs.{Counts}
+use Rattle.gate_hub.specs.Hubs.{Counts, Later}
+use Rattle.gate_hub.specs.declared.hub.Hub.{Ghosts as Hub}
 use Rattle.gate_hub.specs.declared.hub.HubNext.{HubNext}
 use Rattle.gate_hub.specs.declared.hub.HubNext.TheVariants as event
 use Rattle.gate_hub.specs.declared.hub.Served.{Served}
 use Rattle.gate_hub.specs.declared.hub.Served.TheVariants as served
 use Rattle.gate_hub.specs.declared.hub.Side.{Side}
 use Rattle.session_core.specs.Rules.{Rules}
+use Rattle.session_core.specs.Session.{Seen}
 use Rattle.session_core.specs.Steps.{outcome_of}
 use Rattle.session_core.specs.declared.outcome.Outcome.{Outcome}
 use Rattle.session_core.specs.declared.outcome.Outcome.TheVariants as outcome
+use Rattle.proxy_server.specs.Calling.{LinkRose}
 use Rattle.proxy_server.specs.Turning.{HasFailed, IsSettled}
-use Rattle.proxy_server.specs.Serving.{Setting, Entry, Closing, Stands, Keeps, KeepsFrom, no_more, closing_line, closing_lines, left_lines, ended_numbers, held_numbers, IsClosedInOrder, IsJustClosed, AreCounted, IsFresh, EndsOn, SpendsBy}
-use Rattle.proxy_server.specs.Working.{Tally, Waits, HasWaited, IsBusy}
+use Rattle.proxy_server.specs.Serving.{Setting, Entry, Closing, Stands, Keeps, KeepsFrom, no_more, closing_line, closing_lines, left_line, left_lines, ended_numbers, held_numbers, IsClosedInOrder, IsJustClosed, AreCounted, IsFresh, EndsOn, SpendsBy}
+use Rattle.proxy_server.specs.Working.{Tally, Waits, HasWaited, IsBusy, IsNamed, HasEndedAt, Awaits}
 use Rattle.proxy_server.specs.declared.server.Limits.{Limits}
+use Rattle.proxy_server.specs.declared.server.Server.{Server}
 use Rattle.proxy_server.specs.declared.server.End.{End}
 use Rattle.proxy_server.specs.declared.server.End.TheVariants as ends
 
@@ -45,7 +50,7 @@ IsRefusedAs o held sessions = ((o ≡ outcome.Full) × (sessions ≤ held)) ⊎ 
 -- where the session at this place ended by a fault of a side, that was counted
 abbrev pub WasCounted : {J : Type 0} → Counts → Counts → Outcome → List (Entry J) → ℕ → Type 0
 WasCounted {J} before now o held at =
-    (e : Entry J) (x : Side) → slice_get held at ≡ Some e → o ≡ outcome.LinkFault x → Rose (before.link_faults e.number x) (now.link_faults e.number x)
+    (e : Entry J) (x : Side) → slice_get held at ≡ Some e → o ≡ outcome.LinkFault x → LinkRose before now e.number x
 
 -- ---- one step
 
@@ -58,6 +63,17 @@ pub record Outside : Type 1 where
 
 abbrev pub outside : {H O : Type 0} → (H → Meaning → Type 0) → (H → Counts) → (O → Option (List ℕ)) → (O → ℕ) → H → O → Outside
 outside tells counts written faults hub output = record { told = tells hub; counts = counts hub; written = written output; faults = faults output }
+
+-- what stands outside before a call and behind it
+pub record Passage : Type 1 where
+  pub before : Outside
+  pub behind : Outside
+
+-- as this hub and this output tell of themselves
+abbrev pub seen : {H O : Type 0} → Hub H → Sink O → H → O → H → O → Passage
+seen hubs sinks hub output hub' output' =
+    let moment = outside hubs.tells hubs.counts sinks.written sinks.faults in
+    record { before = moment hub output; behind = moment hub' output' }
 
 -- the limits and the room for a line stay, and no more is spent than may be
 abbrev pub IsCarriedOn : Limits → Limits → ℕ → ℕ → ℕ → ℕ → Type 0
@@ -111,6 +127,52 @@ pub record Goes (J : Type 0) (rules : J → Rules) (set : Setting) (a b : Outsid
   pub counted : AreCounted a.counts b.counts more
   pub keeps : (begun : Meaning) (past : List Closing) → Keeps a.told b.told (Before begun past) (EndedTo J rules result set begun spent held (past ++ more))
 
+-- the same from one server to another, where it stood so
+abbrev pub ServerGoes : {J : Type 0} → (J → Rules) → Setting → Passage → (Meaning → List Closing → Meaning → Type 0) → Server J → Result ⊤ End → Type 0
+ServerGoes {J} rules set way Before new result = Goes J rules set way.before way.behind Before new.spent new.sessions.items result
+
+-- events are taken from a wait on, by judges with these rules
+abbrev pub Steps : {J : Type 0} → (J → Rules) → Rules → Server J → Passage → Server J → Result ⊤ End → Type 0
+Steps {J} rules judged old way new result =
+    let set = setting_of judged old.limits in
+    ServerGoes rules set way (λ begun. Waits J rules set begun old.spent old.sessions.items) new result
+
+-- the same up to the end of the work
+abbrev pub Attends : {J : Type 0} → (J → Rules) → Rules → Server J → Passage → Server J → End → Type 0
+Attends rules judged old way new ending = Steps rules judged old way new (Err ending)
+
+-- session k, which was announced, is opened and turned, or closed
+abbrev pub Admits : {J : Type 0} → (J → Rules) → Rules → ℕ → Server J → Passage → Server J → Result ⊤ End → Type 0
+Admits {J} rules judged k old way new result =
+    let set = setting_of judged old.limits in
+    ServerGoes rules set way (λ begun. Awaits J rules set begun old.spent k old.sessions.items) new result
+
+-- session k, which was announced, is closed
+abbrev pub Refuses : {J : Type 0} → (J → Rules) → ℕ → Server J → Passage → Server J → Result ⊤ End → Type 0
+Refuses {J} rules k old way new result =
+    (set : Setting) → set.sessions ≡ old.limits.sessions →
+    ServerGoes rules set way (λ begun. Awaits J rules set begun old.spent k old.sessions.items) new result
+
+-- the session at this place, which has ended so, is closed; a fault of a side was counted since `from`
+abbrev pub Finishes : {J : Type 0} → (J → Rules) → ℕ → Outcome → Server J → Passage → Server J → Result ⊤ End → Type 0
+Finishes {J} rules at o old way new result =
+    (set : Setting) (from : Counts) → Later from way.before.counts → WasCounted from way.before.counts o old.sessions.items at →
+    ServerGoes rules set (record way { before = record (way.before) { counts = from } }) (λ begun. HasEndedAt J rules set begun old.spent at o old.sessions.items) new result
+
+-- the session at this place is turned
+abbrev pub Settles : {J : Type 0} → (J → Rules) → ℕ → Server J → Passage → Server J → Result ⊤ End → Type 0
+Settles {J} rules at old way new result =
+    (set : Setting) → ServerGoes rules set way (λ begun. IsBusy J rules set begun old.spent at old.sessions.items) new result
+
+-- session k, which an event names, is turned
+abbrev pub Resumes : {J : Type 0} → (J → Rules) → ℕ → Server J → Passage → Server J → Result ⊤ End → Type 0
+Resumes {J} rules k old way new result =
+    (set : Setting) → ServerGoes rules set way (λ begun. IsNamed J rules set begun old.spent k old.sessions.items) new result
+
+-- a session was put last, at this place
+abbrev pub IsPutLast : {J : Type 0} → List (Entry J) → ℕ → Seen J → List (Entry J) → ℕ → Type 0
+IsPutLast held number session held' at = (at ≡ length held) × (held' ≡ held ++ (record { number = number; session = session }) ∷ [])
+
 -- ---- the end
 
 -- no last answer of a call of these sessions is that it failed
@@ -129,6 +191,17 @@ pub record Leaves (J : Type 0) (rules : J → Rules) (set : Setting) (begun : Me
   pub tally : Tally begun set spent (length held) past m
   pub closings : m.calls ≡ calls ++ closing_calls (held_numbers (take gone held))
   pub last_event : m.last_event ≡ last
+
+-- so many of the sessions that were open were closed, and then so many
+abbrev pub LeavesMore : {J : Type 0} → (J → Rules) → List (Entry J) → (Meaning → Type 0) → (Meaning → Type 0) → ℕ → ℕ → Type 0
+LeavesMore {J} rules held told told' gone gone' =
+    (set : Setting) (begun : Meaning) (spent : ℕ) (past : List Closing) (busy : ℕ) (last : Option HubNext) (calls : List HubCall) →
+    let leaves = Leaves J rules set begun spent held past busy last calls in
+    Keeps told told' (leaves gone) (leaves gone')
+
+-- the line of the session at this place, which is left open, was written
+abbrev pub WritesLeft : {J : Type 0} → List (Entry J) → ℕ → Wrote → Option (List ℕ) → Option (List ℕ) → Type 0
+WritesLeft {J} held at result old new = (e : Entry J) → slice_get held at ≡ Some e → Writes result old new (left_line e)
 
 -- which lines a server has written: all; or those of the sessions that have ended, but for a front of the last's; or those,
 -- and of the lines of sessions that were left open a front
@@ -201,6 +274,10 @@ pub record Serves (J : Type 0) (rules : J → Rules) (set : Setting) (a b : Outs
   pub answers : AnswersLines result lines
   pub counted : AreCounted a.counts b.counts ended
   pub keeps : KeepsFrom a.told b.told IsFresh (Ending J rules set result lines held ended busy)
+
+-- the same by judges with these rules, within these limits
+abbrev pub ServesBy : {J : Type 0} → (J → Rules) → Rules → Limits → Passage → Served → Type 0
+ServesBy {J} rules judged limits way result = Serves J rules (setting_of judged limits) way.before way.behind result
 
 -- what is answered for how the work ended and what came of the last lines
 abbrev pub served_by : End → Wrote → Served

@@ -16,7 +16,7 @@ use Rattle.session_core.specs.Session.{Seen, due_to, room_of}
 use Rattle.session_core.specs.declared.outcome.Outcome.{Outcome}
 use Rattle.session_core.specs.declared.outcome.Outcome.TheVariants as outcome
 use Rattle.proxy_server.specs.Calling.{piece_length, piece_behind, ArePieces, EndsFailing, Wanted, ToWrite, ToRead}
-use Rattle.proxy_server.specs.Matching.{history_of}
+use Rattle.proxy_server.specs.Matching.{history_of, Matches}
 use Rattle.proxy_server.specs.declared.waiting.Waits.{Waits}
 use Rattle.proxy_server.specs.declared.turn_end.Turn.{Turn}
 use Rattle.proxy_server.specs.declared.turn_end.Turn.TheVariants as turn
@@ -104,6 +104,10 @@ abbrev pub Goes : (Meaning → Type 0) → (Meaning → Type 0) → (History →
 Goes told told' matches matches' k Step =
     (m : Meaning) → told m → IsOpen k m → matches (history_of (m.session k)) → ((n : Meaning) × told' n × matches' (history_of (n.session k)) × Moves k Step m n)
 
+-- so a turn goes: it leads from what the hub tells and this session to what it tells then and that one
+abbrev pub TurnGoes : {J : Type 0} → (J → Rules) → ℕ → (Meaning → Type 0) → Seen J → (Meaning → Type 0) → Seen J → Turn → Type 0
+TurnGoes {J} rules k told old told' new result = Goes told told' (Matches J rules old) (Matches J rules new) k (TurnDoes J rules k new result)
+
 -- how the answer of a turn goes with the session's outcome, whatever is told
 pub data EndsAs (ending : Option Outcome) : Turn → Type 0 where
   Settles : ending ≡ None → EndsAs ending turn.Settled
@@ -129,6 +133,9 @@ read_waits w side.Upstream = w.upstream_read
 abbrev pub wanted_write : Side → Waits → Standing → Option Wanted
 wanted_write x w s = if is_none (due_to x s) || write_waits w x then None else Some (ToWrite x (min (length (due_to x s)) piece_length))
 
+abbrev pub to_write : {J : Type 0} → Side → Waits → Seen J → Option Wanted
+to_write x w s = wanted_write x w s.standing
+
 abbrev pub other : Side → Side
 other side.Client = side.Upstream
 other side.Upstream = side.Client
@@ -143,6 +150,10 @@ room_in s x = room_of s.limit s.standing (is_some s.outcome) x
 -- as much of a side is to be read as there is room for, and at most so much, unless it waits
 abbrev pub wanted_read : {J : Type 0} → ℕ → Side → Waits → Seen J → Option Wanted
 wanted_read most x w s = if nat_eq (room_in s x) 0 || read_waits w x then None else Some (ToRead x (min (room_in s x) most))
+
+-- the same in a smaller piece while something is due to the other side
+abbrev pub to_read : {J : Type 0} → Side → Waits → Seen J → Option Wanted
+to_read x w s = wanted_read (most_behind (due_to (other x) s.standing)) x w s
 
 abbrev pub or_else : Option Wanted → Option Wanted → Option Wanted
 or_else None next = next
@@ -161,6 +172,12 @@ abbrev pub Begins : ℕ → Option Wanted → List HubCall → Type 0
 Begins k None made = made ≡ []
 Begins k (Some (ToWrite x n)) made = (answer : LinkPut) × (more : List HubCall) × (made ≡ Wrote k x n answer ∷ more)
 Begins k (Some (ToRead x n)) made = (answer : LinkGot) × (more : List HubCall) × (made ≡ Read k x n answer ∷ more)
+
+-- so a turn goes, and its first call is the one that is wanted
+abbrev pub TurnGoesInOrder : {J : Type 0} → (J → Rules) → ℕ → (Meaning → Type 0) → Seen J → (Meaning → Type 0) → Seen J → Turn → Type 0
+TurnGoesInOrder {J} rules k told old told' new result =
+    Goes told told' (Matches J rules old) (Matches J rules new) k
+    (λ made s t. (old.outcome ≡ None → Begins k (wanted no_waits old) made) × TurnDoes J rules k new result made s t)
 
 -- ---- on the way
 
@@ -197,6 +214,11 @@ pub record Breaks (k : ℕ) (first : Option Wanted) (x : Side) (made : List HubC
 abbrev pub CallDoes : ℕ → Option Wanted → Result ℕ Side → Waits → Waits → List HubCall → Told → Told → Type 0
 CallDoes k first (Ok n) v w made s t = Runs k first n v w made s t
 CallDoes k first (Err x) v w made s t = Breaks k first x made s t
+
+-- the same from what the hub tells, the session and the marks to those behind the calls, where the first is wanted so
+abbrev pub Calls : {J : Type 0} → (J → Rules) → ℕ → (Waits → Seen J → Option Wanted) → (Meaning → Type 0) → Seen J → Waits → (Meaning → Type 0) → Seen J → Waits → Result ℕ Side → Type 0
+Calls {J} rules k first told old waits told' new waits' result =
+    Goes told told' (Matches J rules old) (Matches J rules new) k (CallDoes k (first waits old) result waits waits')
 
 -- nothing is due to the side, or it isn't ready; there is no room for it, or it isn't ready
 abbrev pub IsQuiet : ℕ → Standing → Option Outcome → Waits → Type 0

@@ -1,14 +1,12 @@
 //! A server at work: its open sessions, the line that it writes, and how much of its budget is spent.
-ghost use Rattle.std.specs.Prelude.{◌≡◌, ⊤, ◌+◌, ◌^◌, Option, ◌≢◌, ◌⊎◌, ◌<◌, ◌≤◌, ◌++◌, ◌∷◌, [], ℕ, List, length, None, Some, Ok, Err, IfSome, slice_get};
+ghost use Rattle.std.specs.Prelude.{◌≡◌, ⊤, ◌+◌, ◌^◌, Option, ◌≢◌, ◌⊎◌, ◌<◌, ◌≤◌, length, None, Some, Ok, Err, IfSome};
 ghost use Rattle.std.specs.List.{remove};
 ghost use Rattle.gate_base.specs.Causes.{Rose};
-ghost use Rattle.gate_hub.specs.Hubs.{Counts, Later};
-ghost use Rattle.gate_hub.specs.Meaning.{Meaning, HubCall};
+ghost use Rattle.gate_hub.specs.Hubs.{Later};
 ghost use Rattle.gate_hub.specs.declared.hub.HubNext.{HubNext};
 ghost use Rattle.proxy_server.specs.Lines.{line_text};
-ghost use Rattle.proxy_server.specs.Serving.{Entry, Setting, Closing, Keeps, SpendsBy, left_line, left_lines};
-ghost use Rattle.proxy_server.specs.Working.{Waits, IsBusy, IsNamed, HasEndedAt, Awaits};
-ghost use Rattle.proxy_server.specs.Steps.{AreGood, Writes, Outside, outside, IsCarriedOn, WorkEnds, StepEnds, Goes, Leaves, IsRefusedAs, WasCounted, setting_of, served_by};
+ghost use Rattle.proxy_server.specs.Serving.{SpendsBy, left_lines};
+ghost use Rattle.proxy_server.specs.Steps.{AreGood, Writes, Outside, IsCarriedOn, WorkEnds, StepEnds, IsRefusedAs, served_by, seen, Steps, Attends, Admits, Refuses, Finishes, Settles, Resumes, IsPutLast, LeavesMore, WritesLeft};
 
 use crate::judges::Judges;
 use crate::lines::{LINE_ROOM, put_line};
@@ -90,10 +88,7 @@ impl<J: Judge> Server<J> {
         requires budget { self.old.spent ≤ self.old.limits.events }
         requires good { AreGood self.old.limits (P.longest judges.now) }
         ensures room { self.new.line.room ≡ self.old.line.room }
-        ensures goes { let moment = outside H.tells H.counts O.written O.faults in
-            let set = setting_of (P.rules judges.now) self.old.limits in
-            Goes J J.rules set (moment hub.old output.old) (moment hub.new output.new)
-            (λ begun. Waits J J.rules set begun self.old.spent self.old.sessions.items) self.new.spent self.new.sessions.items (Err result) }
+        ensures goes { Attends J.rules (P.rules judges.now) self.old (seen H.Hub O.Sink hub.old output.old hub.new output.new) self.new result }
         ensures spends { SpendsBy (served_by result Wrote.All) self.new.spent self.old.limits.events }
         ensures later { Later (H.counts hub.old) (H.counts hub.new) }
         ensures kept { H.kept hub.new ≡ H.kept hub.old }
@@ -117,9 +112,7 @@ impl<J: Judge> Server<J> {
         ensures lines { first ≡ Wrote.All → Writes result (O.written output.old) (O.written output.new) (left_lines self.old.sessions.items) }
         ensures none { first ≡ Wrote.Failed → (result ≡ Wrote.Failed) × (output.new ≡ output.old) }
         ensures same { self.new.sessions ≡ self.old.sessions }
-        ensures keeps { (set : Setting) (begun : Meaning) (spent : ℕ) (past : List Closing) (busy : ℕ) (last : Option HubNext) (calls : List HubCall) →
-            let leaves = Leaves J J.rules set begun spent self.old.sessions.items past busy last calls in
-            Keeps (H.tells hub.old) (H.tells hub.new) (leaves 0) (leaves (length self.old.sessions.items)) }
+        ensures keeps { LeavesMore J.rules self.old.sessions.items (H.tells hub.old) (H.tells hub.new) 0 (length self.old.sessions.items) }
         ensures later { Later (H.counts hub.old) (H.counts hub.new) }
         ensures kept { H.kept hub.new ≡ H.kept hub.old }
         ensures output_later { O.faults output.old ≤ O.faults output.new }
@@ -144,13 +137,10 @@ impl<J: Judge> Server<J> {
     ) -> Wrote
         requires room { LINE_ROOM ≤ self.old.line.room }
         requires within { at < length self.old.sessions.items }
-        ensures lines { wrote ≡ Wrote.All → (e : Entry J) → slice_get self.old.sessions.items at ≡ Some e →
-            Writes result (O.written output.old) (O.written output.new) (left_line e) }
+        ensures lines { wrote ≡ Wrote.All → WritesLeft self.old.sessions.items at result (O.written output.old) (O.written output.new) }
         ensures none { wrote ≡ Wrote.Failed → (result ≡ Wrote.Failed) × (output.new ≡ output.old) }
         ensures same { (self.new.sessions ≡ self.old.sessions) × (self.new.line.room ≡ self.old.line.room) }
-        ensures keeps { (set : Setting) (begun : Meaning) (spent : ℕ) (past : List Closing) (busy : ℕ) (last : Option HubNext) (calls : List HubCall) →
-            let leaves = Leaves J J.rules set begun spent self.old.sessions.items past busy last calls in
-            Keeps (H.tells hub.old) (H.tells hub.new) (leaves at) (leaves (at + 1)) }
+        ensures keeps { LeavesMore J.rules self.old.sessions.items (H.tells hub.old) (H.tells hub.new) at (at + 1) }
         ensures later { Later (H.counts hub.old) (H.counts hub.new) }
         ensures kept { H.kept hub.new ≡ H.kept hub.old }
         ensures output_later { O.faults output.old ≤ O.faults output.new }
@@ -178,9 +168,7 @@ impl<J: Judge> Server<J> {
         ensures room { self.new.line.room ≡ self.old.line.room }
         ensures spent { self.new.spent ≡ self.old.spent }
         ensures ends { WorkEnds result self.new.spent self.old.limits.events }
-        ensures goes { (set : Setting) → set.sessions ≡ self.old.limits.sessions → let moment = outside H.tells H.counts O.written O.faults in
-            Goes J J.rules set (moment hub.old output.old) (moment hub.new output.new)
-            (λ begun. Awaits J J.rules set begun self.old.spent number self.old.sessions.items) self.new.spent self.new.sessions.items result }
+        ensures goes { Refuses J.rules number self.old (seen H.Hub O.Sink hub.old output.old hub.new output.new) self.new result }
         ensures later { Later (H.counts hub.old) (H.counts hub.new) }
         ensures kept { H.kept hub.new ≡ H.kept hub.old }
         ensures output_later { O.faults output.old ≤ O.faults output.new }
@@ -204,10 +192,7 @@ impl<J: Judge> Server<J> {
         ensures same { (self.new.limits ≡ self.old.limits) × (self.new.line.room ≡ self.old.line.room) }
         ensures spent { self.new.spent ≡ self.old.spent }
         ensures ends { WorkEnds result self.new.spent self.old.limits.events }
-        ensures goes { (set : Setting) (from : Counts) → Later from (H.counts hub.old) →
-            WasCounted from (H.counts hub.old) outcome self.old.sessions.items at → let moment = outside H.tells H.counts O.written O.faults in
-            Goes J J.rules set (record (moment hub.old output.old) { counts = from }) (moment hub.new output.new)
-            (λ begun. HasEndedAt J J.rules set begun self.old.spent at outcome self.old.sessions.items) self.new.spent self.new.sessions.items result }
+        ensures goes { Finishes J.rules at outcome self.old (seen H.Hub O.Sink hub.old output.old hub.new output.new) self.new result }
         ensures later { Later (H.counts hub.old) (H.counts hub.new) }
         ensures kept { H.kept hub.new ≡ H.kept hub.old }
         ensures output_later { O.faults output.old ≤ O.faults output.new }
@@ -226,9 +211,7 @@ impl<J: Judge> Server<J> {
         requires within { at < length self.old.sessions.items }
         ensures carried { IsCarriedOn self.old.limits self.new.limits self.old.line.room self.new.line.room self.old.spent self.new.spent }
         ensures ends { WorkEnds result self.new.spent self.old.limits.events }
-        ensures goes { (set : Setting) → let moment = outside H.tells H.counts O.written O.faults in
-            Goes J J.rules set (moment hub.old output.old) (moment hub.new output.new)
-            (λ begun. IsBusy J J.rules set begun self.old.spent at self.old.sessions.items) self.new.spent self.new.sessions.items result }
+        ensures goes { Settles J.rules at self.old (seen H.Hub O.Sink hub.old output.old hub.new output.new) self.new result }
         ensures later { Later (H.counts hub.old) (H.counts hub.new) }
         ensures kept { H.kept hub.new ≡ H.kept hub.old }
         ensures output_later { O.faults output.old ≤ O.faults output.new }
@@ -259,10 +242,7 @@ impl<J: Judge> Server<J> {
         requires good { AreGood self.old.limits (P.longest judges.now) }
         ensures carried { IsCarriedOn self.old.limits self.new.limits self.old.line.room self.new.line.room self.old.spent self.new.spent }
         ensures ends { WorkEnds result self.new.spent self.old.limits.events }
-        ensures goes { let moment = outside H.tells H.counts O.written O.faults in
-            let set = setting_of (P.rules judges.now) self.old.limits in
-            Goes J J.rules set (moment hub.old output.old) (moment hub.new output.new)
-            (λ begun. Awaits J J.rules set begun self.old.spent number self.old.sessions.items) self.new.spent self.new.sessions.items result }
+        ensures goes { Admits J.rules (P.rules judges.now) number self.old (seen H.Hub O.Sink hub.old output.old hub.new output.new) self.new result }
         ensures later { Later (H.counts hub.old) (H.counts hub.new) }
         ensures kept { H.kept hub.new ≡ H.kept hub.old }
         ensures output_later { O.faults output.old ≤ O.faults output.new }
@@ -283,7 +263,7 @@ impl<J: Judge> Server<J> {
     /// Puts a session last, and says where, or none where the memory for it was not found.
     fn hold(&mut self, number: u64, session: Session<J>) -> Option<usize>
         ensures same { (self.new.limits ≡ self.old.limits) × (self.new.line ≡ self.old.line) × (self.new.spent ≡ self.old.spent) }
-        ensures some { IfSome result (λ at. (at ≡ length self.old.sessions.items) × (self.new.sessions.items ≡ self.old.sessions.items ++ (record { number = number; session = session }) ∷ [])) }
+        ensures some { IfSome result (IsPutLast self.old.sessions.items number session self.new.sessions.items) }
         ensures none { result ≡ None → self.new.sessions.items ≡ self.old.sessions.items }
     {
         let at = self.sessions.len();
@@ -304,9 +284,7 @@ impl<J: Judge> Server<J> {
         requires budget { self.old.spent ≤ self.old.limits.events }
         ensures carried { IsCarriedOn self.old.limits self.new.limits self.old.line.room self.new.line.room self.old.spent self.new.spent }
         ensures ends { WorkEnds result self.new.spent self.old.limits.events }
-        ensures goes { (set : Setting) → let moment = outside H.tells H.counts O.written O.faults in
-            Goes J J.rules set (moment hub.old output.old) (moment hub.new output.new)
-            (λ begun. IsNamed J J.rules set begun self.old.spent number self.old.sessions.items) self.new.spent self.new.sessions.items result }
+        ensures goes { Resumes J.rules number self.old (seen H.Hub O.Sink hub.old output.old hub.new output.new) self.new result }
         ensures later { Later (H.counts hub.old) (H.counts hub.new) }
         ensures kept { H.kept hub.new ≡ H.kept hub.old }
         ensures output_later { O.faults output.old ≤ O.faults output.new }
@@ -332,10 +310,7 @@ impl<J: Judge> Server<J> {
         requires good { AreGood self.old.limits (P.longest judges.now) }
         ensures carried { IsCarriedOn self.old.limits self.new.limits self.old.line.room self.new.line.room self.old.spent self.new.spent }
         ensures ends { StepEnds result self.old.spent self.new.spent self.old.limits.events }
-        ensures goes { let moment = outside H.tells H.counts O.written O.faults in
-            let set = setting_of (P.rules judges.now) self.old.limits in
-            Goes J J.rules set (moment hub.old output.old) (moment hub.new output.new)
-            (λ begun. Waits J J.rules set begun self.old.spent self.old.sessions.items) self.new.spent self.new.sessions.items result }
+        ensures goes { Steps J.rules (P.rules judges.now) self.old (seen H.Hub O.Sink hub.old output.old hub.new output.new) self.new result }
         ensures later { Later (H.counts hub.old) (H.counts hub.new) }
         ensures kept { H.kept hub.new ≡ H.kept hub.old }
         ensures output_later { O.faults output.old ≤ O.faults output.new }

@@ -2,7 +2,7 @@
 ghost use Rattle.std.specs.Prelude.{◌≡◌, ◌⊎◌, ◌≤◌, [], IfSome};
 ghost use Rattle.gate_base.specs.Causes.{Rose};
 ghost use Rattle.gate_hub.specs.Hubs.{Later};
-ghost use Rattle.proxy_server.specs.Steps.{AreGood, Serves, outside, setting_of, served_by, first_wrote};
+ghost use Rattle.proxy_server.specs.Steps.{AreGood, Serves, served_by, first_wrote, ServesBy, seen};
 
 use crate::judges::Judges;
 use crate::lines::LINE_ROOM;
@@ -31,8 +31,7 @@ pub fn serve<J: Judge, P: Judges<J>, H: Hub, O: Sink>(
     output: &mut O,
 ) -> Served
     requires good { AreGood limits (P.longest judges.now) }
-    ensures serves { let moment = outside H.tells H.counts O.written O.faults in
-        Serves J J.rules (setting_of (P.rules judges.now) limits) (moment hub.old output.old) (moment hub.new output.new) result }
+    ensures serves { ServesBy J.rules (P.rules judges.now) limits (seen H.Hub O.Sink hub.old output.old hub.new output.new) result }
     ensures later { Later (H.counts hub.old) (H.counts hub.new) }
     ensures kept { H.kept hub.new ≡ H.kept hub.old }
     ensures output_later { O.faults output.old ≤ O.faults output.new }

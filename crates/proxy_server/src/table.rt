@@ -1,13 +1,13 @@
 //! The sessions that are open, in the order of their numbers.
 ghost use Rattle.std.specs.Prelude.{◌≡◌, ◌⊎◌, ◌<◌, ◌≤◌, length, Some, None, IfSome, IfOk, slice_get, ℕ, ◌^◌};
-ghost use Rattle.gate_base.specs.Causes.{Rose};
 ghost use Rattle.gate_hub.specs.Hubs.{Later};
 ghost use Rattle.session_core.specs.Standing.{nothing};
 ghost use Rattle.session_core.specs.Session.{HoldsWithin, rooms_for};
 ghost use Rattle.proxy_server.specs.Matching.{Matches, IsSame};
-ghost use Rattle.proxy_server.specs.Turning.{Goes, TurnDoes, EndsAs};
+ghost use Rattle.proxy_server.specs.Turning.{EndsAs, TurnGoes};
 ghost use Rattle.proxy_server.specs.Serving.{Entry, IsRising};
 ghost use Rattle.proxy_server.specs.Steps.{AreGood};
+ghost use Rattle.proxy_server.specs.Calling.{LinkRose};
 
 use crate::judges::Judges;
 use crate::server::Limits;
@@ -49,8 +49,7 @@ impl<J: Judge> OpenSession<J> {
 
     /// One turn of the session.
     pub fn turn<H: Hub>(&mut self, hub: &mut H) -> Turn
-        ensures turned { Goes (H.tells hub.old) (H.tells hub.new) (Matches J J.rules self.old.session) (Matches J J.rules self.new.session) self.old.number
-            (TurnDoes J J.rules self.old.number self.new.session result) }
+        ensures turned { TurnGoes J.rules self.old.number (H.tells hub.old) self.old.session (H.tells hub.new) self.new.session result }
         ensures number { self.new.number ≡ self.old.number }
         ensures ending { EndsAs self.new.session.outcome result }
         ensures same { IsSame J self.old.session self.new.session }
@@ -58,7 +57,7 @@ impl<J: Judge> OpenSession<J> {
         ensures later { Later (H.counts hub.old) (H.counts hub.new) }
         ensures kept { H.kept hub.new ≡ H.kept hub.old }
         ensures cause { (side : Side) → result ≡ Turn.Ended (Outcome.LinkFault side) →
-            Rose ((H.counts hub.old).link_faults self.old.number side) ((H.counts hub.new).link_faults self.old.number side) }
+            LinkRose (H.counts hub.old) (H.counts hub.new) self.old.number side }
     {
         turn(&mut self.session, hub, self.number)
     }

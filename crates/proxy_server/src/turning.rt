@@ -1,12 +1,10 @@
 //! One turn of a session: rounds of writes and reads, until nothing moves.
 ghost use Rattle.std.specs.Prelude.{◌≡◌, ◌<◌, ◌≤◌, ◌⊎◌, [], length, take, true, is_some, None, Some, Ok, IfOk, IfErr};
-ghost use Rattle.gate_base.specs.Causes.{Rose};
 ghost use Rattle.gate_hub.specs.Hubs.{Later};
-ghost use Rattle.session_core.specs.Standing.{History};
 ghost use Rattle.session_core.specs.Session.{HoldsWithin, due_to, room_of, and_sent, and_ended};
-ghost use Rattle.proxy_server.specs.Calling.{piece_length};
-ghost use Rattle.proxy_server.specs.Matching.{Matches, IsSame, and_received};
-ghost use Rattle.proxy_server.specs.Turning.{Goes, IsQuiet, TurnDoes, Begins, CallDoes, EndsAs, KeepsMarks, no_waits, wanted, wanted_write, wanted_read, most_behind, write_waits, read_waits};
+ghost use Rattle.proxy_server.specs.Calling.{piece_length, LinkRose};
+ghost use Rattle.proxy_server.specs.Matching.{IsSame, and_received, MatchesOn};
+ghost use Rattle.proxy_server.specs.Turning.{IsQuiet, EndsAs, KeepsMarks, wanted, wanted_read, most_behind, write_waits, read_waits, TurnGoesInOrder, Calls, to_write, room_in, to_read, other};
 
 use crate::turn_end::Turn;
 use crate::waiting::Waits;
@@ -30,16 +28,14 @@ const MOST_MOVES: u32 = 16;
 /// and either once it answered in this turn that it isn't ready. A call that fails is the last, and ends the turn with
 /// `Outcome::LinkFault`. It takes no memory: the session keeps its rooms, and holds no more than it may, before and after.
 pub fn turn<H: Hub, J: Judge>(session: &mut Session<J>, hub: &mut H, k: u64) -> Turn
-    ensures turned { Goes (H.tells hub.old) (H.tells hub.new) (Matches J J.rules session.old) (Matches J J.rules session.new) k
-        (λ made s t. (session.old.outcome ≡ None → Begins k (wanted no_waits session.old) made) ×
-        TurnDoes J J.rules k session.new result made s t) }
+    ensures turned { TurnGoesInOrder J.rules k (H.tells hub.old) session.old (H.tells hub.new) session.new result }
     ensures ending { EndsAs session.new.outcome result }
     ensures same { IsSame J session.old session.new }
     ensures holds { HoldsWithin session.old × HoldsWithin session.new }
     ensures later { Later (H.counts hub.old) (H.counts hub.new) }
     ensures kept { H.kept hub.new ≡ H.kept hub.old }
     ensures cause { (side : Side) → result ≡ Turn.Ended (Outcome.LinkFault side) →
-        Rose ((H.counts hub.old).link_faults k side) ((H.counts hub.new).link_faults k side) }
+        LinkRose (H.counts hub.old) (H.counts hub.new) k side }
 {
     let mut waits = Waits {
         client_write: false,
@@ -74,14 +70,13 @@ fn round<H: Hub, J: Judge>(
     piece: &mut [u8],
 ) -> Result<u32, Side>
     requires { length piece.old ≡ piece_length }
-    ensures goes { Goes (H.tells hub.old) (H.tells hub.new) (Matches J J.rules session.old) (Matches J J.rules session.new) k
-        (CallDoes k (wanted waits.old session.old) result waits.old waits.new) }
+    ensures goes { Calls J.rules k wanted (H.tells hub.old) session.old waits.old (H.tells hub.new) session.new waits.new result }
     ensures idle { wanted waits.old session.old ≡ None → (session.new ≡ session.old) × (waits.new ≡ waits.old) }
     ensures same { IsSame J session.old session.new }
     ensures holds { HoldsWithin session.new }
     ensures later { Later (H.counts hub.old) (H.counts hub.new) }
     ensures kept { H.kept hub.new ≡ H.kept hub.old }
-    ensures cause { IfErr result (λ x. Rose ((H.counts hub.old).link_faults k x) ((H.counts hub.new).link_faults k x)) }
+    ensures cause { IfErr result (LinkRose (H.counts hub.old) (H.counts hub.new) k) }
     ensures quiet { result ≡ Ok 0 →
         (session.new ≡ session.old) × IsQuiet session.new.limit session.new.standing session.new.outcome waits.new }
     ensures few { IfOk result (λ n. n ≤ 4) }
@@ -89,11 +84,18 @@ fn round<H: Hub, J: Judge>(
 {
     let written = write(session, hub, k, Side::Client, waits)?;
     let passed_on = write(session, hub, k, Side::Upstream, waits)?;
-    let most = most_read(session.due(Side::Client));
-    let answered = read(session, hub, k, Side::Upstream, waits, &mut piece[..most])?;
-    let most = most_read(session.due(Side::Upstream));
-    let taken = read(session, hub, k, Side::Client, waits, &mut piece[..most])?;
+    let answered = read_behind(session, hub, k, Side::Upstream, waits, piece)?;
+    let taken = read_behind(session, hub, k, Side::Client, waits, piece)?;
     Ok(written + passed_on + answered + taken)
+}
+
+fn other(side: Side) -> Side
+    ensures { result ≡ other side }
+{
+    match side {
+        Side::Client => Side::Upstream,
+        Side::Upstream => Side::Client,
+    }
 }
 
 /// How many bytes a call may read of a side, where these are due to the other.
@@ -107,6 +109,33 @@ fn most_read(due_to_other: &[u8]) -> usize
     }
 }
 
+/// Reads a side, in a smaller piece while something is due to the other.
+fn read_behind<H: Hub, J: Judge>(
+    session: &mut Session<J>,
+    hub: &mut H,
+    k: u64,
+    side: Side,
+    waits: &mut Waits,
+    piece: &mut [u8],
+) -> Result<u32, Side>
+    requires { length piece.old ≡ piece_length }
+    ensures goes { Calls J.rules k (to_read side) (H.tells hub.old) session.old waits.old (H.tells hub.new) session.new waits.new result }
+    ensures idle { to_read side waits.old session.old ≡ None → (session.new ≡ session.old) × (waits.new ≡ waits.old) }
+    ensures same { IsSame J session.old session.new }
+    ensures holds { HoldsWithin session.new }
+    ensures later { Later (H.counts hub.old) (H.counts hub.new) }
+    ensures kept { H.kept hub.new ≡ H.kept hub.old }
+    ensures cause { IfErr result (LinkRose (H.counts hub.old) (H.counts hub.new) k) }
+    ensures quiet { result ≡ Ok 0 →
+        (session.new ≡ session.old) × ((room_in session.new side ≡ 0) ⊎ (read_waits waits.new side ≡ true)) }
+    ensures marks { KeepsMarks waits.old waits.new }
+    ensures few { IfOk result (λ n. n ≤ 1) }
+    ensures piece { length piece.new ≡ length piece.old }
+{
+    let most = most_read(session.due(other(side)));
+    read(session, hub, k, side, waits, &mut piece[..most])
+}
+
 /// Writes what is due to a side.
 fn write<H: Hub, J: Judge>(
     session: &mut Session<J>,
@@ -115,14 +144,13 @@ fn write<H: Hub, J: Judge>(
     side: Side,
     waits: &mut Waits,
 ) -> Result<u32, Side>
-    ensures goes { Goes (H.tells hub.old) (H.tells hub.new) (Matches J J.rules session.old) (Matches J J.rules session.new) k
-        (CallDoes k (wanted_write side waits.old session.old.standing) result waits.old waits.new) }
-    ensures idle { wanted_write side waits.old session.old.standing ≡ None → (session.new ≡ session.old) × (waits.new ≡ waits.old) }
+    ensures goes { Calls J.rules k (to_write side) (H.tells hub.old) session.old waits.old (H.tells hub.new) session.new waits.new result }
+    ensures idle { to_write side waits.old session.old ≡ None → (session.new ≡ session.old) × (waits.new ≡ waits.old) }
     ensures same { IsSame J session.old session.new }
     ensures holds { HoldsWithin session.new }
     ensures later { Later (H.counts hub.old) (H.counts hub.new) }
     ensures kept { H.kept hub.new ≡ H.kept hub.old }
-    ensures cause { IfErr result (λ x. Rose ((H.counts hub.old).link_faults k x) ((H.counts hub.new).link_faults k x)) }
+    ensures cause { IfErr result (LinkRose (H.counts hub.old) (H.counts hub.new) k) }
     ensures quiet { result ≡ Ok 0 →
         (session.new ≡ session.old) × ((due_to side session.new.standing ≡ []) ⊎ (write_waits waits.new side ≡ true)) }
     ensures marks { KeepsMarks waits.old waits.new }
@@ -157,17 +185,17 @@ fn read<H: Hub, J: Judge>(
 ) -> Result<u32, Side>
     requires some { 0 < length piece.old }
     requires few { length piece.old ≤ piece_length }
-    ensures goes { Goes (H.tells hub.old) (H.tells hub.new) (Matches J J.rules session.old) (Matches J J.rules session.new) k
-        (CallDoes k (wanted_read (length piece.old) side waits.old session.old) result waits.old waits.new) }
+    ensures goes { Calls J.rules k (wanted_read (length piece.old) side)
+        (H.tells hub.old) session.old waits.old (H.tells hub.new) session.new waits.new result }
     ensures idle { wanted_read (length piece.old) side waits.old session.old ≡ None →
         (session.new ≡ session.old) × (waits.new ≡ waits.old) }
     ensures same { IsSame J session.old session.new }
     ensures holds { HoldsWithin session.new }
     ensures later { Later (H.counts hub.old) (H.counts hub.new) }
     ensures kept { H.kept hub.new ≡ H.kept hub.old }
-    ensures cause { IfErr result (λ x. Rose ((H.counts hub.old).link_faults k x) ((H.counts hub.new).link_faults k x)) }
+    ensures cause { IfErr result (LinkRose (H.counts hub.old) (H.counts hub.new) k) }
     ensures quiet { result ≡ Ok 0 →
-        (session.new ≡ session.old) × ((room_of session.new.limit session.new.standing (is_some session.new.outcome) side ≡ 0) ⊎ (read_waits waits.new side ≡ true)) }
+        (session.new ≡ session.old) × ((room_in session.new side ≡ 0) ⊎ (read_waits waits.new side ≡ true)) }
     ensures marks { KeepsMarks waits.old waits.new }
     ensures few { IfOk result (λ n. n ≤ 1) }
     ensures piece { length piece.new ≡ length piece.old }
@@ -196,7 +224,7 @@ fn read<H: Hub, J: Judge>(
 /// Gives the session bytes of a side that it has room for.
 fn give<J: Judge>(session: &mut Session<J>, side: Side, bytes: &[u8])
     requires room { length bytes.now ≤ room_of session.old.limit session.old.standing (is_some session.old.outcome) side }
-    ensures matches { (h : History) → Matches J J.rules session.old h → Matches J J.rules session.new (and_received side h bytes.now) }
+    ensures matches { MatchesOn J.rules session.old session.new (λ h. and_received side h bytes.now) }
     ensures same { IsSame J session.old session.new }
     ensures holds { HoldsWithin session.new }
 {
@@ -209,8 +237,7 @@ fn give<J: Judge>(session: &mut Session<J>, side: Side, bytes: &[u8])
 /// So many bytes that were due to a side were sent to it.
 fn pass_on<J: Judge>(session: &mut Session<J>, side: Side, count: usize)
     requires due { count ≤ length (due_to side session.old.standing) }
-    ensures matches { (h : History) → Matches J J.rules session.old h →
-        Matches J J.rules session.new (and_sent side h (take count (due_to side session.old.standing))) }
+    ensures matches { MatchesOn J.rules session.old session.new (λ h. and_sent side h (take count (due_to side session.old.standing))) }
     ensures same { IsSame J session.old session.new }
     ensures holds { HoldsWithin session.new }
 {
@@ -219,7 +246,7 @@ fn pass_on<J: Judge>(session: &mut Session<J>, side: Side, count: usize)
 
 /// A side has ended.
 fn finish<J: Judge>(session: &mut Session<J>, side: Side)
-    ensures matches { (h : History) → Matches J J.rules session.old h → Matches J J.rules session.new (and_ended side h) }
+    ensures matches { MatchesOn J.rules session.old session.new (λ h. and_ended side h) }
     ensures same { IsSame J session.old session.new }
     ensures holds { HoldsWithin session.new }
 {

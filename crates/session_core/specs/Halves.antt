@@ -21,10 +21,14 @@ let_go half n = record half { due = record (half.due) { bytes = drop n half.due.
 abbrev pub ended : Half → Half
 ended half = record half { ended = true }
 
+-- what is held of it behind its front frame
+abbrev pub behind_front : Half → List ℕ
+behind_front half = behind half.held.held (front half.held.limit half.held.held)
+
 -- its front frame was taken
 abbrev pub without_frame : Half → Half
 without_frame half = record half {
-  held = record (half.held) { held = behind half.held.held (front half.held.limit half.held.held) };
+  held = record (half.held) { held = behind_front half };
   count = told (half.count + 1);
 }
 

@@ -1,13 +1,14 @@
 -- The state of a session in the program, and what its calls do.
-use Rattle.std.specs.Prelude.{◌≡◌, ℕ, ◌+◌, ◌*◌, ◌^◌, ◌<◌, ◌≤◌, List, length, Bool, true, false, ◌&&◌, if◌then◌else◌, Option, Some, None, IfSome}
+use Rattle.std.specs.Prelude.{◌≡◌, ℕ, ◌+◌, ◌*◌, ◌^◌, ◌<◌, ◌≤◌, List, [], length, drop, Bool, true, false, ◌&&◌, if◌then◌else◌, Option, Some, None, IfSome}
 use Rattle.session_core.specs.declared.outcome.Halt.TheVariants as halt
 use Rattle.framed_transport.specs.Frames.{IsCut}
 use Rattle.framed_transport.specs.Front.{Whole, front}
+use Rattle.translate_core.specs.declared.verdict.Cause.{Cause}
 use Rattle.session_core.specs.Rules.{Rules}
 use Rattle.session_core.specs.Standing.{Standing, History}
-use Rattle.session_core.specs.Fits.{Fits}
-use Rattle.session_core.specs.Steps.{Move, Waits, Halts, Takes, of_upstream, of_client, is_none, by_upstream, by_client}
-use Rattle.session_core.specs.Ends.{IsAtRest}
+use Rattle.session_core.specs.Fits.{Fits, told}
+use Rattle.session_core.specs.Steps.{Move, Waits, Halts, Takes, of_upstream, of_client, is_none, by_judged, by_upstream, by_client}
+use Rattle.session_core.specs.Ends.{IsAtRest, TakesNoMore}
 use Rattle.session_core.specs.Session.{Rooms}
 use Rattle.session_core.specs.declared.outcome.Outcome.{Outcome}
 use Rattle.session_core.specs.declared.state.State.{State}
@@ -17,7 +18,7 @@ use Rattle.session_core.specs.declared.state.SessionStep.TheVariants as step
 use Rattle.session_core.specs.declared.state.TheConstants.{MOST_CALLS}
 use Rattle.gate_hub.specs.declared.hub.Side.{Side}
 use Rattle.gate_hub.specs.declared.hub.Side.TheVariants as side
-use Rattle.session_core.specs.Halves.{HasRooms}
+use Rattle.session_core.specs.Halves.{HasRooms, behind_front}
 use Rattle.session_core.specs.declared.state.Waiting.{Waiting}
 use Rattle.session_core.specs.declared.state.Waiting.TheVariants as waiting
 use Rattle.session_core.specs.declared.judge.ClientJudged.{ClientJudged}
@@ -49,6 +50,21 @@ standing s = record {
   upstream_ended = s.upstream.ended;
   taken = s.client.count;
   answered = s.upstream.count;
+}
+
+-- where it stands once the upstream's front frame and the oldest call are gone
+abbrev pub without_reply : State → Standing
+without_reply s = record (standing s) {
+  upstream = behind_front s.upstream;
+  calls = drop 1 s.calls.items;
+  answered = told (s.upstream.count + 1);
+}
+
+-- and once the client's front frame is gone
+abbrev pub without_call : State → Standing
+without_call s = record (standing s) {
+  client = behind_front s.client;
+  taken = told (s.client.count + 1);
 }
 
 -- the rooms that it has
@@ -120,6 +136,16 @@ abbrev pub Comes : SessionStep → Move → Standing → Standing → Type 0
 Comes step.Waits m old new = (m ≡ Waits) × (new ≡ old)
 Comes (step.Halts h) m old new = (m ≡ Halts h) × (new ≡ old)
 Comes step.Takes m old new = m ≡ Takes new
+
+-- what came of a refused frame of the client, which stands at its front
+abbrev pub ComesRefused : Rules → Cause → State → SessionStep → State → Type 0
+ComesRefused rules cause old result new =
+    (frame rest : List ℕ) → front old.client.held.limit old.client.held.held ≡ Whole frame rest →
+    Comes result (by_judged (client.Refused cause) (standing old) [] (rules.answer frame) rest) (standing old) (standing new)
+
+-- no more of a side was taken, for one of the reasons
+abbrev pub TakesNoMoreOf : Side → State → State → Type 0
+TakesNoMoreOf x old new = TakesNoMore (limit_of old) (half_of x new).held.held (half_of x old).ended new.outcome
 
 -- what the end of the upstream's bytes does to an open call
 abbrev pub ends_step : Bool → Bool → SessionStep

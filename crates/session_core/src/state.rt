@@ -21,15 +21,15 @@
 //! | no call is open, the client has ended | `Clean` |
 //!
 //! A session with an outcome takes nothing more.
-ghost use Rattle.std.specs.Prelude.{◌≡◌, ◌+◌, ◌^◌, ◌<◌, ◌≤◌, [], ◌++◌, length, take, drop, min, ◌-◌, ℕ, is_some, List, IfOk, true, Some, None, if◌then◌else◌};
-ghost use Rattle.framed_transport.specs.Front.{front, Whole, behind, is_part, is_whole};
+ghost use Rattle.std.specs.Prelude.{◌≡◌, ◌+◌, ◌^◌, ◌<◌, ◌≤◌, [], ◌++◌, length, take, min, ◌-◌, ℕ, is_some, IfOk, true, Some, None, if◌then◌else◌};
+ghost use Rattle.framed_transport.specs.Front.{front, is_part, is_whole};
 ghost use Rattle.session_core.specs.Standing.{Standing, History, begun};
 ghost use Rattle.session_core.specs.Fits.{Fits, told};
-ghost use Rattle.session_core.specs.Steps.{outcome_of, IsStill, is_none, by_judged, by_upstream, by_client, at_end, Move, Waits};
-ghost use Rattle.session_core.specs.Ends.{TakesNoMore, held_of, most_held};
+ghost use Rattle.session_core.specs.Steps.{outcome_of, IsStill, is_none, by_upstream, by_client, at_end, Move, Waits};
+ghost use Rattle.session_core.specs.Ends.{held_of, most_held};
 ghost use Rattle.session_core.specs.Session.{due_to, and_came, and_sent, and_ended, room_of};
 ghost use Rattle.session_core.specs.Halves.{fed, let_go, ended};
-ghost use Rattle.session_core.specs.Working.{standing, limit_of, half_of, with_half, of_upstream_in, of_client_in, IsReady, Works, Keeps, IsSettledBy, FitsOn, IsSound, Comes, GoesOn, Cuts, ends_step, ending_of, IsFound};
+ghost use Rattle.session_core.specs.Working.{standing, limit_of, half_of, with_half, of_upstream_in, of_client_in, IsReady, Works, Keeps, IsSettledBy, FitsOn, IsSound, Comes, GoesOn, Cuts, ends_step, ending_of, IsFound, without_reply, without_call, ComesRefused, TakesNoMoreOf};
 
 use crate::framing::{answer_call, judge_client, judge_upstream};
 use crate::half::Half;
@@ -154,11 +154,7 @@ impl State {
 
     /// Lets the upstream's front frame and the oldest call go.
     fn close_call(&mut self)
-        ensures stands { standing self.new ≡ record (standing self.old) {
-          upstream = behind self.old.upstream.held.held (front self.old.upstream.held.limit self.old.upstream.held.held);
-          calls = drop 1 self.old.calls.items;
-          answered = told (self.old.upstream.count + 1);
-        } }
+        ensures stands { standing self.new ≡ without_reply self.old }
         ensures kept { (self.new.known ≡ self.old.known) × (self.new.client ≡ self.old.client) }
         ensures ready { (limit max_calls : ℕ) → IsReady limit max_calls self.old → IsReady limit max_calls self.new }
     {
@@ -244,10 +240,7 @@ impl State {
 
     /// Lets the client's front frame go.
     fn count_frame(&mut self)
-        ensures stands { standing self.new ≡ record (standing self.old) {
-          client = behind self.old.client.held.held (front self.old.client.held.limit self.old.client.held.held);
-          taken = told (self.old.client.count + 1);
-        } }
+        ensures stands { standing self.new ≡ without_call self.old }
         ensures unknown { self.new.known ≡ None }
         ensures ready { (limit max_calls : ℕ) → IsReady limit max_calls self.old → IsReady limit max_calls self.new }
     {
@@ -261,9 +254,7 @@ impl State {
         requires found { IsFound (J.rules judge.old) self.old.client.held.limit self.old.client.held.held (Waiting.Refused cause) }
         ensures same { judge.new ≡ judge.old }
         ensures keeps { Keeps (J.rules judge.old) self.old self.new }
-        ensures comes { (frame rest : List ℕ) → front self.old.client.held.limit self.old.client.held.held ≡ Whole frame rest →
-            let answer = (J.rules judge.old).answer frame in
-            Comes result (by_judged (ClientJudged.Refused cause) (standing self.old) [] answer rest) (standing self.old) (standing self.new) }
+        ensures comes { ComesRefused (J.rules judge.old) cause self.old result self.new }
     {
         if !self.calls.is_empty() || !self.client.is_paid() {
             return SessionStep::Waits;
@@ -395,8 +386,7 @@ impl State {
         ensures settled { IsSettledBy (J.rules judge.old) self.old self.new }
         ensures count { result ≤ length bytes.now }
         ensures fits { FitsOn (J.rules judge.old) self.old self.new (λ h. and_came side h (take result bytes.now)) }
-        ensures fewer { let half = half_of side self.new in result < length bytes.now →
-            TakesNoMore (limit_of self.old) half.held.held (half_of side self.old).ended self.new.outcome }
+        ensures fewer { result < length bytes.now → TakesNoMoreOf side self.old self.new }
         ensures whole { length bytes.now ≤ room_of (limit_of self.old) (standing self.old) (is_some self.old.outcome) side → result ≡ length bytes.now }
         ensures ended { (half_of side self.old).ended ≡ true → result ≡ 0 }
         ensures over { is_some self.old.outcome ≡ true → result ≡ 0 }

@@ -5,7 +5,10 @@ use Rattle.thrift_value.specs.declared.kind.MessageType.TheVariants as types
 use Rattle.protocol_traits.specs.declared.fault.Fault.{Fault}
 use Rattle.type_tables.specs.declared.declared.StructId.{StructId}
 use Rattle.type_tables.specs.Declarations.{Declarations}
+use Rattle.protocol_traits.specs.declared.proto.Proto.{Proto}
 use Rattle.translate_core.specs.Judged.{Judged}
+use Rattle.translate_core.specs.declared.route.Route.TheVariants.{Answer}
+use Rattle.protocol_pairs.specs.Pairs.{judged, answered}
 use Rattle.translate_core.specs.declared.verdict.Cause.{Cause}
 use Rattle.translate_core.specs.declared.verdict.Verdict.{Verdict}
 use Rattle.translate_core.specs.declared.verdict.Verdict.TheVariants.{Passed, Refused, Unread}
@@ -52,3 +55,7 @@ returned answer (Unread fault) bytes = []
 -- the same of a frame that was judged
 abbrev pub reply_of : (Cause → List ℕ) → Judged → List ℕ
 reply_of answer judged = returned answer judged.verdict judged.bytes
+
+-- what goes to the client for a frame of the upstream that is judged as the reply of this struct
+abbrev pub reply_bytes : Declarations → Option StructId → Proto → Proto → List ℕ → List ℕ
+reply_bytes d reply from to frame = reply_of (answered from to frame) (judged d (Answer (expected d reply)) from to frame)

@@ -3,7 +3,7 @@ ghost use Rattle.std.specs.Prelude.{◌≡◌, ◌+◌, ◌^◌, ◌<◌, ◌≤
 ghost use Rattle.translate_core.specs.Routes.{IsKnownRoute};
 ghost use Rattle.protocol_pairs.specs.Pairs.{judged, answered};
 ghost use Rattle.session_core.specs.Rooms.{room_for};
-ghost use Rattle.session_judge.specs.Upstream.{expected, tells_call, of_type, of_upstream, back, reply_of};
+ghost use Rattle.session_judge.specs.Upstream.{expected, tells_call, of_type, of_upstream, back, reply_bytes};
 
 use gate_io::Out;
 use protocol_pairs::{answer, head_type, translate};
@@ -29,8 +29,7 @@ pub fn judge_reply(
     requires size { length frame.now < 2 ^ 31 }
     requires fits { length out.old.bytes + room_for (length frame.now) ≤ out.old.room }
     ensures verdict { result ≡ of_upstream (judged schema.now (Route.Answer (expected schema.now reply)) from to frame.now).verdict }
-    ensures out { let told = judged schema.now (Route.Answer (expected schema.now reply)) from to frame.now in
-        out.new ≡ record out.old { bytes = out.old.bytes ++ reply_of (answered from to frame.now) told } }
+    ensures out { out.new ≡ record out.old { bytes = out.old.bytes ++ reply_bytes schema.now reply from to frame.now } }
     ensures within { length out.new.bytes ≤ out.new.room }
 {
     if tells_call(head_type(from, frame, room)) {
@@ -64,8 +63,7 @@ fn judge_answer(
     requires size { length frame.now < 2 ^ 31 }
     requires fits { length out.old.bytes + room_for (length frame.now) ≤ out.old.room }
     ensures verdict { result ≡ of_upstream (judged schema.now (Route.Answer (expected schema.now reply)) from to frame.now).verdict }
-    ensures out { let told = judged schema.now (Route.Answer (expected schema.now reply)) from to frame.now in
-        out.new ≡ record out.old { bytes = out.old.bytes ++ reply_of (answered from to frame.now) told } }
+    ensures out { out.new ≡ record out.old { bytes = out.old.bytes ++ reply_bytes schema.now reply from to frame.now } }
     ensures within { length out.new.bytes ≤ out.new.room }
 {
     let start = out.bytes().len();

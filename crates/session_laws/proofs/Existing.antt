@@ -1,10 +1,10 @@
 -- Each side's bytes are frames up to the first that ends it.
-use Rattle.std.proofs.Common.{◌≡◌, ℕ, zero, suc, ◌<◌, ◌≤◌, ◌^◌, List, [], ◌∷◌, ◌++◌, length, get_or, true, false, Some, slice_get, refl, ap, ◌∙◌, sym, subst, append_assoc, arith}
+use Rattle.std.proofs.Common.{◌≡◌, ℕ, zero, suc, ◌<◌, ◌≤◌, ◌^◌, List, [], ◌∷◌, ◌++◌, length, true, false, Some, slice_get, refl, ap, ◌∙◌, sym, subst, append_assoc, arith}
 use Rattle.std.specs.List.{All, flat_map}
 use Rattle.std.specs.Int.{to_be_bytes, w32}
 use Rattle.std.proofs.lemmas.List.Elements.{All-nil, All-cons, All-head, All-tail}
 use Rattle.protocol_traits.specs.Heads.{Header}
-use Rattle.framed_transport.specs.Frames.{framed, Splits}
+use Rattle.framed_transport.specs.Frames.{framed, Splitting}
 use Rattle.framed_transport.specs.Front.{Whole, front, is_whole}
 use Rattle.session_core.specs.declared.outcome.Halt.{Halt}
 use Rattle.session_core.specs.declared.judge.ClientJudged.TheVariants as client
@@ -24,12 +24,7 @@ use Rattle.session_laws.proofs.Listing.{Fated, RepliesFated}
 
 -- each stream of bytes is frames and a rest that begins with none
 abbrev pub IsSplit : Type 0
-IsSplit = (limit : ℕ) (bytes : List ℕ) → limit < 2 ^ 31 → ((k : ℕ) → get_or bytes k 0 < 256) → (frames : List (List ℕ)) × (rest : List ℕ) × Splits limit bytes frames rest
-
-each_byte : (bytes : List ℕ) → AreBytes bytes → (k : ℕ) → get_or bytes k 0 < 256
-each_byte [] are k = omega arith
-each_byte (b ∷ bytes) are zero = are.0
-each_byte (b ∷ bytes) are (suc k) = each_byte bytes are.1 k
+IsSplit = (limit : ℕ) (bytes : List ℕ) → limit < 2 ^ 31 → AreBytes bytes → Splitting limit bytes
 
 -- the first frame of a stream, and what is behind it
 pub frame_bytes : (x more : List ℕ) → AreBytes (framed x ++ more) → AreBytes x × AreBytes more
@@ -118,8 +113,8 @@ module _ (s : Setting) (limit : ℕ) (from : HasLaws s.client) (to : HasLaws s.u
 
   pub all_of_client : IsSplit → (bytes : List ℕ) → AreBytes bytes → AllOfClient bytes
   all_of_client split bytes are =
-      let parts = split limit bytes small (each_byte bytes are) in
-      subst AllOfClient (sym parts.2.whole) (client_from parts.0 parts.1 parts.2.each (subst AreBytes parts.2.whole are) parts.2.no_more)
+      let parts = split limit bytes small are in
+      subst AllOfClient (sym parts.splits.whole) (client_from parts.frames parts.rest parts.splits.each (subst AreBytes parts.splits.whole are) parts.splits.no_more)
 
   -- ---- the upstream
 
@@ -183,5 +178,5 @@ module _ (s : Setting) (limit : ℕ) (from : HasLaws s.client) (to : HasLaws s.u
 
   pub all_of_upstream : IsSplit → (hs : List Header) (bytes : List ℕ) → AreBytes bytes → AllOfUpstream hs bytes
   all_of_upstream split hs bytes are =
-      let parts = split limit bytes small (each_byte bytes are) in
-      subst (AllOfUpstream hs) (sym parts.2.whole) (upstream_from hs parts.0 parts.1 parts.2.each (subst AreBytes parts.2.whole are) parts.2.no_more)
+      let parts = split limit bytes small are in
+      subst (AllOfUpstream hs) (sym parts.splits.whole) (upstream_from hs parts.frames parts.rest parts.splits.each (subst AreBytes parts.splits.whole are) parts.splits.no_more)

@@ -7,8 +7,9 @@ use Rattle.framed_transport.specs.Frames.{framed}
 use Rattle.framed_transport.specs.Front.{Whole, Large, front, is_part}
 use Rattle.session_core.specs.Standing.{Standing, History}
 use Rattle.session_core.specs.Ends.{IsAtRest}
+use Rattle.session_core.specs.Steps.{outcome_of}
 use Rattle.session_core.specs.Stands.{IsTaken, IsFrontOf}
-use Rattle.session_core.specs.Fits.{told}
+use Rattle.session_core.specs.Fits.{Fits, told}
 use Rattle.session_core.specs.declared.outcome.Halt.{Halt}
 use Rattle.session_core.specs.declared.outcome.Halt.TheVariants as halt
 use Rattle.session_core.specs.declared.outcome.Outcome.{Outcome}
@@ -96,3 +97,34 @@ pub record IsEnded (s : Setting) (limit max_calls : ℕ) (h : History) (c : Carr
   pub upstream : IsTaken limit h.from_upstream (take j c.upstream.frames) upstream_rest
   pub sent : IsSent s max_calls c.asked c.replied h i j
   pub why : Why s limit h (calls s (take i c.asked)) i j client_rest upstream_rest o
+
+-- ---- a session of such a setting that fits what came and went, all of it bytes
+
+pub record Session : Type 0 where
+  pub setting : Setting
+  pub limit : ℕ
+  pub max_calls : ℕ
+  pub history : History
+  pub standing : Standing
+  pub covered : IsCovered setting limit
+  pub bytes : IsOfBytes history
+  pub fits : Fits (rules_of setting) limit max_calls history standing
+
+abbrev pub HasCarried : Session → Type 0
+HasCarried x = Carries x.setting x.limit x.history
+
+-- it is at rest with no outcome, and all that was due was sent
+abbrev pub IsPaid : Session → Type 0
+IsPaid x = HasSent x.setting x.limit x.max_calls x.standing
+
+-- it has carried all that the order of the calls and the most of them that may be open allow
+abbrev pub HasCarriedAll : Session → Type 0
+HasCarriedAll x = (c : HasCarried x) × IsComplete x.setting x.max_calls c.asked c.replied x.history
+
+-- it has this outcome
+abbrev pub EndsWith : Session → Outcome → Type 0
+EndsWith x o = outcome_of (rules_of x.setting) x.limit x.max_calls x.standing ≡ Some o
+
+-- it has carried all that was due before it ended, and the outcome says why
+abbrev pub HasEndedWith : Session → Outcome → Type 0
+HasEndedWith x o = (c : HasCarried x) × IsEnded x.setting x.limit x.max_calls x.history c o

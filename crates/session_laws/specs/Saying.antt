@@ -19,6 +19,7 @@ use Rattle.compact_laws.specs.Faults as compact_faults
 use Rattle.verdict_laws.specs.Bars.{Spot, IsFirstBar, HoldsAll, BinaryPlace, CompactPlace}
 use Rattle.verdict_laws.specs.Rounds.{SpellsIn, plain_in}
 use Rattle.verdict_laws.specs.Verdicts.{BinaryHead, CompactHead}
+use Rattle.protocol_pairs.specs.Pairs.{answered}
 
 -- the protocols of which the laws are proved
 abbrev pub HasLaws : Proto → Type 0
@@ -125,3 +126,7 @@ Says p frame (GoesOn m out) = Spells p p.from m frame × IsShallow m × HoldsAll
 Says p frame (IsRefused header cause answer) =
     BeginsWith p.from header frame × StandsIn p frame cause × SpellsPlainly p p.teller (failure_of p.teller header cause) answer
 Says p frame (IsUnread f) = ((header : Header) → BeginsWith p.from header frame → ⊥) × FaultIn p frame f
+
+-- the answer to the message with this header, refused for this cause, is the plain spelling of the exception that tells it
+abbrev pub AnswerSpells : Passage → List ℕ → Header → Cause → Type 0
+AnswerSpells p frame header cause = SpellsPlainly p p.to (failure_of p.to header cause) (answered p.from p.to frame cause)

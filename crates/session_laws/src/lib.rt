@@ -3,20 +3,17 @@
 //! Each law is the contract of a function that does nothing. The code rests on none of them.
 #![tactic(auto)]
 
-ghost use Rattle.std.specs.Prelude.{◌≡◌, ◌<◌, List, ℕ, Some};
+ghost use Rattle.std.specs.Prelude.{◌<◌, List, ℕ};
 ghost use Rattle.protocol_traits.specs.Heads.{Header};
 ghost use Rattle.translate_core.specs.declared.verdict.Cause.{Cause};
 ghost use Rattle.protocol_pairs.specs.Pairs.{answered};
 ghost use Rattle.gate_hub.specs.declared.hub.Served.{Served};
-ghost use Rattle.session_core.specs.Standing.{Standing, History};
-ghost use Rattle.session_core.specs.Fits.{Fits};
-ghost use Rattle.session_core.specs.Steps.{outcome_of};
 ghost use Rattle.session_core.specs.declared.outcome.Outcome.{Outcome};
 ghost use Rattle.session_judge.specs.Setting.{Setting};
 ghost use Rattle.session_judge.specs.Rules.{rules_of};
 ghost use Rattle.proxy_server.specs.Steps.{Serves};
-ghost use Rattle.session_laws.specs.Saying.{HasLaws, Passage, BeginsWith, SpellsPlainly, failure_of};
-ghost use Rattle.session_laws.specs.Carrying.{IsCovered, IsOfBytes, Carries, HasSent, IsComplete, IsEnded};
+ghost use Rattle.session_laws.specs.Saying.{HasLaws, Passage, BeginsWith, AnswerSpells};
+ghost use Rattle.session_laws.specs.Carrying.{IsCovered, Session, HasCarried, IsPaid, HasCarriedAll, EndsWith, HasEndedWith};
 ghost use Rattle.session_laws.specs.Serving.{sessions_of, Output, leaving, CarriesAll};
 
 use framed_transport::{a_stream_is_split, frame_stands_at_the_front};
@@ -26,12 +23,12 @@ use gate_hub::Hub;
 /// before it. Field 1 of the exception is the text of the cause, field 2 the type 7, a protocol error.
 pub fn an_answer_spells_an_exception()
     ensures { (p : Passage) (frame : List ℕ) (header : Header) (cause : Cause) → HasLaws p.to → BeginsWith p.from header frame
-        → SpellsPlainly p p.to (failure_of p.to header cause) (answered p.from p.to frame cause) }
+        → AnswerSpells p frame header cause }
 {}
 
 /// What each side of a session was sent is a front of what all frames of the other give.
 pub fn what_was_sent_was_said()
-    ensures { (s : Setting) (limit max_calls : ℕ) (h : History) (t : Standing) → IsCovered s limit → IsOfBytes h → Fits (rules_of s) limit max_calls h t → Carries s limit h }
+    ensures { (x : Session) → HasCarried x }
 {
     frame_stands_at_the_front();
     a_stream_is_split();
@@ -40,8 +37,7 @@ pub fn what_was_sent_was_said()
 /// Where a session is at rest with no outcome and all that was due was sent, each side was sent all that the order of the calls and the
 /// most of them that may be open allow.
 pub fn all_that_was_due_was_said()
-    ensures { (s : Setting) (limit max_calls : ℕ) (h : History) (t : Standing) → IsCovered s limit → 0 < max_calls → IsOfBytes h → Fits (rules_of s) limit max_calls h t
-        → HasSent s limit max_calls t → (c : Carries s limit h) × IsComplete s max_calls c.asked c.replied h }
+    ensures { (x : Session) → 0 < x.max_calls → IsPaid x → HasCarriedAll x }
 {
     frame_stands_at_the_front();
     a_stream_is_split();
@@ -50,8 +46,7 @@ pub fn all_that_was_due_was_said()
 /// Where a session has an outcome of its own, each side was sent all that was due for the frames that were taken, and the outcome says
 /// which frame, length or end was met behind them.
 pub fn an_outcome_says_why()
-    ensures { (s : Setting) (limit max_calls : ℕ) (h : History) (t : Standing) (o : Outcome) → IsCovered s limit → 0 < max_calls → IsOfBytes h
-        → Fits (rules_of s) limit max_calls h t → outcome_of (rules_of s) limit max_calls t ≡ Some o → (c : Carries s limit h) × IsEnded s limit max_calls h c o }
+    ensures { (x : Session) (o : Outcome) → 0 < x.max_calls → EndsWith x o → HasEndedWith x o }
 {
     frame_stands_at_the_front();
     a_stream_is_split();

@@ -10,8 +10,14 @@ use Rattle.translate_core.specs.declared.route.Route.TheVariants.{ByName}
 use Rattle.translate_core.specs.Answers.{marked, spelled}
 use Rattle.translate_core.specs.Routes.{start_of}
 use Rattle.message_show.specs.Line.{begun, head_text, line_end}
-use Rattle.message_show.specs.Shown.{Showing, Line, Refused, Unread, place, line_target}
+use Rattle.message_show.specs.Shown.{Showing, Line, Refused, Unread, place, line_target, shown}
+use Rattle.protocol_traits.specs.declared.proto.Proto.TheVariants as protocols
+use Rattle.binary_protocol.specs.Grammar.{BinarySpells}
+use Rattle.compact_protocol.specs.Grammar.{CompactSpells}
 use Rattle.binary_laws.specs.Reads.{header_of_message}
+use Rattle.binary_laws.specs.Faults as binary_faults
+use Rattle.compact_laws.specs.Faults as compact_faults
+use Rattle.verdict_laws.specs.Verdicts.{BinaryHead, CompactHead}
 
 -- what is known of the beginning of a body, where names without a service before them are those of this service
 abbrev pub body_start : Declarations → Option ServiceId → Header → Position
@@ -35,3 +41,10 @@ pub data IsShowing (SpellsHead : Header → List ℕ → Type 0) (Spells : Messa
       → IsShowing SpellsHead Spells FaultAt d service frame s
   TellsNoHeader : (f : Fault) → ((header : Header) (front rest : List ℕ) → frame ≡ front ++ rest → SpellsHead header front → ⊥)
       → FaultAt frame f → s ≡ Unread f → IsShowing SpellsHead Spells FaultAt d service frame s
+
+-- what is shown of a frame of Binary, and of Compact
+abbrev pub IsBinaryShowing : Declarations → Option ServiceId → List ℕ → Type 0
+IsBinaryShowing d service frame = IsShowing BinaryHead BinarySpells binary_faults.FaultAt d service frame (shown d service protocols.Binary frame)
+
+abbrev pub IsCompactShowing : Declarations → Option ServiceId → List ℕ → Type 0
+IsCompactShowing d service frame = IsShowing CompactHead CompactSpells compact_faults.FaultAt d service frame (shown d service protocols.Compact frame)

@@ -6,21 +6,13 @@
 ghost use Rattle.std.specs.Prelude.{List, ℕ, Option};
 ghost use Rattle.type_tables.specs.declared.declared.ServiceId.{ServiceId};
 ghost use Rattle.type_tables.specs.Declarations.{Declarations};
-ghost use Rattle.protocol_traits.specs.declared.proto.Proto.TheVariants as protocols;
-ghost use Rattle.binary_protocol.specs.Grammar.{BinarySpells};
-ghost use Rattle.compact_protocol.specs.Grammar.{CompactSpells};
 ghost use Rattle.message_show.specs.Shown.{shown};
 ghost use Rattle.gate_base.specs.Bytes.{AreBytes};
-ghost use Rattle.binary_laws.specs.Faults as binary_faults;
-ghost use Rattle.compact_laws.specs.Faults as compact_faults;
-ghost use Rattle.verdict_laws.specs.Verdicts.{BinaryHead, CompactHead};
-ghost use Rattle.show_laws.specs.Showings.{IsShowing};
+ghost use Rattle.show_laws.specs.Showings.{IsBinaryShowing, IsCompactShowing};
 
 /// What is shown of a frame of Binary or Compact is the line of the message that it spells, or the one fault that stands in it, and whether
 /// a whole header stands before it. What is declared gives the fields their names.
 pub fn a_frame_is_shown_by_its_grammar()
-    ensures binary { (d : Declarations) (service : Option ServiceId) (frame : List ℕ) → AreBytes frame
-        → IsShowing BinaryHead BinarySpells binary_faults.FaultAt d service frame (shown d service protocols.Binary frame) }
-    ensures compact { (d : Declarations) (service : Option ServiceId) (frame : List ℕ) → AreBytes frame
-        → IsShowing CompactHead CompactSpells compact_faults.FaultAt d service frame (shown d service protocols.Compact frame) }
+    ensures binary { (d : Declarations) (service : Option ServiceId) (frame : List ℕ) → AreBytes frame → IsBinaryShowing d service frame }
+    ensures compact { (d : Declarations) (service : Option ServiceId) (frame : List ℕ) → AreBytes frame → IsCompactShowing d service frame }
 {}

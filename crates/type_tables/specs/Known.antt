@@ -37,6 +37,9 @@ IsKnown d ty = Unit {0}
 abbrev pub IsKnownMethod : Declarations → MethodInfo → Type 0
 IsKnownMethod d m = (m.args.0 < length d.structs) × (m.result.0 < length d.structs)
 
+abbrev pub KnowsMethods : Declarations → List (List ℕ × MethodInfo) → Type 0
+KnowsMethods d methods = All (λ m. IsKnownMethod d m.1) methods
+
 abbrev pub IsKnownBase : Declarations → Option ServiceId → Type 0
 IsKnownBase d None = Unit {0}
 IsKnownBase d (Some base) = base.0 < length d.services
@@ -45,7 +48,7 @@ IsKnownBase d (Some base) = base.0 < length d.services
 pub record IsClosed (d : Declarations) : Type 0 where
   pub types : All (IsKnown d) d.types
   pub fields : All (λ s. All (λ f. IsKnown d f.ty) s.fields) d.structs
-  pub methods : All (λ s. All (λ m. IsKnownMethod d m.1) s.methods) d.services
+  pub methods : All (λ s. KnowsMethods d s.methods) d.services
   pub bases : All (λ s. IsKnownBase d s.base) d.services
 
 -- so many bases up from a service

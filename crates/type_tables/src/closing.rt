@@ -1,7 +1,7 @@
 //! Whether each number in the tables is one of their own, and whether the bases of services end.
 ghost use Rattle.std.specs.Prelude.{◌≡◌, ◌↔◌, ◌<◌, IsTrue, length, slice_get, option_map};
 ghost use Rattle.std.specs.List.{All};
-ghost use Rattle.type_tables.specs.Known.{IsKnown, IsKnownMethod, IsKnownBase, IsClosed, IsAcyclic};
+ghost use Rattle.type_tables.specs.Known.{IsKnown, IsKnownMethod, IsKnownBase, IsClosed, IsAcyclic, KnowsMethods};
 ghost use Rattle.type_tables.specs.Ranked.{IsRanked, RanksBase};
 
 use crate::declared::{FieldInfo, MethodInfo, ServiceId, Ty};
@@ -79,9 +79,9 @@ fn fields_closed(tables: &Tables, fields: &FieldList) -> bool
 }
 
 fn services_closed(tables: &Tables, services: &[ServiceDecl]) -> bool
-    ensures methods { IsTrue result → All (λ s. All (λ m. IsKnownMethod tables.now m.1) s.methods) services.now }
+    ensures methods { IsTrue result → All (λ s. KnowsMethods tables.now s.methods) services.now }
     ensures bases { IsTrue result → All (λ s. IsKnownBase tables.now s.base) services.now }
-    ensures closed { let d = tables.now in All (λ s. All (λ m. IsKnownMethod d m.1) s.methods) services.now → All (λ s. IsKnownBase d s.base) services.now → IsTrue result }
+    ensures closed { let d = tables.now in All (λ s. KnowsMethods d s.methods) services.now → All (λ s. IsKnownBase d s.base) services.now → IsTrue result }
 {
     for decl in services {
         if !service_closed(tables, decl) {
@@ -92,9 +92,9 @@ fn services_closed(tables: &Tables, services: &[ServiceDecl]) -> bool
 }
 
 fn service_closed(tables: &Tables, service: &ServiceDecl) -> bool
-    ensures methods { IsTrue result → All (λ m. IsKnownMethod tables.now m.1) service.now.methods }
+    ensures methods { IsTrue result → KnowsMethods tables.now service.now.methods }
     ensures bases { IsTrue result → IsKnownBase tables.now service.now.base }
-    ensures closed { All (λ m. IsKnownMethod tables.now m.1) service.now.methods → IsKnownBase tables.now service.now.base → IsTrue result }
+    ensures closed { KnowsMethods tables.now service.now.methods → IsKnownBase tables.now service.now.base → IsTrue result }
 {
     if !knows_base(tables, service.base) {
         return false;
@@ -112,7 +112,7 @@ fn knows_base(tables: &Tables, base: Option<ServiceId>) -> bool
 }
 
 fn methods_closed(tables: &Tables, methods: &NameTable<MethodInfo>) -> bool
-    ensures { IsTrue result ↔ All (λ m. IsKnownMethod tables.now m.1) methods.now }
+    ensures { IsTrue result ↔ KnowsMethods tables.now methods.now }
 {
     for at in 0..methods.len() {
         if let Some(method) = methods.at(at) {

@@ -5,7 +5,7 @@ use Rattle.type_tables.specs.declared.declared.Ty.TheVariants as types
 use Rattle.type_tables.specs.Declarations.{Declarations}
 use Rattle.type_tables.specs.Known.{IsKnown}
 use Rattle.type_walk.specs.declared.levels.Level.{Level}
-use Rattle.type_walk.specs.declared.open.Open.{Open}
+use Rattle.type_walk.specs.declared.open.OpenLevels.{OpenLevels}
 use Rattle.type_walk.specs.Positions.{Position}
 use Rattle.type_walk.specs.declared.levels.Level.TheVariants as levels
 
@@ -32,10 +32,10 @@ IsShaded zero ty = Unit {0}
 IsShaded (suc n) ty = ty ≡ types.Unknown
 
 -- the position at which this is open
-abbrev pub position_of : Declarations → Open → Position
+abbrev pub position_of : Declarations → OpenLevels → Position
 position_of d o = record { schema = d; levels = shaded o.unknown o.known; next = o.next }
 
-pub record IsSound (d : Declarations) (o : Open) : Type 0 where
+pub record IsSound (d : Declarations) (o : OpenLevels) : Type 0 where
   pub levels : AreKnown d o.known
   pub next : IsKnown d o.next
   pub below : IsShaded o.unknown o.next

@@ -3,6 +3,7 @@ use Rattle.std.specs.Prelude.{ℕ, zero, suc, ◌-◌, List, [], ◌∷◌, Opti
 use Rattle.type_walk.specs.declared.levels.Level.{Level}
 use Rattle.type_walk.specs.declared.levels.Level.TheVariants.{Unknown}
 use Rattle.type_walk.specs.declared.levels.Places.{Places}
+use Rattle.type_walk.specs.declared.levels.TheConstants.{NEAR}
 
 abbrev pub far_at : Option (List Level) → ℕ → Level
 far_at None i = Unknown
@@ -10,7 +11,7 @@ far_at (Some far) i = slice_index_or far i Unknown
 
 -- the level at a place, the outermost at 0
 abbrev pub level_at : Places → ℕ → Level
-level_at places i = if nat_lt i 16 then slice_index_or places.near i Unknown else far_at places.far (i - 16)
+level_at places i = if nat_lt i NEAR then slice_index_or places.near i Unknown else far_at places.far (i - NEAR)
 
 -- the first levels, the last of them first
 abbrev pub outer_levels : Places → ℕ → List Level

@@ -45,12 +45,13 @@ impl Model for Levels {
     ghost use Rattle.std.specs.Prelude.{◌≤◌, List};
     ghost use Rattle.type_walk.specs.declared.levels.Level.{Level};
     ghost use Rattle.type_walk.specs.Places.{nested};
+    ghost use Rattle.protocol_traits.specs.declared.nest.TheConstants.{DEPTH};
 
     ghost Value = { List Level };
 
     ghost view = { λ n. nested n.top n.outer n.depth };
 
-    ghost invariant = { λ n. n.depth ≤ 256 };
+    ghost invariant = { λ n. n.depth ≤ DEPTH };
 }
 
 impl Levels {
@@ -108,7 +109,7 @@ impl Levels {
     #[inline(always)]
     pub fn push(&mut self, level: Level)
         requires some { 0 < length self.old }
-        requires room { length self.old < 256 }
+        requires room { length self.old < DEPTH }
         ensures { self.new ≡ level ∷ self.old }
     {
         self.outer.set(self.depth - 1, self.top);
@@ -148,7 +149,7 @@ struct Places {
 impl Places {
     #[inline(always)]
     fn get(&self, at: usize) -> Level
-        requires { at < 256 }
+        requires { at < DEPTH }
         ensures { result ≡ level_at self.now at }
     {
         if at < NEAR {
@@ -162,7 +163,7 @@ impl Places {
 
     #[inline(always)]
     fn set(&mut self, at: usize, level: Level)
-        requires { at < 256 }
+        requires { at < DEPTH }
         ensures there { level_at self.new at ≡ level }
         ensures others { (i : ℕ) → (i ≡ at → ⊥) → level_at self.new i ≡ level_at self.old i }
     {
@@ -175,9 +176,9 @@ impl Places {
 
     #[inline(never)]
     fn set_far(&mut self, at: usize, level: Level)
-        requires { at < 240 }
-        ensures there { level_at self.new (at + 16) ≡ level }
-        ensures others { (i : ℕ) → (i ≡ at + 16 → ⊥) → level_at self.new i ≡ level_at self.old i }
+        requires { at < FAR }
+        ensures there { level_at self.new (at + NEAR) ≡ level }
+        ensures others { (i : ℕ) → (i ≡ at + NEAR → ⊥) → level_at self.new i ≡ level_at self.old i }
     {
         match &mut self.far {
             Some(far) => put(far, at, level),
@@ -192,7 +193,7 @@ impl Places {
 
 /// Far places that were just made ready.
 fn blank() -> [Level; FAR]
-    ensures { result ≡ replicate 240 Unknown }
+    ensures { result ≡ replicate FAR Unknown }
 {
     [Level::Unknown; FAR]
 }
@@ -200,9 +201,9 @@ fn blank() -> [Level; FAR]
 /// Writes one far place.
 #[inline(always)]
 fn put(far: &mut [Level; FAR], at: usize, level: Level)
-    requires { at < 240 }
+    requires { at < FAR }
     ensures written { far.new ≡ slice_set far.old at level }
-    ensures places { length far.old ≡ 240 }
+    ensures places { length far.old ≡ FAR }
 {
     far[at] = level;
 }

@@ -6,6 +6,7 @@ ghost use Rattle.type_tables.specs.Declarations.{Declarations};
 ghost use Rattle.type_walk.specs.Positions.{after, called_for, entered, in_list, in_map, in_set, in_struct, passed, standing};
 ghost use Rattle.type_walk.specs.Stack.{first_of, rest_of};
 ghost use Rattle.type_walk.specs.Known.{IsKnownLevel, IsSound, shaded, position_of};
+ghost use Rattle.protocol_traits.specs.declared.nest.TheConstants.{DEPTH};
 
 use crate::levels::{Level, Levels};
 use crate::types::{called_for, declared_in, declared_type, in_list, in_map, in_set, in_struct};
@@ -14,20 +15,20 @@ use type_tables::{Schema, Ty};
 
 /// The open structs and containers, and the declared type of the value that stands next.
 #[derive(Drop)]
-pub struct Open {
+pub struct OpenLevels {
     pub next: Ty,
     pub known: Levels,
     /// How many levels are open inside the known ones, of which nothing is known.
     pub unknown: usize,
 }
 
-impl Open {
+impl OpenLevels {
     /// Goes past an event.
     #[inline(always)]
     pub fn pass(&mut self, schema: &Schema, event: &Event<'_>)
         requires sound { IsSound schema.now self.old }
         requires open { 0 < length (shaded self.old.unknown self.old.known) }
-        requires shallow { depth_after (item_of event.now) (length (shaded self.old.unknown self.old.known)) ≤ 256 }
+        requires shallow { depth_after (item_of event.now) (length (shaded self.old.unknown self.old.known)) ≤ DEPTH }
         ensures after { position_of schema.now self.new ≡ after (position_of schema.now self.old) (item_of event.now) }
         ensures sound { IsSound schema.now self.new }
     {
@@ -54,7 +55,7 @@ impl Open {
     fn pass_unknown(&mut self, schema: &Schema, event: &Event<'_>)
         requires sound { IsSound schema.now self.old }
         requires below { 0 < self.old.unknown }
-        requires shallow { depth_after (item_of event.now) (length (shaded self.old.unknown self.old.known)) ≤ 256 }
+        requires shallow { depth_after (item_of event.now) (length (shaded self.old.unknown self.old.known)) ≤ DEPTH }
         ensures after { position_of schema.now self.new ≡ after (position_of schema.now self.old) (item_of event.now) }
         ensures sound { IsSound schema.now self.new }
     {
@@ -86,7 +87,7 @@ impl Open {
         requires sound { IsSound schema.now self.old }
         requires all { self.old.unknown ≡ 0 }
         requires open { 0 < length self.old.known }
-        requires shallow { depth_after (item_of event.now) (length self.old.known) ≤ 256 }
+        requires shallow { depth_after (item_of event.now) (length self.old.known) ≤ DEPTH }
         ensures after { position_of schema.now self.new ≡ after (position_of schema.now self.old) (item_of event.now) }
         ensures sound { IsSound schema.now self.new }
     {
@@ -106,7 +107,7 @@ impl Open {
         requires sound { IsSound schema.now self.old }
         requires all { self.old.unknown ≡ 0 }
         requires open { 0 < length self.old.known }
-        requires shallow { length self.old.known < 256 }
+        requires shallow { length self.old.known < DEPTH }
         ensures after { position_of schema.now self.new ≡ entered (position_of schema.now self.old) (in_struct self.old.next) }
         ensures sound { IsSound schema.now self.new }
     {
@@ -118,7 +119,7 @@ impl Open {
         requires sound { IsSound schema.now self.old }
         requires all { self.old.unknown ≡ 0 }
         requires open { 0 < length self.old.known }
-        requires shallow { length self.old.known < 256 }
+        requires shallow { length self.old.known < DEPTH }
         ensures after { position_of schema.now self.new ≡ entered (position_of schema.now self.old) (in_map schema.now self.old.next key value) }
         ensures sound { IsSound schema.now self.new }
     {
@@ -130,7 +131,7 @@ impl Open {
         requires sound { IsSound schema.now self.old }
         requires all { self.old.unknown ≡ 0 }
         requires open { 0 < length self.old.known }
-        requires shallow { length self.old.known < 256 }
+        requires shallow { length self.old.known < DEPTH }
         ensures after { position_of schema.now self.new ≡ entered (position_of schema.now self.old) (in_set schema.now self.old.next kind) }
         ensures sound { IsSound schema.now self.new }
     {
@@ -142,7 +143,7 @@ impl Open {
         requires sound { IsSound schema.now self.old }
         requires all { self.old.unknown ≡ 0 }
         requires open { 0 < length self.old.known }
-        requires shallow { length self.old.known < 256 }
+        requires shallow { length self.old.known < DEPTH }
         ensures after { position_of schema.now self.new ≡ entered (position_of schema.now self.old) (in_list schema.now self.old.next kind) }
         ensures sound { IsSound schema.now self.new }
     {
@@ -156,7 +157,7 @@ impl Open {
         requires known { IsKnownLevel schema.now level }
         requires all { self.old.unknown ≡ 0 }
         requires open { 0 < length self.old.known }
-        requires shallow { length self.old.known < 256 }
+        requires shallow { length self.old.known < DEPTH }
         ensures after { position_of schema.now self.new ≡ entered (position_of schema.now self.old) level }
         ensures sound { IsSound schema.now self.new }
     {

@@ -3,6 +3,7 @@ ghost use Rattle.std.specs.Prelude.{◌≡◌, ◌<◌, ◌≤◌, ◌↔◌, Is
 ghost use Rattle.thrift_value.specs.Items.{item_of};
 ghost use Rattle.protocol_traits.specs.Follow.{depth_after};
 ghost use Rattle.type_walk.specs.Positions.{start, hint_of, mark_of, after};
+ghost use Rattle.protocol_traits.specs.declared.nest.TheConstants.{DEPTH};
 
 use protocol_traits::{Hint, Mark};
 use std::marker::Model;
@@ -23,12 +24,13 @@ impl<'s> Model for Undeclared<'s> {
     ghost use Rattle.std.specs.Prelude.{◌≤◌};
     ghost use Rattle.type_walk.specs.Positions.{Position};
     ghost use Rattle.type_walk.specs.Known.{unknown_at};
+    ghost use Rattle.protocol_traits.specs.declared.nest.TheConstants.{DEPTH};
 
     ghost Value = { Position };
 
     ghost view = { λ w. unknown_at w.schema.now w.levels };
 
-    ghost invariant = { λ w. w.levels ≤ 256 };
+    ghost invariant = { λ w. w.levels ≤ DEPTH };
 }
 
 impl<'s> Undeclared<'s> {
@@ -62,7 +64,7 @@ impl<'s> Undeclared<'s> {
     #[tactic(auto, using(crate::proofs::Unknown::unknown_after, crate::proofs::Unknown::length_unknown))]
     pub fn step(&mut self, event: &Event<'_>) -> Mark
         requires open { 0 < length self.old.levels }
-        requires shallow { depth_after (item_of event.now) (length self.old.levels) ≤ 256 }
+        requires shallow { depth_after (item_of event.now) (length self.old.levels) ≤ DEPTH }
         ensures mark { result ≡ mark_of self.old (item_of event.now) }
         ensures after { self.new ≡ after self.old (item_of event.now) }
         ensures depth { length self.new.levels ≡ depth_after (item_of event.now) (length self.old.levels) }
@@ -79,7 +81,7 @@ impl<'s> Undeclared<'s> {
 /// How many levels are open behind an event.
 #[inline(always)]
 fn levels_after(event: &Event<'_>, levels: usize) -> usize
-    requires { levels ≤ 256 }
+    requires { levels ≤ DEPTH }
     ensures { result ≡ depth_after (item_of event.now) levels }
 {
     match *event {

@@ -4,9 +4,10 @@ ghost use Rattle.thrift_value.specs.Items.{item_of};
 ghost use Rattle.protocol_traits.specs.Follow.{depth_after};
 ghost use Rattle.type_tables.specs.Known.{IsKnown};
 ghost use Rattle.type_walk.specs.Positions.{start, hint_of, mark_of, after, inside_of};
+ghost use Rattle.protocol_traits.specs.declared.nest.TheConstants.{DEPTH};
 
 use crate::levels::{Level, Levels};
-use crate::open::Open;
+use crate::open::OpenLevels;
 use crate::types::{hint_at, mark_at};
 use protocol_traits::{Hint, Mark};
 use std::marker::Model;
@@ -20,7 +21,7 @@ use type_tables::{Schema, StructId, Ty};
 #[derive(Drop)]
 pub struct Walk<'s> {
     schema: &'s Schema,
-    here: Open,
+    here: OpenLevels,
 }
 
 /// Clauses see the declarations, the open levels and the declared type of what stands next.
@@ -42,12 +43,12 @@ impl<'s> Walk<'s> {
         ensures { result ≡ start schema.now body }
     {
         let here = match body {
-            Some(s) => Open {
+            Some(s) => OpenLevels {
                 next: Ty::Unknown,
                 known: Levels::one(Level::Fields(s)),
                 unknown: 0,
             },
-            None => Open {
+            None => OpenLevels {
                 next: Ty::Unknown,
                 known: Levels::none(),
                 unknown: 1,
@@ -100,7 +101,7 @@ impl<'s> Walk<'s> {
     #[inline(always)]
     pub fn step(&mut self, event: &Event<'_>) -> Mark
         requires open { 0 < length self.old.levels }
-        requires shallow { depth_after (item_of event.now) (length self.old.levels) ≤ 256 }
+        requires shallow { depth_after (item_of event.now) (length self.old.levels) ≤ DEPTH }
         ensures mark { result ≡ mark_of self.old (item_of event.now) }
         ensures after { self.new ≡ after self.old (item_of event.now) }
         ensures schema { self.new.schema ≡ self.old.schema }

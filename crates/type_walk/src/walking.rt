@@ -3,6 +3,7 @@ ghost use Rattle.std.specs.Prelude.{◌≡◌, ◌<◌, ◌≤◌, ◌↔◌, Is
 ghost use Rattle.thrift_value.specs.Items.{item_of};
 ghost use Rattle.protocol_traits.specs.Follow.{depth_after};
 ghost use Rattle.type_walk.specs.Positions.{Position, hint_of, mark_of, after};
+ghost use Rattle.protocol_traits.specs.declared.nest.TheConstants.{DEPTH};
 
 use crate::undeclared::Undeclared;
 use crate::walk::Walk;
@@ -25,7 +26,7 @@ pub trait Walking: Drop {
     /// Goes past an event, and says what is known where it stands. At most `DEPTH` levels are open.
     fn step(&mut self, event: &Event<'_>) -> Mark
         requires open { 0 < length (at self.old).levels }
-        requires shallow { depth_after (item_of event.now) (length (at self.old).levels) ≤ 256 }
+        requires shallow { depth_after (item_of event.now) (length (at self.old).levels) ≤ DEPTH }
         ensures mark { result ≡ mark_of (at self.old) (item_of event.now) }
         ensures after { at self.new ≡ after (at self.old) (item_of event.now) }
         ensures depth { length (at self.new).levels ≡ depth_after (item_of event.now) (length (at self.old).levels) };

@@ -12,8 +12,8 @@ use Rattle.value_trees.specs.declared.level.Level.{Level}
 use Rattle.value_trees.specs.declared.level.Level.TheVariants as levels
 use Rattle.value_trees.specs.declared.level.Start.{Start}
 use Rattle.value_trees.specs.declared.level.Start.TheVariants as starts
-use Rattle.value_trees.specs.declared.level.Turn.{Turn}
-use Rattle.value_trees.specs.declared.level.Turn.TheVariants as turns
+use Rattle.value_trees.specs.declared.level.LevelChange.{LevelChange}
+use Rattle.value_trees.specs.declared.level.LevelChange.TheVariants as turns
 use Rattle.thrift_value.specs.Items.{Item, field, stop, bool_value, i8_value, i16_value, i32_value, i64_value, double_value, text, number_text, unknown_text, struct_begin, empty_map, map_begin, set_begin, list_begin, end, uuid_value}
 use Rattle.thrift_value.specs.Trees.{Members, Trees, Pairs, no_members, no_trees, no_pairs, items_of, items_of_trees, items_of_pairs, kind_of, count_of_trees, count_of_pairs, IsValue}
 use Rattle.value_trees.specs.Views.{tree_of}
@@ -58,7 +58,7 @@ opens_if false kind new l ls items want level same stack is = tt
 
 tested : (b : Bool) (s : Start) (item : Item) (l : Level) (ls : List Level) (items : List Item) → turn_of l item ≡ turns.Neither → (b ≡ true → Holds (started s item l ls) items) → Holds (started (if b then s else starts.Nothing) item l ls) items
 tested true s item l ls items none h = h refl
-tested false s item l ls items none h = subst (λ (t : Turn). Holds (turned t ls) items) (sym none) tt
+tested false s item l ls items none h = subst (λ (t : LevelChange). Holds (turned t ls) items) (sym none) tt
 
 below : (n : ℕ) → nat_lt n (2 ^ 31) ≡ true → n < 2 ^ 31
 below n h = grind (arith, nat_tests)

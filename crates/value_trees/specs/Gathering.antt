@@ -8,8 +8,8 @@ use Rattle.value_trees.specs.declared.level.Level.{Level}
 use Rattle.value_trees.specs.declared.level.Level.TheVariants as levels
 use Rattle.value_trees.specs.declared.level.Start.{Start}
 use Rattle.value_trees.specs.declared.level.Start.TheVariants as starts
-use Rattle.value_trees.specs.declared.level.Turn.{Turn}
-use Rattle.value_trees.specs.declared.level.Turn.TheVariants as turns
+use Rattle.value_trees.specs.declared.level.LevelChange.{LevelChange}
+use Rattle.value_trees.specs.declared.level.LevelChange.TheVariants as turns
 use Rattle.thrift_value.specs.Items.{Item, field, stop, bool_value, i8_value, i16_value, i32_value, i64_value, double_value, text, number_text, unknown_text, struct_begin, empty_map, map_begin, set_begin, list_begin, end, uuid_value}
 use Rattle.thrift_value.specs.Kinds.{same_kind}
 use Rattle.thrift_value.specs.Trees.{Members, no_members, no_trees, no_pairs, kind_of}
@@ -35,7 +35,7 @@ put (levels.Keyed key value left pairs k) v = levels.Map key value left (then_pa
 
 -- what an event that begins no value does to a level: it names a struct's next field, or ends a struct or a container that has
 -- all that was announced
-abbrev pub turn_of : Level → Item → Turn
+abbrev pub turn_of : Level → Item → LevelChange
 turn_of (levels.Fields fields) (field id kind) = turns.Named (levels.Named fields id kind)
 turn_of (levels.Fields fields) stop = turns.Closed (values.Struct fields)
 turn_of (levels.Set kind left items) end = if nat_eq left 0 then turns.Closed (values.Set kind items) else turns.Neither
@@ -74,7 +74,7 @@ settled (values.Struct fields) [] = over fields
 settled _ [] = refused
 settled v (l ∷ ls) = if wants l (kind_of (tree_of v)) then going (put l v ∷ ls) else refused
 
-abbrev pub turned : Turn → List Level → Stand
+abbrev pub turned : LevelChange → List Level → Stand
 turned (turns.Named l) ls = going (l ∷ ls)
 turned (turns.Closed v) ls = settled v ls
 turned turns.Neither ls = refused

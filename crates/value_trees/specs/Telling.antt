@@ -1,8 +1,9 @@
 -- What a body's events still have to tell, while structs and containers are open.
-use Rattle.std.specs.Prelude.{⊤, Option, Some, None, List, [], ◌∷◌, ◌++◌}
+use Rattle.std.specs.Prelude.{◌≡◌, ⊤, Option, Some, None, List, [], ◌∷◌, ◌++◌, map}
 use Rattle.thrift_value.specs.declared.kind.Kind.{Kind}
 use Rattle.value_trees.specs.declared.events.Rest.{Rest}
 use Rattle.value_trees.specs.declared.events.Rest.TheVariants as rests
+use Rattle.value_trees.specs.declared.events.Telling.{Telling}
 use Rattle.value_trees.specs.declared.events.Next.{Next}
 use Rattle.value_trees.specs.declared.events.Next.TheVariants as nexts
 use Rattle.thrift_value.specs.Items.{Item, item_of}
@@ -24,6 +25,11 @@ left_in (Some r) = items_left r
 abbrev pub all_left : List Rest → List Item
 all_left [] = []
 all_left (r ∷ rs) = all_left rs ++ items_left r
+
+-- the items that were told and are left to tell now are those that were told, these, and those that were left
+abbrev pub TellsMore : Telling → Telling → List Item → Type 0
+TellsMore old new items =
+    map item_of new.told.items ++ all_left new.waiting.items ≡ map item_of old.told.items ++ (items ++ all_left old.waiting.items)
 
 -- what is left is made of values
 abbrev pub IsRest : Rest → Type 0

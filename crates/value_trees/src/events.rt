@@ -1,9 +1,9 @@
 //! The events of a body, in order.
-ghost use Rattle.std.specs.Prelude.{◌≡◌, ◌<◌, ◌^◌, ◌+◌, ◌++◌, ◌∷◌, map, length, IfOk, IfSome};
+ghost use Rattle.std.specs.Prelude.{◌≡◌, ◌<◌, ◌^◌, ◌∷◌, map, length, IfOk, IfSome};
 ghost use Rattle.thrift_value.specs.Items.{item_of};
 ghost use Rattle.thrift_value.specs.Trees.{items_of, items_of_members, AreMembers, IsValue};
 ghost use Rattle.value_trees.specs.Views.{tree_of};
-ghost use Rattle.value_trees.specs.Telling.{items_left, left_in, all_left, items_of_next, IsRest, AreRests, IsNext};
+ghost use Rattle.value_trees.specs.Telling.{items_left, left_in, items_of_next, IsRest, AreRests, IsNext, TellsMore};
 
 use crate::{Field, Fields, Value};
 use gate_base::OutOfMemory;
@@ -51,7 +51,7 @@ impl<'m> Telling<'m> {
     fn tell(&mut self, rest: Rest<'m>) -> Result<(), OutOfMemory>
         requires rest { IsRest rest }
         requires rests { AreRests self.old.waiting.items }
-        ensures told { IfOk result (λ _. map item_of self.new.told.items ++ all_left self.new.waiting.items ≡ map item_of self.old.told.items ++ (items_left rest.entry ++ all_left self.old.waiting.items)) }
+        ensures told { IfOk result (λ _. TellsMore self.old self.new (items_left rest.entry)) }
         ensures more { IfOk result (λ _. length self.old.told.items < length self.new.told.items) }
         ensures rests { IfOk result (λ _. AreRests self.new.waiting.items) }
     {
@@ -74,7 +74,7 @@ impl<'m> Telling<'m> {
     fn begin(&mut self, value: &'m Value) -> Result<(), OutOfMemory>
         requires value { IsValue (tree_of value.now) }
         requires rests { AreRests self.old.waiting.items }
-        ensures told { IfOk result (λ _. map item_of self.new.told.items ++ all_left self.new.waiting.items ≡ map item_of self.old.told.items ++ (items_of (tree_of value.now) ++ all_left self.old.waiting.items)) }
+        ensures told { IfOk result (λ _. TellsMore self.old self.new (items_of (tree_of value.now))) }
         ensures more { IfOk result (λ _. length self.old.told.items < length self.new.told.items) }
         ensures rests { IfOk result (λ _. AreRests self.new.waiting.items) }
     {

@@ -4,7 +4,7 @@ ghost use Rattle.thrift_value.specs.Items.{item_of};
 ghost use Rattle.value_trees.specs.Gathering.{settled, turned, started, step, onward, run, at_first, over, body_at, IsRefused, StopsAt};
 ghost use Rattle.value_trees.specs.Stands.{stand_of};
 
-use crate::level::{Level, Start, Turn, begun_by};
+use crate::level::{Level, LevelChange, Start, begun_by};
 use crate::{Fields, Value};
 use gate_base::OutOfMemory;
 use std::alloc::Global;
@@ -141,16 +141,16 @@ fn begin(
     }
 }
 
-fn go_on(turn: Turn, mut levels: Vec<Level>) -> Result<State, OutOfMemory>
+fn go_on(turn: LevelChange, mut levels: Vec<Level>) -> Result<State, OutOfMemory>
     ensures { IfOk result (λ state. stand_of state ≡ turned turn (reverse levels.items)) }
 {
     match turn {
-        Turn::Named(level) => {
+        LevelChange::Named(level) => {
             levels.push(level)?;
             Ok(State::Going(levels))
         }
-        Turn::Closed(value) => settle(value, levels),
-        Turn::Neither => Ok(State::Refused),
+        LevelChange::Closed(value) => settle(value, levels),
+        LevelChange::Neither => Ok(State::Refused),
     }
 }
 

@@ -41,7 +41,7 @@ pub(crate) enum Start {
 
 /// What an event that begins no value does to a level.
 #[derive(Drop)]
-pub(crate) enum Turn {
+pub(crate) enum LevelChange {
     /// It names the struct's next field.
     Named(Level),
     /// It ends the struct or container.
@@ -118,20 +118,24 @@ impl Level {
     }
 
     /// What an event that begins no value does to the level.
-    pub(crate) fn turned(self, event: &Event<'_>) -> Turn
+    pub(crate) fn turned(self, event: &Event<'_>) -> LevelChange
         ensures { result ≡ turn_of self (item_of event.now) }
     {
         match (self, event) {
             (Level::Fields(fields), Event::Field(id, kind)) => {
-                Turn::Named(Level::Named(fields, *id, *kind))
+                LevelChange::Named(Level::Named(fields, *id, *kind))
             }
-            (Level::Fields(fields), Event::Stop) => Turn::Closed(Value::Struct(fields)),
-            (Level::Set(kind, 0, items), Event::End) => Turn::Closed(Value::Set(kind, items)),
-            (Level::List(kind, 0, items), Event::End) => Turn::Closed(Value::List(kind, items)),
+            (Level::Fields(fields), Event::Stop) => LevelChange::Closed(Value::Struct(fields)),
+            (Level::Set(kind, 0, items), Event::End) => LevelChange::Closed(Value::Set(
+                kind, items,
+            )),
+            (Level::List(kind, 0, items), Event::End) => LevelChange::Closed(Value::List(
+                kind, items,
+            )),
             (Level::Map(key, value, 0, pairs), Event::End) => {
-                Turn::Closed(Value::Map(key, value, pairs))
+                LevelChange::Closed(Value::Map(key, value, pairs))
             }
-            _ => Turn::Neither,
+            _ => LevelChange::Neither,
         }
     }
 }

@@ -1,6 +1,7 @@
 -- A message that goes from one protocol to another, and comes back.
-use Rattle.std.specs.Prelude.{◌≡◌, ℕ, ◌+◌, ◌*◌, ◌≤◌, List, [], length}
-use Rattle.thrift_value.specs.Trees.{Message}
+use Rattle.std.specs.Prelude.{◌≡◌, ℕ, ◌+◌, ◌*◌, ◌<◌, ◌≤◌, List, [], length}
+use Rattle.thrift_value.specs.Trees.{Message, depth_of_members}
+use Rattle.protocol_traits.specs.declared.nest.TheConstants.{DEPTH}
 use Rattle.protocol_traits.specs.declared.proto.Proto.{Proto}
 use Rattle.protocol_traits.specs.declared.proto.Proto.TheVariants as protocols
 use Rattle.type_tables.specs.Declarations.{Declarations}
@@ -38,3 +39,13 @@ pub record IsRound (d : Declarations) (route : Route) (from to : Proto) (frame :
   pub spells : SpellsIn to m (plain_in to d route m)
   pub short : length (plain_in to d route m) ≤ 24 * length frame + 256
   pub comes : PassesAs d route to from (plain_in to d route m) m (plain_in from d route m)
+
+-- a frame that spells a message of depth at most `DEPTH` in the protocol
+pub record Spelling (from : Proto) : Type 0 where
+  pub message : Message
+  pub frame : List ℕ
+  pub spelled : SpellsIn from message frame
+  pub shallow : depth_of_members message.body < DEPTH
+
+abbrev pub GoesRound : Declarations → Route → (from : Proto) → Proto → Spelling from → Type 0
+GoesRound d route from to s = IsRound d route from to s.frame s.message

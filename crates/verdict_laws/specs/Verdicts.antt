@@ -14,10 +14,13 @@ use Rattle.translate_core.specs.declared.verdict.Verdict.TheVariants.{Passed, Re
 use Rattle.translate_core.specs.Routes.{info_of}
 use Rattle.translate_core.specs.Judged.{Judged, judged}
 use Rattle.protocol_pairs.specs.Pairs.{binary_target, compact_target, json_target}
-use Rattle.binary_protocol.specs.Grammar.{SpellsStrictHeader, SpellsOldHeader}
-use Rattle.compact_protocol.specs.Grammar.{SpellsHeader}
+use Rattle.protocol_pairs.specs.Pairs as pairs
+use Rattle.binary_protocol.specs.Grammar.{SpellsStrictHeader, SpellsOldHeader, BinarySpells}
+use Rattle.compact_protocol.specs.Grammar.{SpellsHeader, CompactSpells}
 use Rattle.binary_laws.specs.Reads.{header_of_message}
-use Rattle.verdict_laws.specs.Bars.{Spot, HoldsAll, IsFirstBar}
+use Rattle.binary_laws.specs.Faults as binary_faults
+use Rattle.compact_laws.specs.Faults as compact_faults
+use Rattle.verdict_laws.specs.Bars.{Spot, HoldsAll, IsFirstBar, BinaryPlace, CompactPlace}
 use Rattle.verdict_laws.specs.Spellings.{plain_of}
 
 -- the plain spelling in a protocol, of a message that it holds
@@ -49,3 +52,12 @@ pub data IsVerdict (SpellsHead : Header → List ℕ → Type 0) (Spells : Messa
       → j ≡ judged (Refused (info_of d route header) (Grammar f)) [] → IsVerdict SpellsHead Spells FaultAt Place d route to frame j
   IsUnread : (f : Fault) → ((header : Header) (front rest : List ℕ) → frame ≡ front ++ rest → SpellsHead header front → ⊥) → FaultAt frame f
       → j ≡ judged (Unread f) [] → IsVerdict SpellsHead Spells FaultAt Place d route to frame j
+
+-- the verdict on a frame of Binary, and of Compact, for any protocol
+abbrev pub IsBinaryVerdict : Declarations → Route → Proto → List ℕ → Type 0
+IsBinaryVerdict d route to frame =
+    IsVerdict BinaryHead BinarySpells binary_faults.FaultAt BinaryPlace d route to frame (pairs.judged d route protocols.Binary to frame)
+
+abbrev pub IsCompactVerdict : Declarations → Route → Proto → List ℕ → Type 0
+IsCompactVerdict d route to frame =
+    IsVerdict CompactHead CompactSpells compact_faults.FaultAt CompactPlace d route to frame (pairs.judged d route protocols.Compact to frame)

@@ -1,9 +1,8 @@
-use Rattle.std.proofs.Common.{rules, arith, ◌≡◌, ◌+◌, ◌++◌, length, take, drop, None, Err, subst, ap, sym, ◌∙◌}
+use Rattle.std.proofs.Common.{rules, arith, ◌≡◌, ◌+◌, None, Err, refl, subst, ◌∙◌}
 use Rattle.gate_hub.specs.declared.hub.Side.TheVariants as side
-use Rattle.proxy_server.specs.Calling.{piece_length}
 use Rattle.proxy_server.specs.Matching.{Matches}
 use Rattle.proxy_server.specs.Turning.{Goes, Runs, wanted, wanted_write, wanted_read, most_behind, or_else}
-use Rattle.proxy_server.proofs.Running.{then_runs, then_breaks, runs_at, breaks_at, wants_two, wants_three, wants_four, idle_two, idle_three, idle_four, most_length, or_last}
+use Rattle.proxy_server.proofs.Running.{then_runs, then_breaks, runs_at, breaks_at, wants_two, wants_three, wants_four, idle_two, idle_three, idle_four, or_last}
 use Rattle.proxy_server.proofs.turning.round.Goals as goal
 
 pub returns-in_err-passed_on-clause-idle : goal.returns-in_err-passed_on-clause-idle
@@ -27,10 +26,8 @@ returns-in_err-passed_on-clause-goes g c =
 
 pub returns-in_err-answered-clause-idle : goal.returns-in_err-answered-clause-idle
 returns-in_err-answered-clause-idle g c =
-    let piece = c.args.piece.now in
-    let most = c.most_read-most.result in
-    let n : length (take most piece) ≡ most_behind c.write-2.new.session.standing.to_client = most_length piece c.due.result.now most c.requires c.most_read-most.ensures ∙ ap most_behind c.due.ensures.bytes in
-    idle_three c.args.session.now c.write.new.session c.write-2.new.session c.read.new.session c.args.waits.now c.write.new.waits c.write-2.new.waits c.read.new.waits (length (take most piece)) c.write.ensures.idle c.write-2.ensures.idle n c.read.ensures.idle
+    let n = most_behind c.write-2.new.session.standing.to_client in
+    idle_three c.args.session.now c.write.new.session c.write-2.new.session c.read_behind.new.session c.args.waits.now c.write.new.waits c.write-2.new.waits c.read_behind.new.waits n c.write.ensures.idle c.write-2.ensures.idle refl c.read_behind.ensures.idle
 
 pub returns-in_err-answered-clause-goes : goal.returns-in_err-answered-clause-goes
 returns-in_err-answered-clause-goes g c =
@@ -41,42 +38,30 @@ returns-in_err-answered-clause-goes g c =
     let x = c.in_err-answered.field-0.0 in
     let s0 = c.args.session.now in
     let w0 = c.args.waits.now in
-    let piece = c.args.piece.now in
-    let most = c.most_read-most.result in
-    let n : length (take most piece) ≡ most_behind c.write-2.new.session.standing.to_client = most_length piece c.due.result.now most c.requires c.most_read-most.ensures ∙ ap most_behind c.due.ensures.bytes in
+    let n = most_behind c.write-2.new.session.standing.to_client in
     let a = wanted_write side.Client w0 s0.standing in
     let b = wanted_write side.Upstream c.write.new.waits c.write.new.session.standing in
-    let d = wanted_read (length (take most piece)) side.Upstream c.write-2.new.waits c.write-2.new.session in
-    breaks_at (tells c.args.hub.now) (tells c.read.new.hub) (matches s0) (matches c.read.new.session) k (or_else a (or_else b d)) _ (wanted w0 s0) w0 c.read.new.waits x _ is
-    (wants_three s0 c.write.new.session c.write-2.new.session w0 c.write.new.waits c.write-2.new.waits (length (take most piece)) c.write.ensures.idle c.write-2.ensures.idle n)
-    (then_breaks (tells c.args.hub.now) (tells c.write.new.hub) (tells c.read.new.hub) (matches s0) (matches c.write.new.session) (matches c.read.new.session) k a (or_else b d) c.in_ok-written.written w0 c.write.new.waits x
+    let d = wanted_read n side.Upstream c.write-2.new.waits c.write-2.new.session in
+    breaks_at (tells c.args.hub.now) (tells c.read_behind.new.hub) (matches s0) (matches c.read_behind.new.session) k (or_else a (or_else b d)) _ (wanted w0 s0) w0 c.read_behind.new.waits x _ is
+    (wants_three s0 c.write.new.session c.write-2.new.session w0 c.write.new.waits c.write-2.new.waits n c.write.ensures.idle c.write-2.ensures.idle refl)
+    (then_breaks (tells c.args.hub.now) (tells c.write.new.hub) (tells c.read_behind.new.hub) (matches s0) (matches c.write.new.session) (matches c.read_behind.new.session) k a (or_else b d) c.in_ok-written.written w0 c.write.new.waits x
     c.in_ok-written.ensures.goes
-    (then_breaks (tells c.write.new.hub) (tells c.write-2.new.hub) (tells c.read.new.hub) (matches c.write.new.session) (matches c.write-2.new.session) (matches c.read.new.session) k b d c.in_ok-passed_on.passed_on c.write.new.waits c.write-2.new.waits x
+    (then_breaks (tells c.write.new.hub) (tells c.write-2.new.hub) (tells c.read_behind.new.hub) (matches c.write.new.session) (matches c.write-2.new.session) (matches c.read_behind.new.session) k b d c.in_ok-passed_on.passed_on c.write.new.waits c.write-2.new.waits x
     c.in_ok-passed_on.ensures.goes c.in_err-answered.ensures.goes))
 
 pub returns-in_err-taken-clause-idle : goal.returns-in_err-taken-clause-idle
 returns-in_err-taken-clause-idle g c =
-    let piece = c.args.piece.now in
-    let most = c.most_read-most.result in
-    let most' = c.most_read-most-2.result in
-    let into = c.read.new.piece ++ drop most piece in
-    let long : length into ≡ piece_length = search rules in
-    let n : length (take most piece) ≡ most_behind c.write-2.new.session.standing.to_client = most_length piece c.due.result.now most c.requires c.most_read-most.ensures ∙ ap most_behind c.due.ensures.bytes in
-    let n' : length (take most' into) ≡ most_behind c.read.new.session.standing.to_upstream = most_length into c.due-2.result.now most' long c.most_read-most-2.ensures ∙ ap most_behind c.due-2.ensures.bytes in
-    idle_four c.args.session.now c.write.new.session c.write-2.new.session c.read.new.session c.read-2.new.session c.args.waits.now c.write.new.waits c.write-2.new.waits c.read.new.waits c.read-2.new.waits (length (take most piece)) (length (take most' into))
-    (record { one = c.write.ensures.idle; two = c.write-2.ensures.idle; three = c.read.ensures.idle; reads = n; reads_last = n' }) c.read-2.ensures.idle
+    let n = most_behind c.write-2.new.session.standing.to_client in
+    let n' = most_behind c.read_behind.new.session.standing.to_upstream in
+    idle_four c.args.session.now c.write.new.session c.write-2.new.session c.read_behind.new.session c.read_behind-2.new.session c.args.waits.now c.write.new.waits c.write-2.new.waits c.read_behind.new.waits c.read_behind-2.new.waits n n'
+    (record { one = c.write.ensures.idle; two = c.write-2.ensures.idle; three = c.read_behind.ensures.idle; reads = refl; reads_last = refl }) c.read_behind-2.ensures.idle
 
 pub returns-clause-idle : goal.returns-clause-idle
 returns-clause-idle g c =
-    let piece = c.args.piece.now in
-    let most = c.most_read-most.result in
-    let most' = c.most_read-most-2.result in
-    let into = c.read.new.piece ++ drop most piece in
-    let long : length into ≡ piece_length = search rules in
-    let n : length (take most piece) ≡ most_behind c.write-2.new.session.standing.to_client = most_length piece c.due.result.now most c.requires c.most_read-most.ensures ∙ ap most_behind c.due.ensures.bytes in
-    let n' : length (take most' into) ≡ most_behind c.read.new.session.standing.to_upstream = most_length into c.due-2.result.now most' long c.most_read-most-2.ensures ∙ ap most_behind c.due-2.ensures.bytes in
-    idle_four c.args.session.now c.write.new.session c.write-2.new.session c.read.new.session c.read-2.new.session c.args.waits.now c.write.new.waits c.write-2.new.waits c.read.new.waits c.read-2.new.waits (length (take most piece)) (length (take most' into))
-    (record { one = c.write.ensures.idle; two = c.write-2.ensures.idle; three = c.read.ensures.idle; reads = n; reads_last = n' }) c.read-2.ensures.idle
+    let n = most_behind c.write-2.new.session.standing.to_client in
+    let n' = most_behind c.read_behind.new.session.standing.to_upstream in
+    idle_four c.args.session.now c.write.new.session c.write-2.new.session c.read_behind.new.session c.read_behind-2.new.session c.args.waits.now c.write.new.waits c.write-2.new.waits c.read_behind.new.waits c.read_behind-2.new.waits n n'
+    (record { one = c.write.ensures.idle; two = c.write-2.ensures.idle; three = c.read_behind.ensures.idle; reads = refl; reads_last = refl }) c.read_behind-2.ensures.idle
 
 pub returns-in_err-taken-clause-goes : goal.returns-in_err-taken-clause-goes
 returns-in_err-taken-clause-goes g c =
@@ -87,24 +72,19 @@ returns-in_err-taken-clause-goes g c =
     let x = c.in_err-taken.field-0.0 in
     let s0 = c.args.session.now in
     let w0 = c.args.waits.now in
-    let piece = c.args.piece.now in
-    let most = c.most_read-most.result in
-    let most' = c.most_read-most-2.result in
-    let into = c.read.new.piece ++ drop most piece in
-    let long : length into ≡ piece_length = search rules in
-    let n : length (take most piece) ≡ most_behind c.write-2.new.session.standing.to_client = most_length piece c.due.result.now most c.requires c.most_read-most.ensures ∙ ap most_behind c.due.ensures.bytes in
-    let n' : length (take most' into) ≡ most_behind c.read.new.session.standing.to_upstream = most_length into c.due-2.result.now most' long c.most_read-most-2.ensures ∙ ap most_behind c.due-2.ensures.bytes in
+    let n = most_behind c.write-2.new.session.standing.to_client in
+    let n' = most_behind c.read_behind.new.session.standing.to_upstream in
     let a = wanted_write side.Client w0 s0.standing in
     let b = wanted_write side.Upstream c.write.new.waits c.write.new.session.standing in
-    let d = wanted_read (length (take most piece)) side.Upstream c.write-2.new.waits c.write-2.new.session in
-    let e = wanted_read (length (take most' into)) side.Client c.read.new.waits c.read.new.session in
-    breaks_at (tells c.args.hub.now) (tells c.read-2.new.hub) (matches s0) (matches c.read-2.new.session) k (or_else a (or_else b (or_else d e))) None (wanted w0 s0) w0 c.read-2.new.waits x _ is
-    (or_last _ ∙ wants_four s0 c.write.new.session c.write-2.new.session c.read.new.session w0 c.write.new.waits c.write-2.new.waits c.read.new.waits (length (take most piece)) (length (take most' into)) (record { one = c.write.ensures.idle; two = c.write-2.ensures.idle; three = c.read.ensures.idle; reads = n; reads_last = n' }))
-    (then_breaks (tells c.args.hub.now) (tells c.write.new.hub) (tells c.read-2.new.hub) (matches s0) (matches c.write.new.session) (matches c.read-2.new.session) k a (or_else b (or_else d e)) c.in_ok-written.written w0 c.write.new.waits x
+    let d = wanted_read n side.Upstream c.write-2.new.waits c.write-2.new.session in
+    let e = wanted_read n' side.Client c.read_behind.new.waits c.read_behind.new.session in
+    breaks_at (tells c.args.hub.now) (tells c.read_behind-2.new.hub) (matches s0) (matches c.read_behind-2.new.session) k (or_else a (or_else b (or_else d e))) None (wanted w0 s0) w0 c.read_behind-2.new.waits x _ is
+    (or_last _ ∙ wants_four s0 c.write.new.session c.write-2.new.session c.read_behind.new.session w0 c.write.new.waits c.write-2.new.waits c.read_behind.new.waits n n' (record { one = c.write.ensures.idle; two = c.write-2.ensures.idle; three = c.read_behind.ensures.idle; reads = refl; reads_last = refl }))
+    (then_breaks (tells c.args.hub.now) (tells c.write.new.hub) (tells c.read_behind-2.new.hub) (matches s0) (matches c.write.new.session) (matches c.read_behind-2.new.session) k a (or_else b (or_else d e)) c.in_ok-written.written w0 c.write.new.waits x
     c.in_ok-written.ensures.goes
-    (then_breaks (tells c.write.new.hub) (tells c.write-2.new.hub) (tells c.read-2.new.hub) (matches c.write.new.session) (matches c.write-2.new.session) (matches c.read-2.new.session) k b (or_else d e) c.in_ok-passed_on.passed_on c.write.new.waits c.write-2.new.waits x
+    (then_breaks (tells c.write.new.hub) (tells c.write-2.new.hub) (tells c.read_behind-2.new.hub) (matches c.write.new.session) (matches c.write-2.new.session) (matches c.read_behind-2.new.session) k b (or_else d e) c.in_ok-passed_on.passed_on c.write.new.waits c.write-2.new.waits x
     c.in_ok-passed_on.ensures.goes
-    (then_breaks (tells c.write-2.new.hub) (tells c.read.new.hub) (tells c.read-2.new.hub) (matches c.write-2.new.session) (matches c.read.new.session) (matches c.read-2.new.session) k d e c.in_ok-answered.answered c.write-2.new.waits c.read.new.waits x
+    (then_breaks (tells c.write-2.new.hub) (tells c.read_behind.new.hub) (tells c.read_behind-2.new.hub) (matches c.write-2.new.session) (matches c.read_behind.new.session) (matches c.read_behind-2.new.session) k d e c.in_ok-answered.answered c.write-2.new.waits c.read_behind.new.waits x
     c.in_ok-answered.ensures.goes c.in_err-taken.ensures.goes)))
 
 pub returns-clause-goes : goal.returns-clause-goes
@@ -114,24 +94,19 @@ returns-clause-goes g c =
     let k = c.args.k in
     let s0 = c.args.session.now in
     let w0 = c.args.waits.now in
-    let piece = c.args.piece.now in
-    let most = c.most_read-most.result in
-    let most' = c.most_read-most-2.result in
-    let into = c.read.new.piece ++ drop most piece in
-    let long : length into ≡ piece_length = search rules in
-    let n : length (take most piece) ≡ most_behind c.write-2.new.session.standing.to_client = most_length piece c.due.result.now most c.requires c.most_read-most.ensures ∙ ap most_behind c.due.ensures.bytes in
-    let n' : length (take most' into) ≡ most_behind c.read.new.session.standing.to_upstream = most_length into c.due-2.result.now most' long c.most_read-most-2.ensures ∙ ap most_behind c.due-2.ensures.bytes in
+    let n = most_behind c.write-2.new.session.standing.to_client in
+    let n' = most_behind c.read_behind.new.session.standing.to_upstream in
     let a = wanted_write side.Client w0 s0.standing in
     let b = wanted_write side.Upstream c.write.new.waits c.write.new.session.standing in
-    let d = wanted_read (length (take most piece)) side.Upstream c.write-2.new.waits c.write-2.new.session in
-    let e = wanted_read (length (take most' into)) side.Client c.read.new.waits c.read.new.session in
+    let d = wanted_read n side.Upstream c.write-2.new.waits c.write-2.new.session in
+    let e = wanted_read n' side.Client c.read_behind.new.waits c.read_behind.new.session in
     let sum : c.in_ok-written.written + (c.in_ok-passed_on.passed_on + (c.in_ok-answered.answered + c.in_ok-taken.taken)) ≡ c.in_ok-written.written + c.in_ok-passed_on.passed_on + c.in_ok-answered.answered + c.in_ok-taken.taken = omega arith in
-    subst (λ m. Goes (tells c.args.hub.now) (tells c.read-2.new.hub) (matches s0) (matches c.read-2.new.session) k (Runs k (wanted w0 s0) m w0 c.read-2.new.waits)) sum
-    (runs_at (tells c.args.hub.now) (tells c.read-2.new.hub) (matches s0) (matches c.read-2.new.session) k (or_else a (or_else b (or_else d e))) (wanted w0 s0) _ w0 c.read-2.new.waits
-    (wants_four s0 c.write.new.session c.write-2.new.session c.read.new.session w0 c.write.new.waits c.write-2.new.waits c.read.new.waits (length (take most piece)) (length (take most' into)) (record { one = c.write.ensures.idle; two = c.write-2.ensures.idle; three = c.read.ensures.idle; reads = n; reads_last = n' }))
-    (then_runs (tells c.args.hub.now) (tells c.write.new.hub) (tells c.read-2.new.hub) (matches s0) (matches c.write.new.session) (matches c.read-2.new.session) k a (or_else b (or_else d e)) c.in_ok-written.written _ w0 c.write.new.waits c.read-2.new.waits
+    subst (λ m. Goes (tells c.args.hub.now) (tells c.read_behind-2.new.hub) (matches s0) (matches c.read_behind-2.new.session) k (Runs k (wanted w0 s0) m w0 c.read_behind-2.new.waits)) sum
+    (runs_at (tells c.args.hub.now) (tells c.read_behind-2.new.hub) (matches s0) (matches c.read_behind-2.new.session) k (or_else a (or_else b (or_else d e))) (wanted w0 s0) _ w0 c.read_behind-2.new.waits
+    (wants_four s0 c.write.new.session c.write-2.new.session c.read_behind.new.session w0 c.write.new.waits c.write-2.new.waits c.read_behind.new.waits n n' (record { one = c.write.ensures.idle; two = c.write-2.ensures.idle; three = c.read_behind.ensures.idle; reads = refl; reads_last = refl }))
+    (then_runs (tells c.args.hub.now) (tells c.write.new.hub) (tells c.read_behind-2.new.hub) (matches s0) (matches c.write.new.session) (matches c.read_behind-2.new.session) k a (or_else b (or_else d e)) c.in_ok-written.written _ w0 c.write.new.waits c.read_behind-2.new.waits
     c.in_ok-written.ensures.goes
-    (then_runs (tells c.write.new.hub) (tells c.write-2.new.hub) (tells c.read-2.new.hub) (matches c.write.new.session) (matches c.write-2.new.session) (matches c.read-2.new.session) k b (or_else d e) c.in_ok-passed_on.passed_on _ c.write.new.waits c.write-2.new.waits c.read-2.new.waits
+    (then_runs (tells c.write.new.hub) (tells c.write-2.new.hub) (tells c.read_behind-2.new.hub) (matches c.write.new.session) (matches c.write-2.new.session) (matches c.read_behind-2.new.session) k b (or_else d e) c.in_ok-passed_on.passed_on _ c.write.new.waits c.write-2.new.waits c.read_behind-2.new.waits
     c.in_ok-passed_on.ensures.goes
-    (then_runs (tells c.write-2.new.hub) (tells c.read.new.hub) (tells c.read-2.new.hub) (matches c.write-2.new.session) (matches c.read.new.session) (matches c.read-2.new.session) k d e c.in_ok-answered.answered c.in_ok-taken.taken c.write-2.new.waits c.read.new.waits c.read-2.new.waits
+    (then_runs (tells c.write-2.new.hub) (tells c.read_behind.new.hub) (tells c.read_behind-2.new.hub) (matches c.write-2.new.session) (matches c.read_behind.new.session) (matches c.read_behind-2.new.session) k d e c.in_ok-answered.answered c.in_ok-taken.taken c.write-2.new.waits c.read_behind.new.waits c.read_behind-2.new.waits
     c.in_ok-answered.ensures.goes c.in_ok-taken.ensures.goes))))

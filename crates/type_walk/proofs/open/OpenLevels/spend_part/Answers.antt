@@ -3,7 +3,7 @@ use Rattle.std.specs.Prelude.{IfSome}
 use Rattle.type_walk.specs.declared.levels.Level.{Level}
 use Rattle.type_walk.specs.Known.{IsKnownLevel, AreKnown}
 use Rattle.type_walk.proofs.Sound.{known-first, known-rest}
-use Rattle.type_walk.proofs.open.Open.spend_part.Goals as goal
+use Rattle.type_walk.proofs.open.OpenLevels.spend_part.Goals as goal
 
 pub returns-in-Keys-clause-sound : goal.returns-in-Keys-clause-sound
 returns-in-Keys-clause-sound c =

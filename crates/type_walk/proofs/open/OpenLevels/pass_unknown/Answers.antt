@@ -1,6 +1,6 @@
 use Rattle.std.proofs.Common.{arith, inl, inr}
 use Rattle.type_walk.proofs.Sound.{length-shaded}
-use Rattle.type_walk.proofs.open.Open.pass_unknown.Goals as goal
+use Rattle.type_walk.proofs.open.OpenLevels.pass_unknown.Goals as goal
 
 pub overflow_add-self : goal.overflow_add-self
 overflow_add-self c =

@@ -2,7 +2,7 @@ use Rattle.std.proofs.Common.{List, sym, subst}
 use Rattle.type_walk.specs.declared.levels.Level.{Level}
 use Rattle.type_walk.specs.Known.{AreKnown}
 use Rattle.type_walk.proofs.Sound.{known-first, known-rest}
-use Rattle.type_walk.proofs.open.Open.leave.Goals as goal
+use Rattle.type_walk.proofs.open.OpenLevels.leave.Goals as goal
 
 pub returns-clause-sound : goal.returns-clause-sound
 returns-clause-sound c =
