@@ -1,0 +1,64 @@
+//! Laws of the JSON protocol: what `json_protocol` reads is what the grammar of TJSON spells.
+//!
+//! Each law is the contract of a function that does nothing. The code rests on none of them.
+#![tactic(auto)]
+
+ghost use Rattle.std.specs.Prelude.{◌≡◌, ◌<◌, ◌≤◌, ◌^◌, ◌⊎◌, ◌++◌, length, List, ℕ};
+ghost use Rattle.thrift_value.specs.Items.{Item};
+ghost use Rattle.thrift_value.specs.Trees.{Message, depth_of_members};
+ghost use Rattle.protocol_traits.specs.Heads.{Header};
+ghost use Rattle.protocol_traits.specs.declared.fault.Fault.{Fault};
+ghost use Rattle.json_text.specs.Grammar.{AreWhite};
+ghost use Rattle.binary_laws.specs.Written.{IsMessage};
+ghost use Rattle.json_laws.specs.Stated.{Known, JsonSpells, IsRead, IsReadWhole, IsReadAs, IsRefused, IsSpelled, NoMessage, IsTooDeep, IsBad, StaysBad};
+ghost use Rattle.json_laws.specs.Written.{IsWritten};
+
+/// What the grammar spells is read: the header of the message, the items of its body and the end, for every message of depth
+/// at most 256, of which its body is one level. Any whitespace may stand before, between and after the tokens, strings and numbers
+/// may have any of their spellings, and what an IDL declares of the body tells how its strings are spelled.
+pub fn spelled_is_read()
+    ensures { (k : Known) (m : Message) (bytes : List ℕ) → JsonSpells k m bytes → depth_of_members m.body < 256 → IsReadAs k m bytes }
+{}
+
+/// What is read is spelled: a frame of less than 2^31 bytes that is read whole spells a message of depth at most 256, with that header
+/// and those items.
+pub fn read_is_spelled()
+    ensures { (k : Known) (bytes : List ℕ) (h : Header) (items : List Item) → length bytes < 2 ^ 31 → IsRead k bytes h items → IsSpelled k bytes h items }
+{}
+
+/// What is written of a message spells it: the plain header and the plain spelling of each item of its body, each by the levels that the
+/// items before it leave and by what is declared of its position, where no bar refuses one and its strings consist of bytes. That is one
+/// spelling, and where the message is of depth at most 256 it is read as that message.
+pub fn written_is_spelled()
+    ensures spells { (k : Known) (m : Message) (bytes : List ℕ) → IsMessage m → IsWritten k m bytes → JsonSpells k m bytes }
+    ensures one { (k : Known) (m : Message) (a b : List ℕ) → IsWritten k m a → IsWritten k m b → a ≡ b }
+    ensures again { (k : Known) (m : Message) (bytes : List ℕ) → IsMessage m → IsWritten k m bytes → depth_of_members m.body < 256 → IsReadAs k m bytes }
+{}
+
+/// Bytes spell one message at most, of any depth, where the same is declared of its body. Of two spellings of messages one begins the
+/// other only where they spell the same message and whitespace alone follows.
+pub fn one_message_is_spelled()
+    ensures { (k : Known) (m n : Message) (front rest : List ℕ) → JsonSpells k m front → JsonSpells k n (front ++ rest) → (m ≡ n) × AreWhite rest }
+{}
+
+/// A message that lies deeper than 256 levels, in a frame of less than 2^31 bytes, is refused as too deep.
+pub fn deeper_is_too_deep()
+    ensures { (k : Known) (m : Message) (bytes : List ℕ) → JsonSpells k m bytes → length bytes < 2 ^ 31 → 256 ≤ depth_of_members m.body → IsTooDeep k bytes }
+{}
+
+/// Each frame is read whole, as one header and one list of items, or it is refused with one fault, and never both. So a frame that is
+/// refused spells no message of depth at most 256.
+pub fn each_frame_is_read_or_refused()
+    ensures outcome { (k : Known) (bytes : List ℕ) → IsReadWhole k bytes ⊎ ((f : Fault) × IsRefused k bytes f) }
+    ensures apart { (k : Known) (bytes : List ℕ) (f : Fault) → IsReadWhole k bytes → IsRefused k bytes f → ⊥ }
+    ensures one_fault { (k : Known) (bytes : List ℕ) (f g : Fault) → IsRefused k bytes f → IsRefused k bytes g → f ≡ g }
+    ensures one_reading { (k : Known) (bytes : List ℕ) (h i : Header) (xs ys : List Item) → IsRead k bytes h xs → IsRead k bytes i ys → (h ≡ i) × (xs ≡ ys) }
+    ensures none { (k : Known) (bytes : List ℕ) (f : Fault) → IsRefused k bytes f → NoMessage k bytes }
+{}
+
+/// A frame that is refused, other than as truncated, is refused whatever comes behind: with the same fault if that stands before the
+/// frame's end, else for the same reason. So it begins no message of depth at most 256.
+pub fn refused_stays_refused()
+    ensures stays { (k : Known) (bytes more : List ℕ) (f : Fault) → IsBad k bytes f → StaysBad k bytes more f }
+    ensures none { (k : Known) (bytes more : List ℕ) (f : Fault) → IsBad k bytes f → NoMessage k (bytes ++ more) }
+{}
