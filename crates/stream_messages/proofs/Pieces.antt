@@ -1,6 +1,6 @@
 -- A piece, byte by byte.
-use Rattle.std.proofs.Common.{◌≡◌, ℕ, zero, suc, ◌+◌, ◌<◌, ◌≤◌, List, [], ◌∷◌, ◌++◌, length, take, get_or, refl, arith, sym, ap, ◌∙◌, subst, append_assoc, length-append}
-use Rattle.std.proofs.lemmas.List.{take_more, length-take-le}
+use Rattle.std.proofs.Common.{◌≡◌, ℕ, zero, suc, ◌+◌, ◌-◌, ◌<◌, ◌≤◌, List, [], ◌∷◌, ◌++◌, length, take, drop, get_or, refl, arith, sym, ap, ◌∙◌, subst, append_assoc, length-append}
+use Rattle.std.proofs.lemmas.List.{take_more, take_all, length-take-le, length-drop}
 use Rattle.stream_messages.specs.declared.scan.Wire.{Wire}
 use Rattle.stream_messages.specs.Scanning.{Scanning}
 use Rattle.stream_messages.specs.Fronts.{Found, cut, IsFront}
@@ -51,3 +51,27 @@ full_at front piece n limit last h l full =
 pub goes_on : (new : Scanning) (front piece : List ℕ) (n : ℕ) (w v : Wire) (l k : ℕ) → n < length piece → v ≡ w → k ≡ l
     → HasRead new ((front ++ take n piece) ++ get_or piece n 0 ∷ []) → new.wire ≡ v → new.limit ≡ k → HasRead new (front ++ take (n + 1) piece) × (new.wire ≡ w) × (new.limit ≡ l)
 goes_on new front piece n w v l k h e f read a b = (subst (λ x. HasRead new x) (next_front n front piece h) read, a ∙ e, b ∙ f)
+
+-- ---- bytes that are passed over
+
+suc_on : (n k : ℕ) → suc n + k ≡ suc (n + k)
+suc_on n k = omega arith
+
+take_on : (n k : ℕ) (l : List ℕ) → take n l ++ take k (drop n l) ≡ take (n + k) l
+take_on zero k l = ap (λ i. take i l) (sym (the_same k))
+take_on (suc n) zero [] = ap (λ i. take {A = ℕ} i []) (sym (suc_on n 0))
+take_on (suc n) (suc k) [] = ap (λ i. take {A = ℕ} i []) (sym (suc_on n (suc k)))
+take_on (suc n) k (x ∷ l) = ap (λ m. x ∷ m) (take_on n k l) ∙ ap (λ i. take i (x ∷ l)) (sym (suc_on n k))
+
+-- behind them the scan has read so many more bytes of the piece
+pub passes_on : (new : Scanning) (front piece from : List ℕ) (n k : ℕ) (w v : Wire) (l m : ℕ) → from ≡ drop n piece → v ≡ w → m ≡ l
+    → HasRead new ((front ++ take n piece) ++ take k from) × (new.wire ≡ v) × (new.limit ≡ m) → HasRead new (front ++ take (n + k) piece) × (new.wire ≡ w) × (new.limit ≡ l)
+passes_on new front piece from n k w v l m is e f read =
+    (subst (λ x. HasRead new x) (append_assoc front (take n piece) (take k from) ∙ ap (λ x. front ++ x) (ap (λ x. take n piece ++ take k x) is ∙ take_on n k piece)) read.0, read.1 ∙ e, read.2 ∙ f)
+
+-- a slice up to the end
+pub from_here : (n : ℕ) (piece : List ℕ) → take (length piece - n) (drop n piece) ≡ drop n piece
+from_here n piece = take_all (length piece - n) (drop n piece) (omega (arith, length-drop n piece))
+
+pub before_end : (n k : ℕ) (piece : List ℕ) → n < length piece → k < length (take (length piece - n) (drop n piece)) → n + k < length piece
+before_end n k piece h less = omega (arith, h, less, ap (λ (l : List ℕ). length l) (from_here n piece), length-drop n piece)

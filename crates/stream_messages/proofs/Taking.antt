@@ -1,5 +1,5 @@
 -- One byte takes a scan on as the protocol's reader reads.
-use Rattle.std.proofs.Common.{◌≡◌, ℕ, zero, suc, ◌+◌, ◌-◌, ◌^◌, ◌<◌, ◌≤◌, inl, inr, Bool, true, false, cond, List, [], ◌∷◌, ◌++◌, length, take, drop, Ok, Err, refl, arith, sym, ◌∙◌, subst, append_assoc, length-append}
+use Rattle.std.proofs.Common.{◌≡◌, ℕ, zero, suc, ◌+◌, ◌-◌, ◌^◌, ◌<◌, ◌≤◌, inl, inr, Bool, true, false, cond, List, [], ◌∷◌, ◌++◌, length, take, drop, get_or, append-nil, ap, Ok, Err, refl, arith, sym, ◌∙◌, subst, append_assoc, length-append}
 use Rattle.std.specs.Prelude.{nat_le, min}
 use Rattle.std.proofs.lemmas.Bool.Decides.{nat_tests}
 use Rattle.std.proofs.lemmas.List.{take-append-le, take_all}
@@ -20,7 +20,7 @@ use Rattle.stream_messages.specs.declared.parts.Part.TheVariants as part
 use Rattle.stream_messages.specs.Levels.{settles}
 use Rattle.stream_messages.specs.Scanning.{Scanning, first_part, begins, tells_bools, step_of, waits, with_levels, settled_in, led_by, counted, takes}
 use Rattle.stream_messages.specs.Fronts.{Found, whole, cut, bad, head_at, item_at, IsBody, IsFront}
-use Rattle.stream_messages.specs.Feeding.{Ran, goes, short, wrong, behind, led, run, RanTo, HasRead, TakesOne}
+use Rattle.stream_messages.specs.Feeding.{Passes, Ran, goes, short, wrong, behind, led, run, RanTo, HasRead, TakesOne}
 use Rattle.stream_messages.proofs.Bodies.{Bodies, one_item, no_item}
 use Rattle.stream_messages.proofs.Settling.{IsReady, Outcome, settled_body}
 use Rattle.stream_messages.proofs.Seen.{is_cut, cut_reason, other_reason, seen, seen_head, body_open}
@@ -140,3 +140,51 @@ begun wire limit some fits = record {
     none : (n : ℕ) → take {A = ℕ} n [] ≡ []
     none zero = refl
     none (suc n) = refl
+
+-- ---- bytes of any value
+
+pass_one : (s : Scanning) (front : List ℕ) (byte left : ℕ) → byte < 256 → s.part ≡ part.Any left → 1 < left → length front + 1 < s.limit → HasRead s front
+    → HasRead (record s { taken = s.taken + 1; part = part.Any (left - 1) }) (front ++ byte ∷ [])
+pass_one s front byte left small is many room read =
+    let size : length (front ++ byte ∷ []) ≡ length front + 1 = length-append front (byte ∷ []) in
+    record {
+      taken = omega (arith, read.taken, size);
+      room = omega (arith, size);
+      fits = read.fits;
+      begins = cut_fronts s front byte small read (by_more cut [] tt refl);
+      goes_on = λ found more are finds. subst (λ l. IsFront s.wire found l) (sym (append_assoc front (byte ∷ []) more)) (by_more found more are finds);
+    }
+  where
+    step_is : step_of s.wire s.part byte s.nest ≡ (next.Part (part.Any (left - 1)), s.nest)
+    step_is = subst (λ p. step_of s.wire p byte s.nest ≡ (next.Part (part.Any (left - 1)), s.nest)) (sym is) (grind (arith, nat_tests))
+
+    by_more : (found : Found) (more : List ℕ) → AreBytes more → RanTo s.wire found more (run s.wire more (part.Any (left - 1)) s.nest) → IsFront s.wire found (front ++ byte ∷ more)
+    by_more found more are r = found_by s front byte small read found more (next.Part (part.Any (left - 1)), s.nest) step_is are
+        (shift_ran s.wire found byte more (run s.wire more (part.Any (left - 1)) s.nest) r)
+
+pub pass_many : (passed : List ℕ) (s : Scanning) (front : List ℕ) (left taken now : ℕ) → AreBytes passed → s.part ≡ part.Any left → taken ≡ s.taken + length passed
+    → now + length passed ≡ left → 0 < now → length front + length passed < s.limit → HasRead s front
+    → HasRead (record s { taken = taken; part = part.Any now }) (front ++ passed)
+pass_many [] s front left taken now are is t n some room read =
+    subst (λ l. HasRead (record s { taken = taken; part = part.Any now }) l) (sym (append-nil front))
+    (subst (λ k. HasRead (record s { taken = k; part = part.Any now }) front) (sym (omega (arith, t)))
+    (subst (λ p. HasRead (record s { part = p }) front) (is ∙ ap (λ k. part.Any k) (sym (omega (arith, n)))) read))
+pass_many (byte ∷ more) s front left taken now are is t n some room read =
+    subst (λ l. HasRead (record s { taken = taken; part = part.Any now }) l) (append_assoc front (byte ∷ []) more)
+    (pass_many more (record s { taken = s.taken + 1; part = part.Any (left - 1) }) (front ++ byte ∷ []) (left - 1) taken now are.1 refl (omega (arith, t)) (omega (arith, n)) some
+    (omega (arith, room, length-append front (byte ∷ []))) (pass_one s front byte left are.0 is (omega (arith, n, some)) (omega (arith, room)) read))
+
+pub passed_on : (old s : Scanning) → old ≡ s → (front passed : List ℕ) (left taken now : ℕ) → AreBytes passed → old.part ≡ part.Any left → taken ≡ old.taken + length passed
+    → now + length passed ≡ left → 0 < now → old.taken + length passed < old.limit → HasRead s front → Passes s front passed (record old { taken = taken; part = part.Any now })
+passed_on old s same front passed left taken now are is t n some room read =
+    let h : HasRead old front = subst (λ (z : Scanning). HasRead z front) (sym same) read in
+    (pass_many passed old front left taken now are is t n some (omega (arith, room, h.taken)) h, ap (λ (z : Scanning). z.wire) same, ap (λ (z : Scanning). z.limit) same)
+
+pub none_passed : (old s : Scanning) → old ≡ s → (front passed : List ℕ) → passed ≡ [] → HasRead s front → Passes s front passed old
+none_passed old s same front passed none read =
+    (subst (λ (z : Scanning). HasRead z (front ++ passed)) (sym same) (subst (λ l. HasRead s l) (sym (append-nil front) ∙ ap (λ l. front ++ l) (sym none)) read), ap (λ (z : Scanning). z.wire) same, ap (λ (z : Scanning). z.limit) same)
+
+pub all_bytes : (n : ℕ) (piece : List ℕ) → ((i : ℕ) → get_or piece i 0 < 256) → AreBytes (take n piece)
+all_bytes zero piece h = tt
+all_bytes (suc n) [] h = tt
+all_bytes (suc n) (x ∷ piece) h = (h 0, all_bytes n piece (λ i. h (suc i)))

@@ -78,3 +78,7 @@ TakesOne s front byte took.More new = HasRead new (front ++ byte ∷ []) × (new
 TakesOne s front byte took.Whole new = IsFront s.wire whole (front ++ byte ∷ [])
 TakesOne s front byte took.Bad new = IsFront s.wire bad (front ++ byte ∷ [])
 TakesOne s front byte took.Over new = IsFront s.wire cut (front ++ byte ∷ []) × (length front + 1 ≡ s.limit)
+
+-- the scan has read so many bytes more, and the message goes on
+abbrev pub Passes : Scanning → List ℕ → List ℕ → Scanning → Type 0
+Passes s front passed new = HasRead new (front ++ passed) × (new.wire ≡ s.wire) × (new.limit ≡ s.limit)

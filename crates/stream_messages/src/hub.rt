@@ -41,6 +41,8 @@ impl<'h, H: Hub> UnframedHub<'h, H> {
         requires some { 0 < limit }
         requires limit { limit < 2 ^ 31 }
         ensures same_reference { result.inner.ghost_name ≡ inner.entry.ghost_name }
+        ensures wrapping { result.wrapping ≡ record { client = client; upstream = upstream; limit = limit } }
+        ensures fresh { (result.inner.now ≡ inner.old) × (result.slots ≡ None) × (result.missing ≡ 0) }
         ensures tells { (m : Meaning) → H.tells inner.old m → NotStarted m → ((k : ℕ) → (m.session k).announced ≡ false) →
             TellsOver (H.tells result.inner.now) result.wrapping result.slots m }
         ensures counts { counts_over (H.counts result.inner.now) result.missing ≡ counts_over (H.counts inner.old) 0 }
@@ -56,6 +58,16 @@ impl<'h, H: Hub> UnframedHub<'h, H> {
             slots: None,
             missing: 0,
         }
+    }
+
+    /// The hub below; the slots are let go.
+    pub fn into_inner(self) -> &'h mut H
+        ensures same_reference { result.ghost_name ≡ self.entry.inner.ghost_name }
+        ensures now { result.now ≡ self.entry.inner.now }
+    {
+        let UnframedHub { inner, slots, .. } = self;
+        drop(slots);
+        inner
     }
 }
 

@@ -1,6 +1,6 @@
 //! Where messages that follow one another end.
-ghost use Rattle.std.specs.Prelude.{◌≡◌, ◌<◌, ℕ, List, []};
-ghost use Rattle.stream_messages.specs.Feeding.{HasRead, Answers, TakesOne};
+ghost use Rattle.std.specs.Prelude.{◌≡◌, ◌<◌, ℕ, List, [], length, take};
+ghost use Rattle.stream_messages.specs.Feeding.{HasRead, Answers, Passes, TakesOne};
 ghost use Rattle.stream_messages.specs.Scanning.{begins, first_part, tells_bools, step_of, item_of, field_in, value_in, waits, settles_in, takes};
 
 use crate::levels::{Settled, settle};
@@ -77,15 +77,38 @@ impl Scan {
     pub fn feed(&mut self, piece: &[u8]) -> Cut
         ensures { (front : List ℕ) → HasRead self.old front → Answers self.old front piece.now result self.new }
     {
-        for (at, byte) in piece.iter().enumerate() {
-            match self.read(*byte) {
-                Taken::More => (),
+        let mut at = 0;
+        while at < piece.len() {
+            at += self.pass(&piece[at..]);
+            match self.read(piece[at]) {
+                Taken::More => at += 1,
                 Taken::Whole => return Cut::Whole(at + 1),
                 Taken::Bad => return Cut::Bad(at + 1),
                 Taken::Over => return Cut::Over(at + 1),
             }
         }
         Cut::More
+    }
+
+    // Passes over bytes of any value at once, but not over the last of them, of the piece or of the limit.
+    #[inline(always)]
+    fn pass(&mut self, piece: &[u8]) -> usize
+        requires { 0 < length piece.now }
+        ensures within { result < length piece.now }
+        ensures passes { (front : List ℕ) → HasRead self.old front → Passes self.old front (take result piece.now) self.new }
+    {
+        let Part::Any(left) = self.part else {
+            return 0;
+        };
+        let room = self.limit.saturating_sub(self.taken);
+        let most = (left as usize).min(room).min(piece.len());
+        if most <= 1 {
+            return 0;
+        }
+        let count = most - 1;
+        self.taken += count;
+        self.part = Part::Any(left - count as u32);
+        count
     }
 
     // Goes on with one byte, in the words of the protocol's reader.
