@@ -37,7 +37,7 @@ pub struct Check<'s> {
 
 /// Clauses see the declarations, and the path of the last breach.
 impl<'s> Model for Check<'s> {
-    ghost use Rattle.std.specs.Prelude.{◌≡◌, ◌≤◌};
+    ghost use Rattle.std.specs.Prelude.{◌≡◌};
     ghost use Rattle.std.specs.Vec.{vec_capacity};
     ghost use Rattle.protocol_traits.specs.declared.nest.TheConstants.{DEPTH};
     ghost use Rattle.type_tables.specs.Structs.{widest};
@@ -47,7 +47,7 @@ impl<'s> Model for Check<'s> {
 
     ghost view = { λ c. record { schema = c.schema.now; path = c.path.items } };
 
-    ghost invariant = { λ c. (c.trail.width ≡ widest c.schema.now.structs) × (DEPTH ≤ vec_capacity c.path) };
+    ghost invariant = { λ c. (c.trail.width ≡ widest c.schema.now.structs) × (vec_capacity c.path ≡ DEPTH) };
 }
 
 impl<'s> Check<'s> {
@@ -95,9 +95,10 @@ impl<'s> Check<'s> {
         )
     }
 
-    /// The path of the breach that `check` told last, the outermost step first; empty behind any other answer.
+    /// The path of the breach that `check` told last, the outermost step first; empty behind any other answer. It has a step a level at most.
     pub fn path(&self) -> &[Step]
-        ensures { result.now ≡ self.now.path }
+        ensures path { result.now ≡ self.now.path }
+        ensures short { length result.now ≤ DEPTH }
     {
         self.path.as_slice()
     }

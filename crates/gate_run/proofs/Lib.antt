@@ -4,8 +4,10 @@ pub mod Draining
 pub mod Ending
 pub mod Faults
 pub mod Outcome
+pub mod Posting
 pub mod Progress
 pub mod Served
 pub mod Started
 pub mod Starts
 pub mod Treating
+pub mod Wrapped

@@ -1,7 +1,6 @@
 -- From the moments of a conversion to what the whole conversion did.
 use Rattle.std.proofs.Common.{◌≡◌, ℕ, ◌+◌, ◌-◌, ◌^◌, ◌≤◌, ◌<◌, ◌⊎◌, inl, inr, List, [], ◌++◌, length, take, arith, refl, sym, ◌∙◌, ap, subst, Option, Bool, true, false, ◌||◌, Result, Ok, Err}
 use Rattle.std.specs.Prelude.{⊤, IfErr}
-use Rattle.std.specs.List.{flat_map}
 use Rattle.std.specs.Io.KnownBytes.{Appends, IsAtEnd}
 use Rattle.std.proofs.lemmas.List.{take_all}
 use Rattle.std.proofs.lemmas.List.Elements.{All-nil}
@@ -9,7 +8,7 @@ use Rattle.gate_base.specs.Causes.{Rose}
 use Rattle.framed_transport.specs.Front.{front, is_whole}
 use Rattle.gate_run.specs.Terms.{Terms}
 use Rattle.gate_io.specs.Fronts.{AppendsFront}
-use Rattle.gate_run.specs.Handling.{output_of, lines, any_refused}
+use Rattle.gate_run.specs.Handling.{outputs, lines, any_refused}
 use Rattle.gate_run.specs.Progress.{Moment, Goes, Breaks, CutsOff, HasRisen, IsStreamLine}
 use Rattle.gate_run.specs.Endings.{last_line}
 use Rattle.gate_run.specs.Working.{Closes, Ends, EndsInRest, IsWaiting}
@@ -37,7 +36,7 @@ covers k a b i o e i' o' e' reported line none first goes no_frame last = record
     each = goes.each;
     no_more = no_frame;
   };
-  written = goes.written;
+  written = subst (λ (n : ℕ). Appends a.written b.written (outputs k n goes.frames)) first goes.written;
   reported = subst (λ (n : ℕ). Appends a.reported reported (lines k n goes.frames ++ line)) first (appends_on a.reported b.reported reported (lines k a.frames goes.frames) line goes.reported last);
 }
 
@@ -114,16 +113,18 @@ cut_from streams.Output k a b c d frames last first w r w' r' p = (
     others = p.0.others;
     is = p.0.is;
     count = p.0.count;
-    within = p.0.within;
-    written = subst (λ (x : Option (List ℕ)). Appends x d.written (flat_map (output_of k) p.0.done ++ take p.0.count (flat_map (output_of k) p.0.others))) w
-        (subst (λ (x : Option (List ℕ)). Appends a.written x (flat_map (output_of k) p.0.done ++ take p.0.count (flat_map (output_of k) p.0.others))) w' p.0.written);
+    within = subst (λ (n : ℕ). p.0.count ≤ length (outputs k (n + length p.0.done) p.0.others)) first p.0.within;
+    written = subst (λ (n : ℕ). Appends c.written d.written (outputs k n p.0.done ++ take p.0.count (outputs k (n + length p.0.done) p.0.others))) first
+        (subst (λ (x : Option (List ℕ)). Appends x d.written (outputs k a.frames p.0.done ++ take p.0.count (outputs k (a.frames + length p.0.done) p.0.others))) w
+        (subst (λ (x : Option (List ℕ)). Appends a.written x (outputs k a.frames p.0.done ++ take p.0.count (outputs k (a.frames + length p.0.done) p.0.others))) w' p.0.written));
     reported = subst (λ (n : ℕ). Appends c.reported d.reported (lines k n p.0.done)) first
         (subst (λ (x : Option (List ℕ)). Appends x d.reported (lines k a.frames p.0.done)) r (subst (λ (x : Option (List ℕ)). Appends a.reported x (lines k a.frames p.0.done)) r' p.0.reported));
   },
   p.1,
 )
 cut_from streams.Report k a b c d frames last first w r w' r' p = record {
-  written = subst (λ (x : Option (List ℕ)). Appends x d.written (flat_map (output_of k) frames)) w (subst (λ (x : Option (List ℕ)). Appends a.written x (flat_map (output_of k) frames)) w' p.written);
+  written = subst (λ (n : ℕ). Appends c.written d.written (outputs k n frames)) first
+      (subst (λ (x : Option (List ℕ)). Appends x d.written (outputs k a.frames frames)) w (subst (λ (x : Option (List ℕ)). Appends a.written x (outputs k a.frames frames)) w' p.written));
   reported = subst (λ (n : ℕ). AppendsFront c.reported d.reported (lines k n frames ++ last)) first
       (subst (λ (x : Option (List ℕ)). AppendsFront x d.reported (lines k a.frames frames ++ last)) r (subst (λ (x : Option (List ℕ)). AppendsFront a.reported x (lines k a.frames frames ++ last)) r' p.reported));
 }

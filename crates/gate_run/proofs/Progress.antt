@@ -16,7 +16,7 @@ use Rattle.gate_run.specs.declared.status.Ending.TheVariants as endings
 use Rattle.gate_run.specs.declared.stream.Broken.{Broken}
 use Rattle.gate_run.specs.declared.stream.Broken.TheVariants as streams
 use Rattle.gate_io.specs.Fronts.{AppendsFront, Flushed}
-use Rattle.gate_run.specs.Handling.{passes, output_of, line_of, lines, any_refused}
+use Rattle.gate_run.specs.Handling.{passes, output_of, outputs, line_of, lines, any_refused}
 use Rattle.gate_run.specs.Progress.{Moment, Goes, Breaks, CutsOff, IsStreamLine}
 use Rattle.gate_io.proofs.Streams.{appends_on, appends_none, consumes_on, consumes_none, then_front, front_of_more, keeps_consumes, some_wait, front_of_gathered, all_written, one_waits, gathered, flushed_none}
 
@@ -25,6 +25,19 @@ lines_on k before [] ys = ap (λ n. lines k n ys) (sym (add-zero before))
 lines_on k before (x ∷ xs) ys =
     let e : (before + 1) + length xs ≡ before + suc (length xs) = omega arith in
     ap (λ t. line_of k (before + 1) x ++ t) (lines_on k (before + 1) xs ys ∙ ap (λ n. lines k (before + 1) xs ++ lines k n ys) e) ∙ sym (append_assoc (line_of k (before + 1) x) (lines k (before + 1) xs) (lines k (before + suc (length xs)) ys))
+
+pub outputs_on : (k : Terms) (before : ℕ) (xs ys : List (List ℕ)) → outputs k before (xs ++ ys) ≡ outputs k before xs ++ outputs k (before + length xs) ys
+outputs_on k before [] ys = ap (λ n. outputs k n ys) (sym (add-zero before))
+outputs_on k before (x ∷ xs) ys =
+    let e : (before + 1) + length xs ≡ before + suc (length xs) = omega arith in
+    ap (λ t. output_of k (before + 1) x ++ t) (outputs_on k (before + 1) xs ys ∙ ap (λ n. outputs k (before + 1) xs ++ outputs k n ys) e) ∙ sym (append_assoc (output_of k (before + 1) x) (outputs k (before + 1) xs) (outputs k (before + suc (length xs)) ys))
+
+-- what is written of some frames and then of more, and what follows
+more_written : (k : Terms) (n m : ℕ) (a b c : Option (List ℕ)) (xs ys : List (List ℕ)) (rest : List ℕ) → m ≡ n + length xs → Appends a b (outputs k n xs) → Appends b c (outputs k m ys ++ rest) → Appends a c (outputs k n (xs ++ ys) ++ rest)
+more_written k n m a b c xs ys rest e p q =
+    let all : outputs k n xs ++ (outputs k m ys ++ rest) ≡ outputs k n (xs ++ ys) ++ rest =
+    sym (append_assoc (outputs k n xs) (outputs k m ys) rest) ∙ ap (λ t. t ++ rest) (ap (λ i. outputs k n xs ++ outputs k i ys) e ∙ sym (outputs_on k n xs ys)) in
+    subst (λ (t : List ℕ). Appends a c t) all (appends_on a b c (outputs k n xs) (outputs k m ys ++ rest) p q)
 
 or_assoc : (a b c : Bool) → (a || b || c) ≡ (a || (b || c))
 or_assoc true b c = refl
@@ -64,7 +77,7 @@ goes_on k a b c p q = record {
   consumed = consumes_on a.left b.left c.left p.read q.read p.consumed q.consumed;
   split = rw (flat_map-append framed p.frames q.frames) (split_on a.held p.read (flat_map framed p.frames) b.held q.read (flat_map framed q.frames) c.held p.split q.split);
   each = All-append (λ frame. length frame ≤ k.limit) p.frames q.frames p.each q.each;
-  written = rw (flat_map-append (output_of k) p.frames q.frames) (appends_on a.written b.written c.written (flat_map (output_of k) p.frames) (flat_map (output_of k) q.frames) p.written q.written);
+  written = rw (outputs_on k a.frames p.frames q.frames, ← p.counted) (appends_on a.written b.written c.written (outputs k a.frames p.frames) (outputs k b.frames q.frames) p.written q.written);
   reported = rw (lines_on k a.frames p.frames q.frames, ← p.counted) (appends_on a.reported b.reported c.reported (lines k a.frames p.frames) (lines k b.frames q.frames) p.reported q.reported);
   counted = omega (arith, p.counted, q.counted, length-append p.frames q.frames);
   taken = omega (arith, p.taken, q.taken, length-append p.read q.read);
@@ -73,20 +86,22 @@ goes_on k a b c p q = record {
 
 -- some frames more before those that were handled when a stream failed
 cut_on : (broken : Broken) (k : Terms) (a b c : Moment) (frames : List (List ℕ)) (last : List ℕ) (p : Goes k a b) → CutsOff broken k b c frames last → CutsOff broken k a c (p.frames ++ frames) last
-cut_on streams.Output k a b c frames last p q = (
-  record {
-    done = p.frames ++ q.0.done;
-    others = q.0.others;
-    is = ap (λ t. p.frames ++ t) q.0.is ∙ sym (append_assoc p.frames q.0.done q.0.others);
-    count = q.0.count;
-    within = q.0.within;
-    written = rw (flat_map-append (output_of k) p.frames q.0.done, append_assoc) (appends_on a.written b.written c.written (flat_map (output_of k) p.frames) (flat_map (output_of k) q.0.done ++ take q.0.count (flat_map (output_of k) q.0.others)) p.written q.0.written);
-    reported = rw (lines_on k a.frames p.frames q.0.done, ← p.counted) (appends_on a.reported b.reported c.reported (lines k a.frames p.frames) (lines k b.frames q.0.done) p.reported q.0.reported);
-  },
-  q.1,
-)
+cut_on streams.Output k a b c frames last p q =
+    let place : b.frames + length q.0.done ≡ a.frames + length (p.frames ++ q.0.done) = omega (arith, p.counted, length-append p.frames q.0.done) in (
+      record {
+        done = p.frames ++ q.0.done;
+        others = q.0.others;
+        is = ap (λ t. p.frames ++ t) q.0.is ∙ sym (append_assoc p.frames q.0.done q.0.others);
+        count = q.0.count;
+        within = subst (λ (n : ℕ). q.0.count ≤ length (outputs k n q.0.others)) place q.0.within;
+        written = more_written k a.frames b.frames a.written b.written c.written p.frames q.0.done _ p.counted p.written
+            (subst (λ (n : ℕ). Appends b.written c.written (outputs k b.frames q.0.done ++ take q.0.count (outputs k n q.0.others))) place q.0.written);
+        reported = rw (lines_on k a.frames p.frames q.0.done, ← p.counted) (appends_on a.reported b.reported c.reported (lines k a.frames p.frames) (lines k b.frames q.0.done) p.reported q.0.reported);
+      },
+      q.1,
+    )
 cut_on streams.Report k a b c frames last p q = record {
-  written = rw (flat_map-append (output_of k) p.frames frames) (appends_on a.written b.written c.written (flat_map (output_of k) p.frames) (flat_map (output_of k) frames) p.written q.written);
+  written = rw (outputs_on k a.frames p.frames frames, ← p.counted) (appends_on a.written b.written c.written (outputs k a.frames p.frames) (outputs k b.frames frames) p.written q.written);
   reported = rw (lines_on k a.frames p.frames frames, ← p.counted, append_assoc) (then_front a.reported b.reported c.reported (lines k a.frames p.frames) (lines k b.frames frames ++ last) p.reported q.reported);
 }
 
@@ -132,14 +147,14 @@ waited k a b kept held taken written reported frames refused =
     fed k a b [] (keeps_consumes a.left b.left kept) (held ∙ sym (append-nil a.held)) (omega (arith, taken)) written reported frames refused
 
 -- the frame at the front was handled and let go
-handled_one : (k : Terms) (a b : Moment) (frame : List ℕ) → length frame ≤ k.limit → a.held ≡ framed frame ++ b.held → b.left ≡ a.left → Appends a.written b.written (output_of k frame) → Appends a.reported b.reported (line_of k (a.frames + 1) frame) → b.frames ≡ a.frames + 1 → b.taken ≡ a.taken → b.refused ≡ (a.refused || not (passes k frame)) → Goes k a b
+handled_one : (k : Terms) (a b : Moment) (frame : List ℕ) → length frame ≤ k.limit → a.held ≡ framed frame ++ b.held → b.left ≡ a.left → Appends a.written b.written (output_of k (a.frames + 1) frame) → Appends a.reported b.reported (line_of k (a.frames + 1) frame) → b.frames ≡ a.frames + 1 → b.taken ≡ a.taken → b.refused ≡ (a.refused || not (passes k frame)) → Goes k a b
 handled_one k a b frame within split left written reported frames taken refused = record {
   read = [];
   frames = frame ∷ [];
   consumed = same_consumes a.left b.left left;
   split = append-nil a.held ∙ (split ∙ ap (λ t. t ++ b.held) (sym (append-nil (framed frame))));
   each = All-cons (λ frame. length frame ≤ k.limit) frame [] within (All-nil (λ frame. length frame ≤ k.limit));
-  written = subst (λ (xs : List ℕ). Appends a.written b.written xs) (sym (append-nil (output_of k frame))) written;
+  written = subst (λ (xs : List ℕ). Appends a.written b.written xs) (sym (append-nil (output_of k (a.frames + 1) frame))) written;
   reported = subst (λ (xs : List ℕ). Appends a.reported b.reported xs) (sym (append-nil (line_of k (a.frames + 1) frame))) reported;
   counted = frames;
   taken = omega (arith, taken);
@@ -209,7 +224,7 @@ rewritten k a b c g left held frames taken refused f r = record {
   consumed = subst (λ (l : Option (List ℕ)). Consumes a.left l g.read) (sym left) g.consumed;
   split = g.split ∙ ap (λ t. flat_map framed g.frames ++ t) (sym held);
   each = g.each;
-  written = f (flat_map (output_of k) g.frames) g.written;
+  written = f (outputs k a.frames g.frames) g.written;
   reported = r (lines k a.frames g.frames) g.reported;
   counted = frames ∙ g.counted;
   taken = taken ∙ g.taken;
@@ -247,7 +262,7 @@ waits_still k a b c out out' waiting waiting' w left held frames taken refused s
   others = w.others;
   is = w.is;
   some = w.some;
-  written = appends_same a.written b.written c.written (flat_map (output_of k) w.done ++ w.some) s.written_stays w.written;
+  written = appends_same a.written b.written c.written (outputs k a.frames w.done ++ w.some) s.written_stays w.written;
   reported = appends_same a.reported b.reported c.reported (lines k a.frames w.done) s.reported_stays w.reported;
 }
 
@@ -269,7 +284,7 @@ waits_empty k a b c out out' waiting waiting' w left held frames taken refused e
       others = [];
       is = sym (append-nil g.frames);
       some = [];
-      written = subst (λ (xs : List ℕ). Appends a.written c.written xs) (sym (append-nil (flat_map (output_of k) g.frames))) g.written;
+      written = subst (λ (xs : List ℕ). Appends a.written c.written xs) (sym (append-nil (outputs k a.frames g.frames))) g.written;
       reported = g.reported;
     }
 
@@ -297,8 +312,8 @@ behind_gathered (Some a) (Some x) w' p before some others s h f =
 -- the output failed, and a front of what waited for it was written
 pub output_broken : (k : Terms) (a b c : Moment) (out waiting : List ℕ) → Waits k a b out waiting → c.left ≡ b.left → AppendsFront b.written c.written out → c.reported ≡ b.reported → Breaks streams.Output k a c
 output_broken k a b c out waiting w left f r =
-    let parted : flat_map (output_of k) w.goes.frames ≡ flat_map (output_of k) w.done ++ flat_map (output_of k) w.others = ap (flat_map (output_of k)) w.is ∙ flat_map-append (output_of k) w.done w.others in
-    let sent = behind_gathered a.written b.written c.written out (flat_map (output_of k) w.done) w.some (flat_map (output_of k) w.others) w.written
+    let parted : outputs k a.frames w.goes.frames ≡ outputs k a.frames w.done ++ outputs k (a.frames + length w.done) w.others = ap (outputs k a.frames) w.is ∙ outputs_on k a.frames w.done w.others in
+    let sent = behind_gathered a.written b.written c.written out (outputs k a.frames w.done) w.some (outputs k (a.frames + length w.done) w.others) w.written
     (subst (λ (xs : List ℕ). Appends a.written (append_known b.written out) xs) parted w.goes.written) f in
     record {
       read = w.goes.read;
@@ -334,7 +349,7 @@ report_broken k a b c out waiting w left f r = record {
   split = w.goes.split;
   each = w.goes.each;
   cut = record {
-    written = all_written a.written b.written c.written out (flat_map (output_of k) w.goes.frames) w.goes.written f;
+    written = all_written a.written b.written c.written out (outputs k a.frames w.goes.frames) w.goes.written f;
     reported = front_of_more a.reported c.reported (lines k a.frames w.goes.frames) [] (front_of_gathered a.reported b.reported c.reported waiting (lines k a.frames w.done) (lines k a.frames w.goes.frames) w.reported w.goes.reported r);
   };
   last_is = inl refl;
@@ -346,24 +361,24 @@ waits_broken streams.Output k a b c out waiting w left h = output_broken k a b c
 waits_broken streams.Report k a b c out waiting w left h = report_broken k a b c out waiting w left h.0 h.1
 
 -- what is written of one frame more waits behind what waited, of which a front may have been written
-pub waits_one : (k : Terms) (a b c : Moment) (out waiting out' waiting' frame rest : List ℕ) → Waits k a b out waiting → IsCut k.limit b.held frame rest → c.held ≡ rest → c.left ≡ b.left → Flushed b.written (out ++ output_of k frame) c.written out' → c.reported ≡ b.reported → c.frames ≡ b.frames + 1 → c.taken ≡ b.taken → c.refused ≡ (b.refused || not (passes k frame)) → waiting' ≡ waiting ++ line_of k (b.frames + 1) frame → Waits k a c out' waiting'
+pub waits_one : (k : Terms) (a b c : Moment) (out waiting out' waiting' frame rest : List ℕ) → Waits k a b out waiting → IsCut k.limit b.held frame rest → c.held ≡ rest → c.left ≡ b.left → Flushed b.written (out ++ output_of k (b.frames + 1) frame) c.written out' → c.reported ≡ b.reported → c.frames ≡ b.frames + 1 → c.taken ≡ b.taken → c.refused ≡ (b.refused || not (passes k frame)) → waiting' ≡ waiting ++ line_of k (b.frames + 1) frame → Waits k a c out' waiting'
 unfolding goes_on handled_one
 waits_one k a b c out waiting out' waiting' frame rest w cut held left written reported frames taken refused m = record {
   goes = goes_on k a (record b { written = append_known b.written out; reported = append_known b.reported waiting }) (record c { written = append_known c.written out'; reported = append_known c.reported waiting' }) w.goes
       (handled_one k (record b { written = append_known b.written out; reported = append_known b.reported waiting }) (record c { written = append_known c.written out'; reported = append_known c.reported waiting' }) frame cut.within (cut.whole ∙ ap (λ t. framed frame ++ t) (sym held)) left
-      (gathered b.written c.written out out' (output_of k frame) written) (one_waits b.reported c.reported waiting waiting' (line_of k (b.frames + 1) frame) reported m) frames taken refused);
+      (gathered b.written c.written out out' (output_of k (b.frames + 1) frame) written) (one_waits b.reported c.reported waiting waiting' (line_of k (b.frames + 1) frame) reported m) frames taken refused);
   done = w.done;
   others = w.others ++ frame ∷ [];
   is = ap (λ t. t ++ frame ∷ []) w.is ∙ append_assoc w.done w.others (frame ∷ []);
   some = w.some ++ written.0;
-  written = subst (λ (xs : List ℕ). Appends a.written c.written xs) (append_assoc (flat_map (output_of k) w.done) w.some written.0) (appends_on a.written b.written c.written (flat_map (output_of k) w.done ++ w.some) written.0 w.written written.1);
+  written = subst (λ (xs : List ℕ). Appends a.written c.written xs) (append_assoc (outputs k a.frames w.done) w.some written.0) (appends_on a.written b.written c.written (outputs k a.frames w.done ++ w.some) written.0 w.written written.1);
   reported = appends_same a.reported b.reported c.reported (lines k a.frames w.done) reported w.reported;
 }
 
 -- the output failed, and a front of what waited and of what is written of one frame more was written
-pub one_broken : (k : Terms) (a b c : Moment) (out waiting frame rest : List ℕ) → Waits k a b out waiting → IsCut k.limit b.held frame rest → c.left ≡ b.left → c.reported ≡ b.reported → AppendsFront b.written c.written (out ++ output_of k frame) → Breaks streams.Output k a c
+pub one_broken : (k : Terms) (a b c : Moment) (out waiting frame rest : List ℕ) → Waits k a b out waiting → IsCut k.limit b.held frame rest → c.left ≡ b.left → c.reported ≡ b.reported → AppendsFront b.written c.written (out ++ output_of k (b.frames + 1) frame) → Breaks streams.Output k a c
 one_broken k a b c out waiting frame rest w cut left reported front =
     let d = record b { held = rest; frames = b.frames + 1; refused = b.refused || not (passes k frame) } in
-    output_broken k a d c (out ++ output_of k frame) (waiting ++ line_of k (b.frames + 1) frame)
-    (waits_one k a b d out waiting (out ++ output_of k frame) (waiting ++ line_of k (b.frames + 1) frame) frame rest w cut refl refl (flushed_none b.written (out ++ output_of k frame)) refl refl refl refl refl)
+    output_broken k a d c (out ++ output_of k (b.frames + 1) frame) (waiting ++ line_of k (b.frames + 1) frame)
+    (waits_one k a b d out waiting (out ++ output_of k (b.frames + 1) frame) (waiting ++ line_of k (b.frames + 1) frame) frame rest w cut refl refl (flushed_none b.written (out ++ output_of k (b.frames + 1) frame)) refl refl refl refl refl)
     left front reported

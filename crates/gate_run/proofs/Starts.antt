@@ -32,6 +32,7 @@ unread tells counts told faults a b hub (Some (commands.Check file)) ending h = 
 unread tells counts told faults a b hub (Some (commands.Convert k words)) ending h = Stops stops.OutOfMemory (λ _ _. tt) refl h
 unread tells counts told faults a b hub (Some (commands.Show k words)) ending h = Stops stops.OutOfMemory (λ _ _. tt) refl h
 unread tells counts told faults a b hub (Some (commands.Serve s words)) ending h = Stops stops.OutOfMemory (λ _ _. tt) refl (h, refl)
+unread tells counts told faults a b hub (Some (commands.Conform k words)) ending h = Stops stops.OutOfMemory (λ _ _. tt) refl h
 unread tells counts told faults a b hub (Some (commands.Drill k)) ending h = NoMemory h
 unread tells counts told faults a b hub (Some commands.Help) ending h = inr h
 unread tells counts told faults a b hub None ending h = inr h

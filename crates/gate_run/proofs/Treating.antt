@@ -1,5 +1,5 @@
 -- What came of one frame.
-use Rattle.std.proofs.Common.{◌≡◌, ℕ, ◌+◌, ◌*◌, ◌≤◌, List, [], ◌++◌, length, take, length-append, arith, refl, sym, ◌∙◌, ap, subst, Option, Some, true, false}
+use Rattle.std.proofs.Common.{◌≡◌, ℕ, ◌+◌, ◌*◌, ◌≤◌, List, [], ◌++◌, length, take, length-append, arith, refl, sym, ◌∙◌, ap, subst, Option, Some, Bool, true, false, Ok, Err}
 use Rattle.std.proofs.lemmas.List.{append-nil, take_at}
 use Rattle.std.specs.Io.KnownBytes.{Appends}
 use Rattle.gate_io.specs.Buffer.{Buffer}
@@ -14,62 +14,104 @@ use Rattle.framed_transport.specs.Frames.{framed}
 use Rattle.message_show.specs.declared.showing.Shown.TheVariants as shown_as
 use Rattle.message_show.specs.Shown.{Showing, Line, IsShown, HasLine}
 use Rattle.message_show.specs.Shown as showing
+use Rattle.conform_check.specs.declared.step.Step.{Step}
+use Rattle.conform_check.specs.declared.breach.Breach.{Breach}
+use Rattle.conform_check.specs.declared.breach.Checked.TheVariants as checked
+use Rattle.conform_check.specs.Checking.{Finding, IsChecked, broken}
+use Rattle.conform_check.specs.Checking as findings
 use Rattle.gate_run.specs.declared.task.Doing.{Doing}
-use Rattle.gate_run.specs.declared.task.Doing.TheVariants.{Convert, Show}
+use Rattle.gate_run.specs.declared.task.Doing.TheVariants.{Convert, Show, Conform}
 use Rattle.gate_run.specs.declared.frame.Treatment.TheVariants as treatment
+use Rattle.gate_run.specs.declared.frame.WriteFault.{WriteFault}
 use Rattle.gate_io.specs.Fronts.{AppendsFront, Flushed}
 use Rattle.gate_run.specs.Lines.{refusal_text}
-use Rattle.gate_run.specs.Handling.{Treated, Passes, Fails, by_verdict, as_line, is_passed, bytes_of, line_for}
-use Rattle.gate_run.specs.Working.{Treats, HasRoom, IsRoomy}
+use Rattle.gate_run.specs.Handling.{Treated, Passes, Fails, Meets, Breaks, by_verdict, sent_by, as_line, as_found, is_passed, bytes_for, line_for}
+use Rattle.gate_run.specs.Working.{Treats, IsHandled, HasRoom, IsRoomy}
 use Rattle.gate_io.proofs.Streams.{appends_on, then_front, front_of_more, wait_more}
 
--- ---- its treatment tells
+-- ---- what a treatment comes to
 
-pub passed_is : (t : Treated) (w w' : Option (List ℕ)) (p p' : List ℕ) → Treats treatment.Passed t w p w' p' → is_passed t ≡ true
-passed_is (Passes bytes) w w' p p' h = refl
-passed_is (Fails cause) w w' p p' h = absurd h
+with_bytes : (b : Buffer) (xs ys : List ℕ) → xs ≡ ys → record b { bytes = b.bytes ++ xs } ≡ record b { bytes = b.bytes ++ ys }
+with_bytes b xs ys e = ap (λ (t : List ℕ). let made : Buffer = record b { bytes = b.bytes ++ t } in made) e
 
-pub passed_gathers : (t : Treated) (w w' : Option (List ℕ)) (p p' : List ℕ) → Treats treatment.Passed t w p w' p' → Flushed w (p ++ bytes_of t) w' p'
-passed_gathers (Passes bytes) w w' p p' h = h
-passed_gathers (Fails cause) w w' p p' h = absurd h
-
-pub passed_silent : (t : Treated) (w w' : Option (List ℕ)) (p p' : List ℕ) (number : ℕ) → Treats treatment.Passed t w p w' p' → line_for number t ≡ []
-passed_silent (Passes bytes) w w' p p' number h = refl
-passed_silent (Fails cause) w w' p p' number h = absurd h
-
-pub refused_is : (t : Treated) (cause : Cause) (w w' : Option (List ℕ)) (p p' : List ℕ) → Treats (treatment.Refused cause) t w p w' p' → is_passed t ≡ false
-refused_is (Passes bytes) cause w w' p p' h = absurd h
-refused_is (Fails own) cause w w' p p' h = refl
+nothing_more : (b : Buffer) (xs : List ℕ) → xs ≡ [] → b ≡ record b { bytes = b.bytes ++ xs }
+nothing_more b xs e = ap (λ (t : List ℕ). let made : Buffer = record b { bytes = t } in made) (sym (append-nil b.bytes)) ∙ with_bytes b [] xs (sym e)
 
 nothing_gathers : (w w' : Option (List ℕ)) (p p' : List ℕ) → w' ≡ w → p' ≡ p → Flushed w (p ++ []) w' p'
 nothing_gathers w w' p p' e f =
     subst (λ (v : Option (List ℕ)). Flushed w (p ++ []) v p') (sym e) (wait_more w p p' [] (f ∙ sym (append-nil p)))
 
-pub refused_gathers : (t : Treated) (cause : Cause) (w w' : Option (List ℕ)) (p p' : List ℕ) → Treats (treatment.Refused cause) t w p w' p' → Flushed w (p ++ bytes_of t) w' p'
-refused_gathers (Passes bytes) cause w w' p p' h = absurd h
-refused_gathers (Fails own) cause w w' p p' h = nothing_gathers w w' p p' h.1 h.2
+pub passed_is_handled : (number : ℕ) (t : Treated) (w w' : Option (List ℕ)) (p p' : List ℕ) (told : Buffer) → Treats treatment.Passed t w p w' p' → IsHandled number (Ok true) t w p told w' p' told
+passed_is_handled number (Passes bytes) w w' p p' told h = (refl, h, nothing_more told [] refl)
+passed_is_handled number (Fails cause) w w' p p' told h = absurd h
+passed_is_handled number Meets w w' p p' told h = absurd h
+passed_is_handled number (Breaks b) w w' p p' told h = absurd h
 
-pub refused_line : (t : Treated) (cause : Cause) (w w' : Option (List ℕ)) (p p' : List ℕ) (number : ℕ) → Treats (treatment.Refused cause) t w p w' p' → line_for number t ≡ refusal_text number (place_of cause) (cause_text cause)
-refused_line (Passes bytes) cause w w' p p' number h = absurd h
-refused_line (Fails own) cause w w' p p' number h = ap (λ c. refusal_text number (place_of c) (cause_text c)) (sym h.0)
+pub refused_is_handled : (number : ℕ) (t : Treated) (cause : Cause) (w w' : Option (List ℕ)) (p p' : List ℕ) (told told' : Buffer) → told' ≡ record told { bytes = told.bytes ++ refusal_text number (place_of cause) (cause_text cause) }
+    → Treats (treatment.Refused cause) t w p w' p' → IsHandled number (Ok false) t w p told w' p' told'
+refused_is_handled number (Passes bytes) cause w w' p p' told told' e h = absurd h
+refused_is_handled number (Fails own) cause w w' p p' told told' e h =
+    (refl, nothing_gathers w w' p p' h.1 h.2, e ∙ with_bytes told _ _ (ap (λ c. refusal_text number (place_of c) (cause_text c)) h.0))
+refused_is_handled number Meets cause w w' p p' told told' e h = absurd h
+refused_is_handled number (Breaks b) cause w w' p p' told told' e h = absurd h
 
-pub broken_front : (t : Treated) (w w' : Option (List ℕ)) (p p' : List ℕ) → Treats treatment.WriteFault t w p w' p' → AppendsFront w w' (p ++ bytes_of t)
-broken_front (Passes bytes) w w' p p' h = h
-broken_front (Fails cause) w w' p p' h = absurd h
+pub broken_is_handled : (number : ℕ) (t : Treated) (fault : WriteFault) (w w' : Option (List ℕ)) (p p' : List ℕ) (told told' : Buffer) → Treats treatment.WriteFault t w p w' p' → IsHandled number (Err fault) t w p told w' p' told'
+broken_is_handled number (Passes bytes) fault w w' p p' told told' h = h
+broken_is_handled number (Fails cause) fault w w' p p' told told' h = absurd h
+broken_is_handled number Meets fault w w' p p' told told' h = absurd h
+broken_is_handled number (Breaks b) fault w w' p p' told told' h = absurd h
+
+-- ---- what was found of a frame
+
+pub found_meets : (path : List Step) (f : Finding) → IsChecked checked.Meets path f → as_found f ≡ Meets
+found_meets path findings.Meets h = refl
+found_meets path (findings.Breaks b) h = absurd h
+found_meets path (findings.Refused g) h = absurd h
+found_meets path (findings.Unread g) h = absurd h
+
+pub found_breaks : (breach : Breach) (path : List Step) (f : Finding) → IsChecked (checked.Broken breach) path f → as_found f ≡ Breaks (broken breach path)
+found_breaks breach path findings.Meets h = absurd h
+found_breaks breach path (findings.Breaks b) h = ap Breaks h
+found_breaks breach path (findings.Refused g) h = absurd h
+found_breaks breach path (findings.Unread g) h = absurd h
+
+pub found_refused : (fault : Fault) (path : List Step) (f : Finding) → IsChecked (checked.Refused fault) path f → as_found f ≡ Fails (Grammar fault)
+found_refused fault path findings.Meets h = absurd h
+found_refused fault path (findings.Breaks b) h = absurd h
+found_refused fault path (findings.Refused g) h = ap (λ x. Fails (Grammar x)) (sym h.0)
+found_refused fault path (findings.Unread g) h = absurd h
+
+pub found_unread : (fault : Fault) (path : List Step) (f : Finding) → IsChecked (checked.Unread fault) path f → as_found f ≡ Fails (Grammar fault)
+found_unread fault path findings.Meets h = absurd h
+found_unread fault path (findings.Breaks b) h = absurd h
+found_unread fault path (findings.Refused g) h = absurd h
+found_unread fault path (findings.Unread g) h = ap (λ x. Fails (Grammar x)) (sym h.0)
+
+-- a line was appended, or none
+pub laid : (b b' : Buffer) (xs ys : List ℕ) → b' ≡ record b { bytes = b.bytes ++ xs } → ys ≡ xs → b' ≡ record b { bytes = b.bytes ++ ys }
+laid b b' xs ys e f = e ∙ with_bytes b xs ys (sym f)
+
+pub unlaid : (b : Buffer) (xs : List ℕ) → xs ≡ [] → b ≡ record b { bytes = b.bytes ++ xs }
+unlaid b xs e = nothing_more b xs e
+
+-- what was checked is handled
+pub checked_is_handled : (number : ℕ) (t : Treated) (passed : Bool) (w : Option (List ℕ)) (page page' told told' : Buffer) → passed ≡ is_passed t → page' ≡ record page { bytes = page.bytes ++ bytes_for number t }
+    → told' ≡ record told { bytes = told.bytes ++ line_for number t } → IsHandled number (Ok passed) t w page.bytes told w page'.bytes told'
+checked_is_handled number t passed w page page' told told' e f h = (e, wait_more w page.bytes page'.bytes (bytes_for number t) (ap (λ (b : Buffer). b.bytes) f), h)
 
 -- ---- a translation
 
-pub translation_passed : (v : Verdict) (bytes : List ℕ) (info : HeadInfo) (w : Option (List ℕ)) (p p' : List ℕ) → v ≡ verdicts.Passed info → p' ≡ p ++ bytes_of (by_verdict v bytes) → Treats treatment.Passed (by_verdict v bytes) w p w p'
+pub translation_passed : (v : Verdict) (bytes : List ℕ) (info : HeadInfo) (w : Option (List ℕ)) (p p' : List ℕ) → v ≡ verdicts.Passed info → p' ≡ p ++ sent_by v bytes → Treats treatment.Passed (by_verdict v bytes) w p w p'
 translation_passed (verdicts.Passed own) bytes info w p p' e f = wait_more w p p' (framed bytes) f
 translation_passed (verdicts.Refused own cause) bytes info w p p' e f = absurd (cc)
 translation_passed (verdicts.Unread fault) bytes info w p p' e f = absurd (cc)
 
-pub translation_refused : (v : Verdict) (bytes : List ℕ) (info : HeadInfo) (cause : Cause) (w : Option (List ℕ)) (p p' : List ℕ) → v ≡ verdicts.Refused info cause → p' ≡ p ++ bytes_of (by_verdict v bytes) → Treats (treatment.Refused cause) (by_verdict v bytes) w p w p'
+pub translation_refused : (v : Verdict) (bytes : List ℕ) (info : HeadInfo) (cause : Cause) (w : Option (List ℕ)) (p p' : List ℕ) → v ≡ verdicts.Refused info cause → p' ≡ p ++ sent_by v bytes → Treats (treatment.Refused cause) (by_verdict v bytes) w p w p'
 translation_refused (verdicts.Passed own) bytes info cause w p p' e f = absurd (cc)
 translation_refused (verdicts.Refused own other) bytes info cause w p p' e f = (let same : cause ≡ other = cc in (same, refl, f ∙ append-nil p))
 translation_refused (verdicts.Unread fault) bytes info cause w p p' e f = absurd (cc)
 
-pub translation_unread : (v : Verdict) (bytes : List ℕ) (fault : Fault) (w : Option (List ℕ)) (p p' : List ℕ) → v ≡ verdicts.Unread fault → p' ≡ p ++ bytes_of (by_verdict v bytes) → Treats (treatment.Refused (Grammar fault)) (by_verdict v bytes) w p w p'
+pub translation_unread : (v : Verdict) (bytes : List ℕ) (fault : Fault) (w : Option (List ℕ)) (p p' : List ℕ) → v ≡ verdicts.Unread fault → p' ≡ p ++ sent_by v bytes → Treats (treatment.Refused (Grammar fault)) (by_verdict v bytes) w p w p'
 translation_unread (verdicts.Passed own) bytes fault w p p' e f = absurd (cc)
 translation_unread (verdicts.Refused own other) bytes fault w p p' e f = absurd (cc)
 translation_unread (verdicts.Unread own) bytes fault w p p' e f = (let same : fault ≡ own = cc in (ap Grammar same, refl, f ∙ append-nil p))
@@ -143,3 +185,4 @@ not_unread (showing.Unread own) fault w w' line h = absurd line
 pub has_room : (doing : Doing) (limit n room : ℕ) (page : Buffer) → n ≤ limit → limit ≤ 16384000 → IsRoomy doing limit room → page.room ≡ room → (24 * n + 260 ≤ room → length page.bytes + (24 * n + 260) ≤ page.room) → HasRoom doing n page
 has_room (Convert from to) limit n room page within small roomy same fits = (fits (omega (arith, roomy)), omega (arith, roomy, same))
 has_room (Show from) limit n room page within small roomy same fits = tt
+has_room (Conform from) limit n room page within small roomy same fits = fits (omega (arith, roomy))

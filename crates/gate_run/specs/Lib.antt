@@ -2,9 +2,12 @@
 pub mod Checking
 pub mod Drilling
 pub mod Endings
+pub mod Findings
 pub mod Handling
 pub mod Lines
 pub mod Outcome
+pub mod Peers
+pub mod Posts
 pub mod Progress
 pub mod Rooms
 pub mod Running

@@ -1,6 +1,11 @@
--- The lines of the report.
-use Rattle.std.specs.Prelude.{ℕ, ℤ, List, ◌++◌, codes, decimal}
+-- The lines of the report, and those of the output that say of a frame that it meets what is declared of it.
+use Rattle.std.specs.Prelude.{ℕ, ℤ, List, [], ◌∷◌, ◌++◌, codes, decimal}
+use Rattle.std.specs.List.{flat_map}
 use Rattle.std.specs.Fmt.{signed_decimal}
+use Rattle.conform_check.specs.declared.step.Step.{Step}
+use Rattle.conform_check.specs.declared.step.Step.TheVariants as steps
+use Rattle.conform_check.specs.Checking.{Broken}
+use Rattle.conform_check.specs.Texts.{breach_text}
 
 -- frame NUMBER: at PLACE: CAUSE
 unfoldable pub refusal_text : ℕ → ℕ → List ℕ → List ℕ
@@ -14,6 +19,30 @@ too_large_text number length = codes "stream: frame " ++ decimal number ++ codes
 unfoldable pub left_text : ℕ → ℕ → List ℕ
 left_text frames count = codes "stream: " ++ decimal count ++ codes " bytes after frame " ++ decimal frames ++ codes "\n"
 
+-- frame NUMBER: meets
+unfoldable pub meets_text : ℕ → List ℕ
+meets_text number = codes "frame " ++ decimal number ++ codes ": meets\n"
+
+-- a field as its id, a place in a container in brackets
+unfoldable pub step_text : Step → List ℕ
+step_text (steps.Field id) = signed_decimal id
+step_text (steps.Item place) = codes "item[" ++ decimal place ++ codes "]"
+step_text (steps.Key place) = codes "key[" ++ decimal place ++ codes "]"
+step_text (steps.Part place) = codes "value[" ++ decimal place ++ codes "]"
+
+-- a step behind others
+abbrev pub next_text : Step → List ℕ
+next_text step = codes "/" ++ step_text step
+
+-- the steps with a `/` between each two; the message's own path is a dot
+unfoldable pub path_text : List Step → List ℕ
+path_text [] = codes "."
+path_text (step ∷ steps) = step_text step ++ flat_map next_text steps
+
+-- frame NUMBER: at PATH: TEXT
+unfoldable pub breach_line : ℕ → Broken → List ℕ
+breach_line number b = codes "frame " ++ decimal number ++ codes ": at " ++ path_text b.path ++ codes ": " ++ breach_text b.breach ++ codes "\n"
+
 unfoldable pub usage_text : List ℕ
 usage_text = codes "usage: thrift_gate check|convert|show|serve|drill|help\n"
 
@@ -24,6 +53,7 @@ help_text =
     ++ codes "check FILE\n"
     ++ codes "convert FROM TO [--idl FILE] [--service NAME] [--limit F]\n"
     ++ codes "show FROM [--idl FILE] [--service NAME] [--limit F]\n"
-    ++ codes "serve CLIENT UPSTREAM LISTEN TARGET [--idl FILE] [--service NAME] [--limit F] [--sessions N] [--accept C] [--events E] [--calls P]\n"
+    ++ codes "serve CLIENT UPSTREAM LISTEN TARGET [--idl FILE] [--service NAME] [--limit F] [--sessions N] [--accept C] [--events E] [--calls P] [--unframed SIDE] [--front KIND]\n"
+    ++ codes "conform FROM --idl FILE [--service NAME] [--limit F]\n"
     ++ codes "drill SEED COUNT\n"
     ++ codes "help\n"

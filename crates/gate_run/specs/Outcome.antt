@@ -1,11 +1,10 @@
 -- What the work on a whole stream read, wrote and reported.
 use Rattle.std.specs.Prelude.{◌≡◌, ℕ, ◌≤◌, ◌⊎◌, ℤ, List, [], ◌++◌, length, take, Bool, true, false, Option, ⊤}
-use Rattle.std.specs.List.{flat_map}
 use Rattle.std.specs.Io.KnownBytes.{Appends, Consumes, IsAtEnd}
 use Rattle.gate_base.specs.Causes.{Rose}
 use Rattle.framed_transport.specs.Frames.{Splits}
 use Rattle.framed_transport.specs.Front.{front, Large}
-use Rattle.gate_run.specs.Handling.{output_of, lines, any_refused}
+use Rattle.gate_run.specs.Handling.{outputs, lines, any_refused}
 use Rattle.gate_run.specs.Progress.{Moment, Breaks, HasRisen, IsStreamLine}
 use Rattle.gate_run.specs.Endings.{last_line}
 use Rattle.gate_run.specs.Terms.{Terms}
@@ -32,7 +31,7 @@ streams left written reported input_faults output_faults report_faults =
 pub record Covers (k : Terms) (a b : Streams) (read : List ℕ) (frames : List (List ℕ)) (rest line : List ℕ) : Type 0 where
   pub consumed : Consumes a.left b.left read
   pub splits : Splits k.limit read frames rest
-  pub written : Appends a.written b.written (flat_map (output_of k) frames)
+  pub written : Appends a.written b.written (outputs k 0 frames)
   pub reported : Appends a.reported b.reported (lines k 0 frames ++ line)
 
 -- the line, or a front of it where the report failed

@@ -7,7 +7,7 @@ use Rattle.framed_transport.specs.Frames.{framed}
 use Rattle.framed_transport.specs.Front.{front, Part, Large}
 use Rattle.gate_io.specs.Fronts.{AppendsFront}
 use Rattle.gate_run.specs.Lines.{too_large_text, left_text}
-use Rattle.gate_run.specs.Handling.{output_of, lines, any_refused}
+use Rattle.gate_run.specs.Handling.{outputs, lines, any_refused}
 use Rattle.gate_run.specs.Terms.{Terms}
 use Rattle.gate_run.specs.declared.stream.Broken.{Broken}
 use Rattle.gate_run.specs.declared.stream.Broken.TheVariants as streams
@@ -29,7 +29,7 @@ pub record Goes (c : Terms) (a b : Moment) : Type 0 where
   pub consumed : Consumes a.left b.left read
   pub split : a.held ++ read ≡ flat_map framed frames ++ b.held
   pub each : All (λ frame. length frame ≤ c.limit) frames
-  pub written : Appends a.written b.written (flat_map (output_of c) frames)
+  pub written : Appends a.written b.written (outputs c a.frames frames)
   pub reported : Appends a.reported b.reported (lines c a.frames frames)
   pub counted : b.frames ≡ a.frames + length frames
   pub taken : b.taken ≡ a.taken + length read
@@ -53,13 +53,13 @@ pub record OutputFails (c : Terms) (a b : Moment) (frames : List (List ℕ)) : T
   pub others : List (List ℕ)
   pub is : frames ≡ done ++ others
   pub count : ℕ
-  pub within : count ≤ length (flat_map (output_of c) others)
-  pub written : Appends a.written b.written (flat_map (output_of c) done ++ take count (flat_map (output_of c) others))
+  pub within : count ≤ length (outputs c (a.frames + length done) others)
+  pub written : Appends a.written b.written (outputs c a.frames done ++ take count (outputs c (a.frames + length done) others))
   pub reported : Appends a.reported b.reported (lines c a.frames done)
 
 -- the report failed: all that is to be written of the frames was, and a front of what is to be reported, with this line at the end
 pub record ReportFails (c : Terms) (a b : Moment) (frames : List (List ℕ)) (last : List ℕ) : Type 0 where
-  pub written : Appends a.written b.written (flat_map (output_of c) frames)
+  pub written : Appends a.written b.written (outputs c a.frames frames)
   pub reported : AppendsFront a.reported b.reported (lines c a.frames frames ++ last)
 
 -- what was written and reported of these frames and this last line where a stream failed

@@ -13,9 +13,9 @@ use Rattle.gate_run.specs.Drilling.{Drills}
 use Rattle.gate_run.specs.Endings.{code_of}
 use Rattle.gate_run.specs.Lines.{usage_text, help_text}
 use Rattle.gate_run.specs.Outcome.{Streams, Streamed}
-use Rattle.gate_run.specs.Serving.{ServesAll}
+use Rattle.gate_run.specs.Posts.{ServesByWords}
 use Rattle.gate_run.specs.Starting.{Holds, Starting, Halts, Says, SaysLast}
-use Rattle.gate_run.specs.Terms.{converting, showing}
+use Rattle.gate_run.specs.Terms.{converting, showing, conforming}
 use Rattle.gate_run.specs.Writing.{Tells}
 use Rattle.gate_run.specs.declared.status.Ending.{Ending}
 use Rattle.gate_run.specs.declared.status.Ending.TheVariants as endings
@@ -44,8 +44,10 @@ Runs tells counts (Some (commands.Show k words)) x y ending =
     StartsWith x y words (λ d service. Streamed (showing d service k) x.streams y.streams ending) (λ stop. Halts stop x.streams y.streams ending)
 -- a server that doesn't start leaves the hub as it was
 Runs tells counts (Some (commands.Serve s words)) x y ending =
-    StartsWith x y words (λ d service. ServesAll tells counts s d service x.hub y.hub x.streams y.streams ending)
+    StartsWith x y words (λ d service. ServesByWords tells counts s d service x.hub y.hub x.streams y.streams ending)
     (λ stop. Halts stop x.streams y.streams ending × (y.hub ≡ x.hub))
+Runs tells counts (Some (commands.Conform k words)) x y ending =
+    StartsWith x y words (λ d service. Streamed (conforming d service k) x.streams y.streams ending) (λ stop. Halts stop x.streams y.streams ending)
 Runs tells counts (Some (commands.Drill k)) x y ending = Drills k x.streams y.streams ending
 Runs tells counts (Some commands.Help) x y ending = Tells help_text x.streams y.streams ending ⊎ SaysLast endings.OutOfMemory x.streams y.streams ending
 Runs tells counts None x y ending = Says usage_text endings.Usage x.streams y.streams ending ⊎ SaysLast endings.OutOfMemory x.streams y.streams ending

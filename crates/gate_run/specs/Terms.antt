@@ -7,10 +7,13 @@ use Rattle.translate_core.specs.declared.route.Route.TheVariants.{ByName}
 use Rattle.translate_core.specs.Judged.{Judged}
 use Rattle.protocol_pairs.specs.Pairs.{judged}
 use Rattle.message_show.specs.Shown.{Showing, shown}
+use Rattle.conform_check.specs.Checking.{Finding}
+use Rattle.gate_words.specs.declared.command.Conforming.{Conforming}
 use Rattle.gate_words.specs.declared.command.Conversion.{Conversion}
 use Rattle.gate_words.specs.declared.command.Showing.{Showing as ShowWords}
 use Rattle.gate_run.specs.declared.task.Doing.{Doing}
-use Rattle.gate_run.specs.declared.task.Doing.TheVariants.{Convert, Show}
+use Rattle.gate_run.specs.declared.task.Doing.TheVariants.{Convert, Show, Conform}
+use Rattle.gate_run.specs.Findings.{finding}
 
 -- what is declared, the service of names that have none before them, what is done with a frame, and the most bytes of one
 pub record Terms : Type 0 where
@@ -28,6 +31,9 @@ converting d service c = terms d service (Convert c.from c.to) c.limit
 abbrev pub showing : Declarations → Option ServiceId → ShowWords → Terms
 showing d service s = terms d service (Show s.from) s.limit
 
+abbrev pub conforming : Declarations → Option ServiceId → Conforming → Terms
+conforming d service c = terms d service (Conform c.from) c.limit
+
 -- the verdict on a frame that is translated, with what is written of it
 abbrev pub judged_by : Terms → Proto → Proto → List ℕ → Judged
 judged_by k from to frame = judged k.declarations (ByName k.service) from to frame
@@ -35,3 +41,7 @@ judged_by k from to frame = judged k.declarations (ByName k.service) from to fra
 -- the line of a frame that is shown, or the fault in it
 abbrev pub shown_by : Terms → Proto → List ℕ → Showing
 shown_by k from frame = shown k.declarations k.service from frame
+
+-- what is found of a frame by its declarations
+abbrev pub found_by : Terms → Proto → List ℕ → Finding
+found_by k from frame = finding k.declarations k.service from frame

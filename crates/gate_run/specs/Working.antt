@@ -1,6 +1,5 @@
 -- The work on a stream and what its calls do.
-use Rattle.std.specs.Prelude.{◌≡◌, ℕ, ◌+◌, ◌^◌, ◌<◌, ◌≤◌, ◌⊎◌, ℤ, List, [], ◌++◌, length, true, false, Option, Some, None, Result, Ok, Err, ⊤}
-use Rattle.std.specs.List.{flat_map}
+use Rattle.std.specs.Prelude.{◌≡◌, ℕ, ◌+◌, ◌^◌, ◌<◌, ◌≤◌, ◌⊎◌, ℤ, List, [], ◌++◌, length, Bool, true, false, Option, Some, None, Result, Ok, Err, ⊤}
 use Rattle.std.specs.Io.KnownBytes.{Appends, IsAtEnd, append_known}
 use Rattle.gate_base.specs.Causes.{Rose}
 use Rattle.framed_transport.specs.Front.{front, Part, Large}
@@ -9,10 +8,13 @@ use Rattle.gate_io.specs.Buffer.{Buffer}
 use Rattle.gate_run.specs.Endings.{last_line}
 use Rattle.gate_run.specs.Terms.{Terms}
 use Rattle.gate_io.specs.Fronts.{AppendsFront, Flushed}
-use Rattle.gate_run.specs.Handling.{Treated, Passes, Fails, output_of, lines}
+use Rattle.gate_run.specs.Handling.{Treated, Passes, Fails, outputs, lines, is_passed, bytes_for, line_for}
 use Rattle.gate_run.specs.Rooms.{framed_room}
 use Rattle.gate_run.specs.declared.task.Doing.{Doing}
-use Rattle.gate_run.specs.declared.task.Doing.TheVariants.{Convert, Show}
+use Rattle.gate_run.specs.declared.task.Doing.TheVariants.{Convert, Show, Conform}
+use Rattle.gate_run.specs.declared.handler.Handler.{Handler}
+use Rattle.gate_run.specs.declared.handler.Handler.TheVariants as handlers
+use Rattle.gate_run.specs.declared.frame.WriteFault.{WriteFault}
 use Rattle.gate_run.specs.declared.frame.Treatment.{Treatment}
 use Rattle.gate_run.specs.declared.frame.Treatment.TheVariants as treatment
 use Rattle.gate_io.specs.declared.byte_streams.Got.{Got}
@@ -32,19 +34,32 @@ abbrev pub Treats : Treatment → Treated → Option (List ℕ) → List ℕ →
 Treats treatment.Passed (Passes bytes) written waiting written' waiting' = Flushed written (waiting ++ bytes) written' waiting'
 Treats (treatment.Refused cause) (Fails own) written waiting written' waiting' = (cause ≡ own) × (written' ≡ written) × (waiting' ≡ waiting)
 Treats treatment.WriteFault (Passes bytes) written waiting written' waiting' = AppendsFront written written' (waiting ++ bytes)
-Treats treatment.Passed (Fails own) written waiting written' waiting' = ⊥
-Treats (treatment.Refused cause) (Passes bytes) written waiting written' waiting' = ⊥
-Treats treatment.WriteFault (Fails own) written waiting written' waiting' = ⊥
+Treats answer t written waiting written' waiting' = ⊥
+
+-- The frame of this number passed or did not; what is written of it waits behind what waited, of which a front may have been written, and its
+-- line waits for the report. Or the output failed, and a front of what waited and of what is written of the frame was written.
+abbrev pub IsHandled : ℕ → Result Bool WriteFault → Treated → Option (List ℕ) → List ℕ → Buffer → Option (List ℕ) → List ℕ → Buffer → Type 0
+IsHandled number (Ok passed) t written waiting told written' waiting' told' =
+    (passed ≡ is_passed t) × Flushed written (waiting ++ bytes_for number t) written' waiting' × (told' ≡ record told { bytes = told.bytes ++ line_for number t })
+IsHandled number (Err fault) t written waiting told written' waiting' told' = AppendsFront written written' (waiting ++ bytes_for number t)
+
+-- what handles the frames does what the terms say, by what they declare
+abbrev pub IsHandler : Terms → Handler → Type 0
+IsHandler k (handlers.Convert from to) = k.doing ≡ Convert from to
+IsHandler k (handlers.Show from) = k.doing ≡ Show from
+IsHandler k (handlers.Conform c) = (k.doing ≡ Conform c.from) × (c.check.schema ≡ k.declarations)
 
 -- a page has room for all that may be sent of a frame of so many bytes; a line goes past the page where it doesn't fit
 abbrev pub HasRoom : Doing → ℕ → Buffer → Type 0
 HasRoom (Convert from to) n page = (length page.bytes + framed_room n ≤ page.room) × (page.room < 2 ^ 31)
 HasRoom (Show from) n page = ⊤
+HasRoom (Conform from) n page = length page.bytes + framed_room n ≤ page.room
 
 -- so an empty page has for frames of this limit
 abbrev pub IsRoomy : Doing → ℕ → ℕ → Type 0
 IsRoomy (Convert from to) limit room = room ≡ framed_room limit
 IsRoomy (Show from) limit room = ⊤
+IsRoomy (Conform from) limit room = room ≡ framed_room limit
 
 -- ---- the work
 
@@ -53,6 +68,7 @@ pub record IsReady (k : Terms) (work : Work) : Type 0 where
   pub limit_is : work.frames.limit ≡ k.limit
   pub page : IsRoomy k.doing k.limit work.page.out.room
   pub lines : work.lines.room ≡ LINES_ROOM
+  pub handler : IsHandler k work.handler
   pub counted : work.number + length work.frames.held ≤ work.taken
   pub taken : work.taken < 2 ^ 63
 
@@ -85,7 +101,7 @@ pub record Waits (k : Terms) (a b : Moment) (out waiting : List ℕ) : Type 0 wh
   pub others : List (List ℕ)
   pub is : goes.frames ≡ done ++ others
   pub some : List ℕ
-  pub written : Appends a.written b.written (flat_map (output_of k) done ++ some)
+  pub written : Appends a.written b.written (outputs k a.frames done ++ some)
   pub reported : Appends a.reported b.reported (lines k a.frames done)
 
 -- ---- what is gathered is written

@@ -1,6 +1,6 @@
 //! A frame that is converted: its message in the other protocol, in a frame of its own.
 ghost use Rattle.std.specs.Prelude.{◌≡◌, ◌+◌, ◌^◌, ◌<◌, ◌≤◌, ◌++◌, Option, List, ℕ, length};
-ghost use Rattle.gate_run.specs.Handling.{translated, bytes_of};
+ghost use Rattle.gate_run.specs.Handling.{translated, sent_by};
 ghost use Rattle.gate_run.specs.Rooms.{framed_room};
 ghost use Rattle.gate_run.specs.Terms.{judged_by};
 ghost use Rattle.gate_run.specs.Working.{Treats};
@@ -50,7 +50,7 @@ fn translate_framed(
     requires fits { length out.old.bytes + framed_room (length frame.now) ≤ out.old.room }
     requires small { out.old.room < 2 ^ 31 }
     ensures verdict { result ≡ (judged_by task.now from to frame.now).verdict }
-    ensures appended { out.new ≡ record out.old { bytes = out.old.bytes ++ bytes_of (translated (judged_by task.now from to frame.now)) } }
+    ensures appended { let j = judged_by task.now from to frame.now in out.new ≡ record out.old { bytes = out.old.bytes ++ sent_by j.verdict j.bytes } }
 {
     let at = begin(out);
     let verdict = task.translate(from, to, frame, room, out);

@@ -12,7 +12,8 @@ const HELP: &[u8] = b"usage: thrift_gate check|convert|show|serve|drill|help
 check FILE
 convert FROM TO [--idl FILE] [--service NAME] [--limit F]
 show FROM [--idl FILE] [--service NAME] [--limit F]
-serve CLIENT UPSTREAM LISTEN TARGET [--idl FILE] [--service NAME] [--limit F] [--sessions N] [--accept C] [--events E] [--calls P]
+serve CLIENT UPSTREAM LISTEN TARGET [--idl FILE] [--service NAME] [--limit F] [--sessions N] [--accept C] [--events E] [--calls P] [--unframed SIDE] [--front KIND]
+conform FROM --idl FILE [--service NAME] [--limit F]
 drill SEED COUNT
 help
 ";

@@ -5,6 +5,7 @@ ghost use Rattle.gate_hub.specs.Hubs.{NotStarted};
 ghost use Rattle.gate_hub.specs.Meaning.{Meaning};
 ghost use Rattle.gate_words.specs.declared.command.Drilling.{Drilling};
 ghost use Rattle.gate_words.specs.declared.options.Declared.{Declared};
+ghost use Rattle.gate_words.specs.declared.peers.Sides.{Sides};
 ghost use Rattle.gate_words.specs.declared.serving.Serving.{Serving};
 ghost use Rattle.type_tables.specs.declared.declared.ServiceId.{ServiceId};
 ghost use Rattle.type_tables.specs.Declarations.{Declarations};
@@ -16,6 +17,8 @@ ghost use Rattle.gate_run.specs.Drilling.{Drills};
 ghost use Rattle.gate_run.specs.Handling.{any_refused};
 ghost use Rattle.gate_run.specs.Lines.{help_text};
 ghost use Rattle.gate_run.specs.Outcome.{Streams, WriteFailed, Streamed};
+ghost use Rattle.gate_run.specs.Peers.{Unframed, unframed_tells, ServesUnframed};
+ghost use Rattle.gate_run.specs.Posts.{ServesByWords};
 ghost use Rattle.gate_run.specs.Serving.{ServesAll, HasServed, GoesOn};
 ghost use Rattle.gate_run.specs.Starting.{Holds, IsStart, Starting, Halts, SaysLast};
 ghost use Rattle.gate_run.specs.declared.start.NoStart.{NoStart};
@@ -63,10 +66,10 @@ pub fn a_good_idl_starts_a_stream()
 /// was memory.
 pub fn a_good_idl_starts_a_server<H: Hub>()
     ensures { (holds : Holds) (words : Declared) (s : Start) (serving : Serving) (h h' : H) (before now : ℕ) (a b : Streams) (ending : Ending) →
-        let Then = λ (d : Declarations) (service : Option ServiceId). ServesAll H.tells H.counts serving d service h h' a b ending in
+        let Then = λ (d : Declarations) (service : Option ServiceId). ServesByWords H.tells H.counts serving d service h h' a b ending in
         let Else = λ (stop : NoStart). Halts stop a b ending × (h' ≡ h) in
         IsStart holds words (Ok s) → Starting (Some holds) words before now Then Else → (Rose before now → ⊥)
-        → ServesAll H.tells H.counts serving s.schema s.service h h' a b ending ⊎ (ending ≡ OutOfMemory) }
+        → ServesByWords H.tells H.counts serving s.schema s.service h h' a b ending ⊎ (ending ≡ OutOfMemory) }
 {
     files_give_one_answer()
 }
@@ -90,4 +93,12 @@ pub fn a_stopped_hub_was_served<H: Hub>()
         → ServesAll H.tells H.counts s d service h h' a b ending → H.tells h m → NotStarted m → ((k : ℕ) → (m.session k).announced ≡ true → ⊥)
         → (Rose (H.counts h).faults (H.counts h').faults → ⊥) → (WriteFailed a b → ⊥)
         → ((ending ≡ Done) × HasServed (H.tells h') s d service) ⊎ ((ending ≡ BudgetSpent) × GoesOn (H.tells h')) ⊎ (ending ≡ OutOfMemory) }
+{}
+
+/// The same of a server whose peers send messages without frames: of each session that the wrapping hub tells to be announced.
+pub fn a_stopped_wrapped_hub_was_served<H: Hub>()
+    ensures { (sides : Sides) (s : Serving) (d : Declarations) (service : Option ServiceId) (h h' : H) (a b : Streams) (ending : Ending) (m : Meaning)
+        → ServesUnframed sides H.tells H.counts s d service h h' a b ending → H.tells h m → NotStarted m → ((k : ℕ) → (m.session k).announced ≡ true → ⊥)
+        → (Rose (H.counts h).faults (H.counts h').faults → ⊥) → (WriteFailed a b → ⊥) → (u : Unframed H) × (u.inner ≡ h')
+        × (((ending ≡ Done) × HasServed (unframed_tells H.tells u) s d service) ⊎ ((ending ≡ BudgetSpent) × GoesOn (unframed_tells H.tells u)) ⊎ (ending ≡ OutOfMemory)) }
 {}

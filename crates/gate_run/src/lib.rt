@@ -2,15 +2,17 @@
 //! sinks, files and a hub that are handed to it. Its contract tells what was read, written and reported
 //! at each status.
 //!
-//! Each command has a file of its own: `check`, `convert`, `show`, `serve`, `drill`, `help`. A conversion and
-//! a showing go through a `stream` of frames, each of which is treated in `frame`.
+//! Each command has a file of its own: `check`, `convert`, `show`, `conform`, `serve`, `drill`, `help`. A conversion, a showing and a
+//! check of messages go through a `stream` of frames, each of which is handled in `frame`.
 #![tactic(auto)]
 
 mod check;
 mod commands;
+mod conform;
 mod convert;
 mod drill;
 mod frame;
+mod handler;
 mod help;
 mod judges;
 mod laws;

@@ -1,11 +1,15 @@
 //! The server, from its start to its status.
-ghost use Rattle.std.specs.Prelude.{◌≡◌, ◌≤◌, ◌<◌, ℕ, List, Option, IfSome, length};
+ghost use Rattle.std.specs.Prelude.{◌≡◌, ◌≤◌, ◌<◌, ℕ, List, Option, IfSome, is_some, false, length};
 ghost use Rattle.gate_base.specs.Causes.{Rose};
 ghost use Rattle.gate_hub.specs.Hubs.{Later};
 ghost use Rattle.gate_run.specs.Outcome.{streams};
 ghost use Rattle.session_judge.specs.Setting.{Setting};
 ghost use Rattle.session_judge.specs.Rules.{rules_of};
 ghost use Rattle.proxy_server.specs.Steps.{Serves, outside};
+ghost use Rattle.gate_words.specs.Peers.{is_http};
+ghost use Rattle.gate_run.specs.Peers.{ServesPeers, ServesUnframed, wire_if, seen, unframed_tells, unframed_counts};
+ghost use Rattle.gate_run.specs.Posts.{ServesByWords, ServesPosts, posting_tells, posting_counts, posted};
+ghost use Rattle.gate_hub.specs.declared.hub.Side.{Side};
 ghost use Rattle.gate_run.specs.Serving.{ServesAll, EndsBy, settings};
 
 use crate::judges::PairJudges;
@@ -13,13 +17,216 @@ use crate::start::Start;
 use crate::status::{Ending, end_with};
 use gate_hub::{Began, Hub, Served};
 use gate_io::Sink;
-use gate_words::{GREATEST_LIMIT, MOST_CALLS, Serving};
+use gate_words::{Front, GREATEST_LIMIT, LEAST_LIMIT, MOST_CALLS, Serving, Sides};
+use http_front::HttpHub;
+use protocol_traits::Proto;
 use proxy_server::{Limits, serve};
 use session_judge::Setup;
 use std::alloc::Global;
+use stream_messages::{UnframedHub, Wire};
 
-/// Starts the hub and serves until it stops, and writes one line for each session.
+/// Serves over the hub as the words wrap it, until it stops, and writes one line for each session.
 pub fn serve_all<O: Sink, E: Sink, H: Hub>(
+    alloc: Global,
+    serving: &Serving,
+    start: &Start,
+    output: &mut O,
+    report: &mut E,
+    hub: &mut H,
+) -> Ending
+    requires least { LEAST_LIMIT ≤ serving.now.limit }
+    requires limit { serving.now.limit ≤ GREATEST_LIMIT }
+    requires some { 1 ≤ serving.now.calls }
+    requires few { serving.now.calls ≤ MOST_CALLS }
+    requires service { IfSome start.now.service (λ x. x.0 < length start.now.schema.services) }
+    ensures serves { (left : Option (List ℕ)) (input : ℕ) →
+        let a = streams left (O.written output.old) (E.written report.old) input (O.faults output.old) (E.faults report.old) in
+        let b = streams left (O.written output.new) (E.written report.new) input (O.faults output.new) (E.faults report.new) in
+        ServesByWords H.tells H.counts serving.now start.now.schema start.now.service hub.old hub.new a b result }
+    ensures output_later { O.faults output.old ≤ O.faults output.new }
+    ensures report_later { E.faults report.old ≤ E.faults report.new }
+    ensures faults { (H.counts hub.old).faults ≤ (H.counts hub.new).faults }
+    ensures waits { is_http serving.now.front ≡ false → (k : ℕ) (side : Side) → (H.counts hub.old).waits k side ≤ (H.counts hub.new).waits k side }
+    ensures links { is_http serving.now.front ≡ false → is_some serving.now.unframed ≡ false → (k : ℕ) (side : Side) →
+        (H.counts hub.old).link_faults k side ≤ (H.counts hub.new).link_faults k side }
+    ensures kept { H.kept hub.new ≡ H.kept hub.old }
+{
+    match serving.front {
+        Front::Framed => serve_peers(alloc, serving, start, output, report, hub),
+        Front::Http => serve_posts(alloc, serving, start, output, report, hub),
+    }
+}
+
+// Serves over the hub, whose clients send each message as the body of a POST.
+fn serve_posts<O: Sink, E: Sink, H: Hub>(
+    alloc: Global,
+    serving: &Serving,
+    start: &Start,
+    output: &mut O,
+    report: &mut E,
+    hub: &mut H,
+) -> Ending
+    requires least { LEAST_LIMIT ≤ serving.now.limit }
+    requires limit { serving.now.limit ≤ GREATEST_LIMIT }
+    requires some { 1 ≤ serving.now.calls }
+    requires few { serving.now.calls ≤ MOST_CALLS }
+    requires service { IfSome start.now.service (λ x. x.0 < length start.now.schema.services) }
+    ensures serves { (left : Option (List ℕ)) (input : ℕ) →
+        let a = streams left (O.written output.old) (E.written report.old) input (O.faults output.old) (E.faults report.old) in
+        let b = streams left (O.written output.new) (E.written report.new) input (O.faults output.new) (E.faults report.new) in
+        ServesPosts H.tells H.counts serving.now start.now.schema start.now.service hub.old hub.new a b result }
+    ensures output_later { O.faults output.old ≤ O.faults output.new }
+    ensures report_later { E.faults report.old ≤ E.faults report.new }
+    ensures faults { (H.counts hub.old).faults ≤ (H.counts hub.new).faults }
+    ensures kept { H.kept hub.new ≡ H.kept hub.old }
+{
+    let mut posting = HttpHub::over(
+        hub,
+        &start.schema,
+        start.service,
+        serving.client,
+        serving.limit as usize,
+    );
+    let ending = serve_posting(alloc, serving, start, output, report, &mut posting);
+    posting.into_inner();
+    ending
+}
+
+// Serves over a hub whose clients send POSTs to another one.
+fn serve_posting<O: Sink, E: Sink, H: Hub>(
+    alloc: Global,
+    serving: &Serving,
+    start: &Start,
+    output: &mut O,
+    report: &mut E,
+    hub: &mut HttpHub<'_, H>,
+) -> Ending
+    requires least { LEAST_LIMIT ≤ serving.now.limit }
+    requires limit { serving.now.limit ≤ GREATEST_LIMIT }
+    requires some { 1 ≤ serving.now.calls }
+    requires few { serving.now.calls ≤ MOST_CALLS }
+    requires service { IfSome start.now.service (λ x. x.0 < length start.now.schema.services) }
+    ensures serves { (left : Option (List ℕ)) (input : ℕ) →
+        let a = streams left (O.written output.old) (E.written report.old) input (O.faults output.old) (E.faults report.old) in
+        let b = streams left (O.written output.new) (E.written report.new) input (O.faults output.new) (E.faults report.new) in
+        let set = serving.now in
+        ServesPeers (posting_tells H.tells) (posting_counts H.counts) set start.now.schema start.now.service (posted hub.old) (posted hub.new) a b result }
+    ensures output_later { O.faults output.old ≤ O.faults output.new }
+    ensures report_later { E.faults report.old ≤ E.faults report.new }
+    ensures faults { (H.counts hub.old.inner.now).faults ≤ (H.counts hub.new.inner.now).faults }
+    ensures same_reference { hub.new.inner.ghost_name ≡ hub.old.inner.ghost_name }
+    ensures rules { hub.new.rules ≡ hub.old.rules }
+    ensures kept { H.kept hub.new.inner.now ≡ H.kept hub.old.inner.now }
+{
+    serve_peers(alloc, serving, start, output, report, hub)
+}
+
+// Serves over the hub, whose sides may have messages without frames.
+fn serve_peers<O: Sink, E: Sink, H: Hub>(
+    alloc: Global,
+    serving: &Serving,
+    start: &Start,
+    output: &mut O,
+    report: &mut E,
+    hub: &mut H,
+) -> Ending
+    requires least { LEAST_LIMIT ≤ serving.now.limit }
+    requires limit { serving.now.limit ≤ GREATEST_LIMIT }
+    requires some { 1 ≤ serving.now.calls }
+    requires few { serving.now.calls ≤ MOST_CALLS }
+    requires service { IfSome start.now.service (λ x. x.0 < length start.now.schema.services) }
+    ensures serves { (left : Option (List ℕ)) (input : ℕ) →
+        let a = streams left (O.written output.old) (E.written report.old) input (O.faults output.old) (E.faults report.old) in
+        let b = streams left (O.written output.new) (E.written report.new) input (O.faults output.new) (E.faults report.new) in
+        ServesPeers H.tells H.counts serving.now start.now.schema start.now.service hub.old hub.new a b result }
+    ensures output_later { O.faults output.old ≤ O.faults output.new }
+    ensures report_later { E.faults report.old ≤ E.faults report.new }
+    ensures faults { (H.counts hub.old).faults ≤ (H.counts hub.new).faults }
+    ensures waits { (k : ℕ) (side : Side) → (H.counts hub.old).waits k side ≤ (H.counts hub.new).waits k side }
+    ensures links { is_some serving.now.unframed ≡ false → (k : ℕ) (side : Side) → (H.counts hub.old).link_faults k side ≤ (H.counts hub.new).link_faults k side }
+    ensures kept { H.kept hub.new ≡ H.kept hub.old }
+{
+    match serving.unframed {
+        None => serve_hub(alloc, serving, start, output, report, hub),
+        Some(sides) => serve_unframed(alloc, serving, sides, start, output, report, hub),
+    }
+}
+
+// Serves over the hub with the messages of these sides without frames.
+fn serve_unframed<O: Sink, E: Sink, H: Hub>(
+    alloc: Global,
+    serving: &Serving,
+    sides: Sides,
+    start: &Start,
+    output: &mut O,
+    report: &mut E,
+    hub: &mut H,
+) -> Ending
+    requires least { LEAST_LIMIT ≤ serving.now.limit }
+    requires limit { serving.now.limit ≤ GREATEST_LIMIT }
+    requires some { 1 ≤ serving.now.calls }
+    requires few { serving.now.calls ≤ MOST_CALLS }
+    requires service { IfSome start.now.service (λ x. x.0 < length start.now.schema.services) }
+    ensures serves { (left : Option (List ℕ)) (input : ℕ) →
+        let a = streams left (O.written output.old) (E.written report.old) input (O.faults output.old) (E.faults report.old) in
+        let b = streams left (O.written output.new) (E.written report.new) input (O.faults output.new) (E.faults report.new) in
+        ServesUnframed sides H.tells H.counts serving.now start.now.schema start.now.service hub.old hub.new a b result }
+    ensures output_later { O.faults output.old ≤ O.faults output.new }
+    ensures report_later { E.faults report.old ≤ E.faults report.new }
+    ensures faults { (H.counts hub.old).faults ≤ (H.counts hub.new).faults }
+    ensures waits { (k : ℕ) (side : Side) → (H.counts hub.old).waits k side ≤ (H.counts hub.new).waits k side }
+    ensures kept { H.kept hub.new ≡ H.kept hub.old }
+{
+    let client = wire_if(sides.has_client(), serving.client);
+    let upstream = wire_if(sides.has_upstream(), serving.upstream);
+    let mut unframed = UnframedHub::over(hub, client, upstream, serving.limit as usize);
+    let ending = serve_wrapped(alloc, serving, start, output, report, &mut unframed);
+    unframed.into_inner();
+    ending
+}
+
+// Serves over a hub that wraps another one.
+fn serve_wrapped<O: Sink, E: Sink, H: Hub>(
+    alloc: Global,
+    serving: &Serving,
+    start: &Start,
+    output: &mut O,
+    report: &mut E,
+    hub: &mut UnframedHub<'_, H>,
+) -> Ending
+    requires limit { serving.now.limit ≤ GREATEST_LIMIT }
+    requires some { 1 ≤ serving.now.calls }
+    requires few { serving.now.calls ≤ MOST_CALLS }
+    requires service { IfSome start.now.service (λ x. x.0 < length start.now.schema.services) }
+    ensures serves { (left : Option (List ℕ)) (input : ℕ) →
+        let a = streams left (O.written output.old) (E.written report.old) input (O.faults output.old) (E.faults report.old) in
+        let b = streams left (O.written output.new) (E.written report.new) input (O.faults output.new) (E.faults report.new) in
+        let set = serving.now in
+        ServesAll (unframed_tells H.tells) (unframed_counts H.counts) set start.now.schema start.now.service (seen hub.old) (seen hub.new) a b result }
+    ensures output_later { O.faults output.old ≤ O.faults output.new }
+    ensures report_later { E.faults report.old ≤ E.faults report.new }
+    ensures faults { (H.counts hub.old.inner.now).faults ≤ (H.counts hub.new.inner.now).faults }
+    ensures waits { (k : ℕ) (side : Side) → (H.counts hub.old.inner.now).waits k side ≤ (H.counts hub.new.inner.now).waits k side }
+    ensures same_reference { hub.new.inner.ghost_name ≡ hub.old.inner.ghost_name }
+    ensures wrapping { hub.new.wrapping ≡ hub.old.wrapping }
+    ensures kept { H.kept hub.new.inner.now ≡ H.kept hub.old.inner.now }
+{
+    serve_hub(alloc, serving, start, output, report, hub)
+}
+
+// By what the end of a message without a frame is found, where a side has such messages.
+fn wire_if(unframed: bool, protocol: Proto) -> Option<Wire>
+    ensures { result ≡ wire_if unframed protocol }
+{
+    match (unframed, protocol) {
+        (true, Proto::Binary) => Some(Wire::Binary),
+        (true, Proto::Compact) => Some(Wire::Compact),
+        _ => None,
+    }
+}
+
+// Starts the hub, and serves until it stops.
+fn serve_hub<O: Sink, E: Sink, H: Hub>(
     alloc: Global,
     serving: &Serving,
     start: &Start,
@@ -38,6 +245,7 @@ pub fn serve_all<O: Sink, E: Sink, H: Hub>(
     ensures output_later { O.faults output.old ≤ O.faults output.new }
     ensures report_later { E.faults report.old ≤ E.faults report.new }
     ensures hub_later { Later (H.counts hub.old) (H.counts hub.new) }
+    ensures kept { H.kept hub.new ≡ H.kept hub.old }
 {
     let (listen, target) = (serving.listen.as_slice(), serving.target.as_slice());
     match hub.start(
@@ -73,6 +281,7 @@ fn serve_started<O: Sink, H: Hub>(
         Serves Setting rules_of set (moment hub.old output.old) (moment hub.new output.new) result }
     ensures output_later { O.faults output.old ≤ O.faults output.new }
     ensures later { Later (H.counts hub.old) (H.counts hub.new) }
+    ensures kept { H.kept hub.new ≡ H.kept hub.old }
     ensures hub_fault { result ≡ Served.HubFault → Rose (H.counts hub.old).faults (H.counts hub.new).faults }
 {
     let judges = PairJudges::new(&Setup {

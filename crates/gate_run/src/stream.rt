@@ -13,6 +13,7 @@ ghost use Rattle.gate_run.specs.Rooms.{framed_room};
 ghost use Rattle.gate_run.specs.Working.{IsReady, IsFlushed, IsStart, IsWaiting, moment, Closes, Handles, Drains, Takes, Ends, WritesBoth, MakesRoom};
 
 use crate::frame::{WriteFault, handle};
+use crate::handler::Handler;
 use crate::lines::{self, LINE_ROOM};
 use crate::page::Page;
 use crate::status::{Ending, end_with};
@@ -27,11 +28,13 @@ use std::alloc::Global;
 pub const MOST_BYTES: u64 = (1 << 63) - 1;
 
 /// The room for lines of the report that wait to be written.
-const LINES_ROOM: usize = 4096;
+const LINES_ROOM: usize = 16_384;
 
 /// The work on a stream.
 #[derive(Drop)]
-pub struct Work {
+pub struct Work<'s> {
+    /// What handles each frame.
+    handler: Handler<'s>,
     /// The bytes that were read and not handled.
     frames: FrameBuf,
     /// What waits for the output.
@@ -97,16 +100,17 @@ fn close<E: Sink>(report: &mut E, ending: Ending) -> Ending
     }
 }
 
-impl Work {
-    /// Takes all the memory of the work but the readers' room, below 25 times the limit and 5,000 bytes.
+impl<'s> Work<'s> {
+    /// Takes all the memory of the work but the readers' room, below 25 times the limit and 17,000 bytes, and what a check needs.
     ///
     /// `OutOfMemory`: it was not found.
-    pub fn open(alloc: Global, task: &Task<'_>) -> Result<Work, OutOfMemory>
+    pub fn open(alloc: Global, task: &Task<'s>) -> Result<Work<'s>, OutOfMemory>
         requires { task.now.limit ≤ GREATEST_LIMIT }
         ensures ready { IfOk result (λ work. IsReady task.now work) }
         ensures start { IfOk result (λ work. IsStart work) }
     {
         Ok(Work {
+            handler: Handler::open(alloc, task)?,
             frames: FrameBuf::open(alloc, task.limit())?,
             page: Page::open(alloc, framed_room(task.limit()))?,
             lines: Out::open(alloc, LINES_ROOM)?,
@@ -244,6 +248,7 @@ impl Work {
             let number = self.number + 1;
             let passed = match handle(
                 task,
+                &mut self.handler,
                 frame,
                 number,
                 room,

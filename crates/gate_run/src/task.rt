@@ -1,15 +1,20 @@
 //! What is done with the frames of a stream, and by which declarations.
-ghost use Rattle.std.specs.Prelude.{◌≡◌, ◌+◌, ◌*◌, ◌^◌, ◌<◌, ◌≤◌, IfSome, length};
+ghost use Rattle.std.specs.Prelude.{◌≡◌, ◌+◌, ◌*◌, ◌^◌, ◌<◌, ◌≤◌, IfOk, IfSome, length};
 ghost use Rattle.gate_base.specs.Causes.{Rose};
 ghost use Rattle.translate_core.specs.Judged.{IsJudged};
 ghost use Rattle.message_show.specs.Shown.{IsShown};
+ghost use Rattle.conform_check.specs.Checking.{IsChecked};
 ghost use Rattle.gate_run.specs.Rooms.{translated_room};
-ghost use Rattle.gate_run.specs.Terms.{terms, judged_by, shown_by};
+ghost use Rattle.gate_run.specs.Terms.{terms, judged_by, shown_by, found_by};
 
+use crate::conform::FrameCheck;
+use conform_check::Checked;
+use gate_base::OutOfMemory;
 use gate_io::{Out, Sink};
 use message_show::{Shown, show};
 use protocol_pairs::translate;
 use protocol_traits::Proto;
+use std::alloc::Global;
 use std::marker::Model;
 use translate_core::{Route, Verdict};
 use type_tables::{Schema, ServiceId};
@@ -21,6 +26,8 @@ pub enum Doing {
     Convert { from: Proto, to: Proto },
     /// Its message in this protocol is shown as a line.
     Show { from: Proto },
+    /// Its message in this protocol is checked against what is declared of it.
+    Conform { from: Proto },
 }
 
 /// What is done with each frame of a stream, with what is declared for its messages.
@@ -105,5 +112,27 @@ impl<'s> Task<'s> {
         ensures cause { result ≡ Shown.WriteFault → Rose (O.faults output.old) (O.faults output.new) }
     {
         show(self.schema, self.service, from, frame, room, output)
+    }
+
+    /// A check of frames of this protocol by what is declared.
+    ///
+    /// `OutOfMemory`: the room for it was not found.
+    pub fn open_check(&self, alloc: Global, from: Proto) -> Result<FrameCheck<'s>, OutOfMemory>
+        ensures from { IfOk result (λ c. c.from ≡ from) }
+        ensures schema { IfOk result (λ c. c.check.schema ≡ self.now.declarations) }
+    {
+        FrameCheck::open(alloc, self.schema, from)
+    }
+
+    /// What is found of a frame by a check that the task opened.
+    pub fn check(&self, check: &mut FrameCheck<'_>, frame: &[u8], room: &mut [u8]) -> Checked
+        requires schema { check.old.check.schema ≡ self.now.declarations }
+        requires room { length frame.now ≤ length room.old }
+        requires size { length frame.now < 2 ^ 31 }
+        ensures exact { IsChecked result check.new.check.path (found_by self.now check.old.from frame.now) }
+        ensures schema { check.new.check.schema ≡ check.old.check.schema }
+        ensures from { check.new.from ≡ check.old.from }
+    {
+        check.find(self.service, frame, room)
     }
 }

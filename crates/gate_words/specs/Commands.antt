@@ -1,5 +1,5 @@
 -- The commands, as their words name them.
-use Rattle.std.specs.Prelude.{ℕ, ◌≤◌, List, [], ◌∷◌, Option, Some, None, Bool, if◌then◌else◌, codes, ⊤}
+use Rattle.std.specs.Prelude.{ℕ, ◌≡◌, ◌≤◌, ◌||◌, List, [], ◌∷◌, Option, Some, None, is_some, is_none, Bool, true, if◌then◌else◌, codes, ⊤}
 use Rattle.protocol_traits.specs.declared.proto.Proto.{Proto}
 use Rattle.decimal_words.specs.Same.{is}
 use Rattle.gate_words.specs.Same.{is_empty, or_else}
@@ -10,7 +10,7 @@ use Rattle.gate_words.specs.Serving.{serve_of}
 use Rattle.gate_words.specs.declared.command.Command.{Command}
 use Rattle.gate_words.specs.declared.command.Command.TheVariants as commands
 use Rattle.gate_words.specs.declared.options.Options.{Options}
-use Rattle.gate_words.specs.declared.limits.TheConstants.{DEFAULT_LIMIT, GREATEST_LIMIT, MOST_SESSIONS, MOST_EVENTS, MOST_CALLS, MOST_MESSAGES}
+use Rattle.gate_words.specs.declared.limits.TheConstants.{DEFAULT_LIMIT, LEAST_LIMIT, GREATEST_LIMIT, MOST_SESSIONS, MOST_EVENTS, MOST_CALLS, MOST_MESSAGES}
 
 -- check FILE
 abbrev pub check_of : List (List ℕ) → Option Command
@@ -62,6 +62,27 @@ abbrev pub show_of : List (List ℕ) → Option Command
 show_of [] = None
 show_of (from ∷ rest) = show_from (proto_of from) rest
 
+abbrev pub conform_as : Proto → Options → Option Command
+conform_as from o =
+    if is_server_alone o || is_none o.idl then None
+    else Some (commands.Conform (record { from = from; limit = or_else DEFAULT_LIMIT o.limit }) (record { idl = o.idl; service = o.service }))
+
+abbrev pub conformed : Proto → Option Options → Option Command
+conformed from None = None
+conformed from (Some o) = conform_as from o
+
+abbrev pub conform_with : Proto → List (List ℕ) → Option Command
+conform_with from words = conformed from (options_of no_options words)
+
+abbrev pub conform_from : Option Proto → List (List ℕ) → Option Command
+conform_from None words = None
+conform_from (Some from) words = conform_with from words
+
+-- conform FROM --idl FILE [--service NAME] [--limit F]
+abbrev pub conform_of : List (List ℕ) → Option Command
+conform_of [] = None
+conform_of (from ∷ rest) = conform_from (proto_of from) rest
+
 abbrev pub drill_as : Option ℕ → Option ℕ → Option Command
 drill_as (Some seed) (Some count) = Some (commands.Drill (record { seed = seed; count = count }))
 drill_as None count = None
@@ -86,16 +107,18 @@ command (name ∷ rest) =
     else if is name (codes "convert") then convert_of rest
     else if is name (codes "serve") then serve_of rest
     else if is name (codes "show") then show_of rest
+    else if is name (codes "conform") then conform_of rest
     else if is name (codes "drill") then drill_of rest
     else if is name (codes "help") then help_of rest
     else None
 
--- each number lies in its range
+-- each number lies in its range, and where declarations are meant a file of them is named
 abbrev pub IsInRange : Command → Type 0
 IsInRange (commands.Check file) = ⊤
 IsInRange (commands.Convert k declared) = k.limit ≤ GREATEST_LIMIT
 IsInRange (commands.Show k declared) = k.limit ≤ GREATEST_LIMIT
 IsInRange (commands.Serve s declared) =
-    (s.limit ≤ GREATEST_LIMIT) × (1 ≤ s.sessions) × (s.sessions ≤ MOST_SESSIONS) × (1 ≤ s.events) × (s.events ≤ MOST_EVENTS) × (1 ≤ s.calls) × (s.calls ≤ MOST_CALLS)
+    (s.limit ≤ GREATEST_LIMIT) × (1 ≤ s.sessions) × (s.sessions ≤ MOST_SESSIONS) × (1 ≤ s.events) × (s.events ≤ MOST_EVENTS) × (1 ≤ s.calls) × (s.calls ≤ MOST_CALLS) × (LEAST_LIMIT ≤ s.limit)
+IsInRange (commands.Conform k declared) = (k.limit ≤ GREATEST_LIMIT) × (is_some declared.idl ≡ true)
 IsInRange (commands.Drill k) = k.count ≤ MOST_MESSAGES
 IsInRange commands.Help = ⊤

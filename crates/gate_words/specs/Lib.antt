@@ -1,6 +1,7 @@
 -- What the words of a command name.
 pub mod Same
 pub mod Protos
+pub mod Peers
 pub mod Options
 pub mod Serving
 pub mod Commands

@@ -3,11 +3,14 @@ use Rattle.std.specs.Prelude.{ℕ, ◌||◌, ◌≤◌, List, [], ◌∷◌, Opt
 use Rattle.decimal_words.specs.Same.{is}
 use Rattle.gate_words.specs.Same.{is_empty}
 use Rattle.decimal_words.specs.Numbers.{number_of, within}
+use Rattle.gate_words.specs.Peers.{sides_of, front_of}
+use Rattle.gate_words.specs.declared.peers.Sides.{Sides}
+use Rattle.gate_words.specs.declared.peers.Front.{Front}
 use Rattle.gate_words.specs.declared.options.Options.{Options}
 use Rattle.gate_words.specs.declared.limits.TheConstants.{LEAST_LIMIT, GREATEST_LIMIT, MOST_SESSIONS, MOST_ACCEPTED, MOST_EVENTS, MOST_CALLS}
 
 abbrev pub no_options : Options
-no_options = record { idl = None; service = None; limit = None; sessions = None; accept = None; events = None; calls = None }
+no_options = record { idl = None; service = None; limit = None; sessions = None; accept = None; events = None; calls = None; unframed = None; front = None }
 
 -- the name of a file or a service isn't empty
 abbrev pub with_idl : Options → List ℕ → Option Options
@@ -59,6 +62,29 @@ set_calls o (Some calls) = Some (record o { calls = Some calls })
 abbrev pub with_calls : Options → List ℕ → Option Options
 with_calls o value = if is_some o.calls then None else set_calls o (within 1 MOST_CALLS (number_of value))
 
+-- the sides whose messages stand in no frames
+abbrev pub set_unframed : Options → Option Sides → Option Options
+set_unframed o None = None
+set_unframed o (Some sides) = Some (record o { unframed = Some sides })
+
+abbrev pub with_unframed : Options → List ℕ → Option Options
+with_unframed o value = if is_some o.unframed then None else set_unframed o (sides_of value)
+
+-- what the clients wrap each message in
+abbrev pub set_front : Options → Option Front → Option Options
+set_front o None = None
+set_front o (Some front) = Some (record o { front = Some front })
+
+abbrev pub with_front : Options → List ℕ → Option Options
+with_front o value = if is_some o.front then None else set_front o (front_of value)
+
+-- an option that tells how the peers of a server send their messages
+unfoldable pub with_peers : Options → List ℕ → List ℕ → Option Options
+with_peers o name value =
+    if is name (codes "--unframed") then with_unframed o value
+    else if is name (codes "--front") then with_front o value
+    else None
+
 -- an option that a server alone has
 unfoldable pub with_server_option : Options → List ℕ → List ℕ → Option Options
 with_server_option o name value =
@@ -66,11 +92,11 @@ with_server_option o name value =
     else if is name (codes "--accept") then with_accept o value
     else if is name (codes "--events") then with_events o value
     else if is name (codes "--calls") then with_calls o value
-    else None
+    else with_peers o name value
 
 -- whether one of these stands
 abbrev pub is_server_alone : Options → Bool
-is_server_alone o = is_some o.sessions || is_some o.accept || is_some o.events || is_some o.calls
+is_server_alone o = is_some o.sessions || is_some o.accept || is_some o.events || is_some o.calls || is_some o.unframed || is_some o.front
 
 -- with one option more
 unfoldable pub with_option : Options → List ℕ → List ℕ → Option Options

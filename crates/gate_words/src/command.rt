@@ -1,7 +1,7 @@
 //! The commands, read from their words.
 ghost use Rattle.std.specs.Prelude.{◌≡◌, ◌≤◌, IfOk, IfSome};
 ghost use Rattle.gate_words.specs.Protos.{proto_of};
-ghost use Rattle.gate_words.specs.Commands.{command, check_of, convert_of, convert_with, convert_as, show_of, show_with, show_as, drill_of, drill_as, help_of, IsInRange};
+ghost use Rattle.gate_words.specs.Commands.{command, check_of, convert_of, convert_with, convert_as, show_of, show_with, show_as, conform_of, conform_with, conform_as, drill_of, drill_as, help_of, IsInRange};
 ghost use Rattle.gate_words.specs.Options.{IsInRange as AreInRange};
 
 use crate::limits::{DEFAULT_LIMIT, MOST_MESSAGES};
@@ -27,6 +27,13 @@ pub struct Showing {
     pub limit: usize,
 }
 
+/// The judging of a stream of frames, each of at most `limit` bytes, by what their messages are declared to be.
+#[derive(Clone, Copy, Debug, PartialEq, Eq)]
+pub struct Conforming {
+    pub from: Proto,
+    pub limit: usize,
+}
+
 /// The making of so many messages from a number.
 #[derive(Clone, Copy, Debug, PartialEq, Eq)]
 pub struct Drilling {
@@ -43,8 +50,10 @@ pub enum Command {
     Convert(Conversion, Declared),
     /// `show FROM [--idl FILE] [--service NAME] [--limit F]`
     Show(Showing, Declared),
-    /// `serve CLIENT UPSTREAM LISTEN TARGET [--idl FILE] [--service NAME] [--limit F] [--sessions N] [--accept C] [--events E] [--calls P]`
+    /// `serve CLIENT UPSTREAM LISTEN TARGET [--idl FILE] [--service NAME] [--limit F] [--sessions N] [--accept C] [--events E] [--calls P] [--unframed SIDE] [--front KIND]`
     Serve(Serving, Declared),
+    /// `conform FROM --idl FILE [--service NAME] [--limit F]`
+    Conform(Conforming, Declared),
     /// `drill SEED COUNT`
     Drill(Drilling),
     /// `help`
@@ -70,6 +79,8 @@ pub fn read_command(alloc: Global, words: &[Word]) -> Result<Option<Command>, Ou
         serve(alloc, rest)
     } else if name.as_slice() == b"show".as_slice() {
         show(alloc, rest)
+    } else if name.as_slice() == b"conform".as_slice() {
+        conform(alloc, rest)
     } else if name.as_slice() == b"drill".as_slice() {
         Ok(drill(rest))
     } else if name.as_slice() == b"help".as_slice() {
@@ -188,6 +199,50 @@ fn show_as(from: Proto, options: Options) -> Option<Command>
         service: options.service,
     };
     Some(Command::Show(showing, declared))
+}
+
+// conform FROM --idl FILE, and options
+fn conform(alloc: Global, words: &[Word]) -> Result<Option<Command>, OutOfMemory>
+    ensures value { IfOk result (λ named. named ≡ conform_of words.now) }
+    ensures range { IfOk result (λ named. IfSome named IsInRange) }
+{
+    let Some((from, words)) = words.split_first() else {
+        return Ok(None);
+    };
+    match proto(from.as_slice()) {
+        Some(from) => conform_with(alloc, from, words),
+        None => Ok(None),
+    }
+}
+
+// The judging with these options.
+fn conform_with(alloc: Global, from: Proto, words: &[Word]) -> Result<Option<Command>, OutOfMemory>
+    ensures value { IfOk result (λ named. named ≡ conform_with from words.now) }
+    ensures range { IfOk result (λ named. IfSome named IsInRange) }
+{
+    match read_options(alloc, words)? {
+        Some(options) => Ok(conform_as(from, options)),
+        None => Ok(None),
+    }
+}
+
+fn conform_as(from: Proto, options: Options) -> Option<Command>
+    requires range { AreInRange options }
+    ensures value { result ≡ conform_as from options }
+    ensures range { IfSome result IsInRange }
+{
+    if options.is_server_alone() || options.idl.is_none() {
+        return None;
+    }
+    let conforming = Conforming {
+        from,
+        limit: options.limit.unwrap_or(DEFAULT_LIMIT) as usize,
+    };
+    let declared = Declared {
+        idl: options.idl,
+        service: options.service,
+    };
+    Some(Command::Conform(conforming, declared))
 }
 
 // drill SEED COUNT

@@ -7,9 +7,11 @@
 mod command;
 mod limits;
 mod options;
+mod peers;
 mod serving;
 
-pub use command::{Command, Conversion, Drilling, Showing, read_command};
-pub use limits::{GREATEST_LIMIT, MOST_CALLS, MOST_MESSAGES};
+pub use command::{Command, Conforming, Conversion, Drilling, Showing, read_command};
+pub use limits::{GREATEST_LIMIT, LEAST_LIMIT, MOST_CALLS, MOST_MESSAGES};
 pub use options::Declared;
+pub use peers::{Front, Sides};
 pub use serving::Serving;

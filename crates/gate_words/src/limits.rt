@@ -32,3 +32,18 @@ pub const MOST_MESSAGES: u64 = 1_000_000;
 
 /// The most bytes that all sessions together may hold.
 pub const MOST_HELD: u64 = 1 << 32;
+
+/// The frames of the limit that a session may hold at a time, in its buffers and on the way through them.
+pub const HELD_FRAMES: u64 = 52;
+
+/// The bytes that each open call of a session takes.
+pub const CALL_BYTES: u64 = 16;
+
+/// The bytes of a session besides.
+pub const SESSION_BYTES: u64 = 4_096;
+
+/// The frames of the limit that a session holds besides where a side sends no frames: one for each side.
+pub const UNFRAMED_FRAMES: u64 = 2;
+
+/// The most bytes of the head of an HTTP request.
+pub const HEAD_BYTES: u64 = 8_192;

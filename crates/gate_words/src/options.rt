@@ -1,10 +1,11 @@
 //! The options of a command.
 ghost use Rattle.std.specs.Prelude.{◌≡◌, ◌≤◌, IfOk, IfSome};
-ghost use Rattle.gate_words.specs.Options.{no_options, options_of, with_option, with_server_option, with_idl, with_service, with_limit, with_sessions, with_accept, with_events, with_calls, limit_of, is_server_alone, IsInRange};
+ghost use Rattle.gate_words.specs.Options.{no_options, options_of, with_option, with_server_option, with_peers, with_idl, with_service, with_limit, with_sessions, with_accept, with_events, with_calls, with_unframed, with_front, limit_of, is_server_alone, IsInRange};
 
 use crate::limits::{
     GREATEST_LIMIT, LEAST_LIMIT, MOST_ACCEPTED, MOST_CALLS, MOST_EVENTS, MOST_SESSIONS,
 };
+use crate::peers::{Front, Sides, read_front, read_sides};
 use decimal_words::number_within;
 use gate_base::{OutOfMemory, Text, Word};
 use std::alloc::Global;
@@ -26,6 +27,8 @@ pub struct Options {
     pub accept: Option<u64>,
     pub events: Option<u64>,
     pub calls: Option<u32>,
+    pub unframed: Option<Sides>,
+    pub front: Option<Front>,
 }
 
 impl Options {
@@ -41,6 +44,8 @@ impl Options {
             accept: None,
             events: None,
             calls: None,
+            unframed: None,
+            front: None,
         }
     }
 
@@ -77,6 +82,22 @@ impl Options {
             self.with_events(value)
         } else if name == b"--calls".as_slice() {
             self.with_calls(value)
+        } else {
+            self.with_peers(name, value)
+        }
+    }
+
+    // The same for the options of a server that tell how its peers send their messages.
+    #[tactic(auto, unfolding(crate::specs::Options::with_peers))]
+    fn with_peers(self, name: &[u8], value: &[u8]) -> Option<Options>
+        requires range { IsInRange self }
+        ensures value { result ≡ with_peers self name.now value.now }
+        ensures range { IfSome result IsInRange }
+    {
+        if name == b"--unframed".as_slice() {
+            self.with_unframed(value)
+        } else if name == b"--front".as_slice() {
+            self.with_front(value)
         } else {
             None
         }
@@ -191,6 +212,40 @@ impl Options {
         }
     }
 
+    fn with_unframed(self, value: &[u8]) -> Option<Options>
+        requires range { IsInRange self }
+        ensures value { result ≡ with_unframed self value.now }
+        ensures range { IfSome result IsInRange }
+    {
+        if self.unframed.is_some() {
+            return None;
+        }
+        match read_sides(value) {
+            Some(unframed) => Some(Options {
+                unframed: Some(unframed),
+                ..self
+            }),
+            None => None,
+        }
+    }
+
+    fn with_front(self, value: &[u8]) -> Option<Options>
+        requires range { IsInRange self }
+        ensures value { result ≡ with_front self value.now }
+        ensures range { IfSome result IsInRange }
+    {
+        if self.front.is_some() {
+            return None;
+        }
+        match read_front(value) {
+            Some(front) => Some(Options {
+                front: Some(front),
+                ..self
+            }),
+            None => None,
+        }
+    }
+
     /// Whether an option stands that a server alone has.
     pub fn is_server_alone(&self) -> bool
         ensures { result ≡ is_server_alone self.now }
@@ -199,6 +254,8 @@ impl Options {
             || self.accept.is_some()
             || self.events.is_some()
             || self.calls.is_some()
+            || self.unframed.is_some()
+            || self.front.is_some()
     }
 }
 

@@ -1,12 +1,16 @@
 //! The command that serves.
-ghost use Rattle.std.specs.Prelude.{◌≡◌, IfOk, IfSome};
+ghost use Rattle.std.specs.Prelude.{◌≡◌, ◌<◌, ◌^◌, IfOk, IfSome};
 ghost use Rattle.gate_words.specs.Commands.{IsInRange};
 ghost use Rattle.gate_words.specs.Options.{IsInRange as AreInRange};
-ghost use Rattle.gate_words.specs.Serving.{serve_of, serve_at, serve_with, serve_as, is_within_memory};
+ghost use Rattle.gate_words.specs.Serving.{serve_of, serve_at, serve_with, serve_as, can_serve, speaks_unframed_json, is_json, wraps_twice, is_within_memory, session_bytes, unframed_bytes, http_bytes};
 
 use crate::command::{Command, proto};
-use crate::limits::{DEFAULT_CALLS, DEFAULT_LIMIT, DEFAULT_SESSIONS, MOST_EVENTS, MOST_HELD};
+use crate::limits::{
+    CALL_BYTES, DEFAULT_CALLS, DEFAULT_LIMIT, DEFAULT_SESSIONS, HEAD_BYTES, HELD_FRAMES,
+    MOST_EVENTS, MOST_HELD, SESSION_BYTES, UNFRAMED_FRAMES,
+};
 use crate::options::{Declared, Options, read_options};
+use crate::peers::{Front, Sides};
 use decimal_words::read_address;
 use gate_base::{OutOfMemory, Text, Word};
 use protocol_traits::Proto;
@@ -33,6 +37,10 @@ pub struct Serving {
     pub events: u64,
     /// The most open calls of a session.
     pub calls: u32,
+    /// The sides whose messages stand in no frames.
+    pub unframed: Option<Sides>,
+    /// What the clients wrap each message in.
+    pub front: Front,
 }
 
 /// The addresses of a server, and the protocols on both sides.
@@ -115,22 +123,95 @@ fn serve_as(ends: Ends, options: Options) -> Option<Command>
         accept: options.accept.unwrap_or(0),
         events: options.events.unwrap_or(MOST_EVENTS),
         calls: options.calls.unwrap_or(DEFAULT_CALLS),
+        unframed: options.unframed,
+        front: options.front.unwrap_or(Front::Framed),
     };
     let declared = Declared {
         idl: options.idl,
         service: options.service,
     };
-    if is_within_memory(serving.sessions, serving.limit, serving.calls) {
+    if can_serve(&serving) {
         Some(Command::Serve(serving, declared))
     } else {
         None
     }
 }
 
-// Whether all sessions together hold at most so many bytes.
-fn is_within_memory(sessions: u32, limit: u32, calls: u32) -> bool
-    ensures { result ≡ is_within_memory sessions limit calls }
+// Whether such peers can be served, and the memory that the words ask for can be counted.
+fn can_serve(serving: &Serving) -> bool
+    ensures { result ≡ can_serve serving.now }
 {
-    let session = 52 * (limit as u128) + 16 * (calls as u128) + 4_096;
-    (sessions as u128) * session <= MOST_HELD as u128
+    !speaks_unframed_json(serving) && !wraps_twice(serving) && is_within_memory(serving)
+}
+
+// Whether a side without frames speaks JSON: nothing tells where such a message ends before its last byte is judged.
+fn speaks_unframed_json(serving: &Serving) -> bool
+    ensures { result ≡ speaks_unframed_json serving.now }
+{
+    match serving.unframed {
+        Some(sides) => {
+            (sides.has_client() && is_json(serving.client))
+                || (sides.has_upstream() && is_json(serving.upstream))
+        }
+        None => false,
+    }
+}
+
+fn is_json(protocol: Proto) -> bool
+    ensures { result ≡ is_json protocol }
+{
+    matches!(protocol, Proto::Json)
+}
+
+// Whether the clients would send messages both without frames and as bodies of HTTP.
+fn wraps_twice(serving: &Serving) -> bool
+    ensures { result ≡ wraps_twice serving.now }
+{
+    match (serving.unframed, serving.front) {
+        (Some(sides), Front::Http) => sides.has_client(),
+        _ => false,
+    }
+}
+
+// Whether all sessions together hold at most so many bytes.
+fn is_within_memory(serving: &Serving) -> bool
+    ensures { result ≡ is_within_memory serving.now }
+{
+    let sessions = (serving.sessions as u128) * session_bytes(serving.limit, serving.calls);
+    sessions + unframed_bytes(serving) + http_bytes(serving) <= MOST_HELD as u128
+}
+
+// The most bytes that a session holds.
+fn session_bytes(limit: u32, calls: u32) -> u128
+    ensures value { result ≡ session_bytes limit calls }
+    ensures small { result < 2 ^ 64 }
+{
+    (HELD_FRAMES as u128) * (limit as u128)
+        + (CALL_BYTES as u128) * (calls as u128)
+        + SESSION_BYTES as u128
+}
+
+// The bytes that find the ends of messages without frames.
+fn unframed_bytes(serving: &Serving) -> u128
+    ensures value { result ≡ unframed_bytes serving.now }
+    ensures small { result < 2 ^ 96 }
+{
+    match serving.unframed {
+        Some(_) => {
+            (UNFRAMED_FRAMES as u128) * (serving.sessions as u128 + 1) * (serving.limit as u128)
+        }
+        None => 0,
+    }
+}
+
+// The bytes that take requests of HTTP.
+fn http_bytes(serving: &Serving) -> u128
+    ensures value { result ≡ http_bytes serving.now }
+    ensures small { result < 2 ^ 96 }
+{
+    let limit = serving.limit as u128;
+    match serving.front {
+        Front::Http => (serving.sessions as u128 + 1) * (limit + HEAD_BYTES as u128) + limit,
+        Front::Framed => 0,
+    }
 }

@@ -19,15 +19,19 @@ use Rattle.session_laws.specs.Saying.{HasLaws, FaultBy, SpellsHead}
 use Rattle.session_laws.proofs.Fates.{IsSaidBy, ByMessage, ByCause, ByFault, said_by}
 use Rattle.session_laws.proofs.Existing.{frame_bytes}
 use Rattle.show_laws.specs.Showings.{IsShowing, ShowsMessage, TellsFault, TellsNoHeader}
-use Rattle.gate_run.specs.declared.task.Doing.TheVariants.{Convert, Show}
-use Rattle.gate_run.specs.Handling.{Treated, Passes, Fails, translated, as_line, treated, treated_by, is_passed, bytes_of, line_for, output_of, line_of, lines, any_refused}
+use Rattle.conform_check.specs.Checking.{Finding}
+use Rattle.conform_laws.specs.Checkings.{IsChecking, MessageIsMet, MessageBreaks}
+use Rattle.conform_laws.specs.Checkings as checkings
+use Rattle.gate_run.specs.declared.task.Doing.TheVariants.{Convert, Show, Conform}
+use Rattle.gate_run.specs.Findings.{finding}
+use Rattle.gate_run.specs.Handling.{Treated, Passes, Fails, Meets, Breaks, translated, as_line, as_found, treated, treated_by, is_passed, bytes_for, line_for, output_of, outputs, line_of, lines, any_refused}
 use Rattle.gate_run.specs.Outcome.{Streams, Covers, StopsWith, Streamed}
 use Rattle.gate_run.specs.declared.stream.TheConstants.{MOST_BYTES}
 use Rattle.gate_run.specs.declared.status.Ending.{Ending}
 use Rattle.gate_run.specs.declared.status.Ending.TheVariants as endings
-use Rattle.gate_run.specs.Terms.{Terms, judged_by, shown_by}
+use Rattle.gate_run.specs.Terms.{Terms, judged_by, shown_by, found_by}
 use Rattle.stream_laws.specs.Streams.{AreFrames}
-use Rattle.stream_laws.specs.Covering.{passage_of, IsConverted, IsWritten, IsReported, IsListed, HasLine, HasFault, GiveInOrder, CoversBy, GivesSome, GivesBy}
+use Rattle.stream_laws.specs.Covering.{passage_of, IsConverted, IsWritten, IsReported, IsListed, HasLine, HasFault, IsConformed, IsMet, IsBroken, IsFaulty, GiveInOrder, CoversBy, GivesSome, GivesBy}
 
 -- what is read of a source that tells what is left of it consists of bytes
 pub are_read : {source : Option (List ℕ)} (left now : Option (List ℕ)) → IfSome source AreBytes → left ≡ source → IsSome left → (read : List ℕ) → Consumes left now read → AreBytes read
@@ -37,7 +41,7 @@ are_read (Some x) (Some y) are same told read c = (bytes_front read y (subst Are
 
 -- what is written and reported of one frame by the program
 abbrev Holds : (ℕ → List ℕ → List ℕ → List ℕ → Type 0) → ℕ → List ℕ → Treated → Type 0
-Holds Each number frame t = Each number frame (bytes_of t) (line_for number t)
+Holds Each number frame t = Each number frame (bytes_for number t) (line_for number t)
 
 -- ---- one frame that is converted
 
@@ -66,11 +70,30 @@ module _ (law : IsShowLaw) (k : Terms) (from : Proto) (doing : k.doing ≡ Show 
   pub listed : Holds (IsListed k (passage_of k from from)) number frame (treated k frame)
   listed = subst (λ d. Holds (IsListed k (passage_of k from from)) number frame (treated_by k d frame)) (sym doing) (by_showing (shown_by k from frame) (law k.declarations k.service from frame are source))
 
+-- ---- one frame that is checked
+
+-- the law of what is found
+abbrev pub IsCheckLaw : Type 0
+IsCheckLaw = (d : Declarations) (service : Option ServiceId) (protocol : Proto) (frame : List ℕ) → AreBytes frame → HasLaws protocol
+    → IsChecking (SpellsHead protocol) (SpellsIn protocol) (λ l f. FaultBy (record { declarations = d; route = ByName service; from = protocol; to = protocol; teller = protocol }) protocol l f) d service frame (finding d service protocol frame)
+
+module _ (law : IsCheckLaw) (k : Terms) (from : Proto) (doing : k.doing ≡ Conform from) (source : HasLaws from) (number : ℕ) (frame : List ℕ) (are : AreBytes frame) where
+  by_checking : (f : Finding) → IsChecking (SpellsHead from) (SpellsIn from) (λ l g. FaultBy (passage_of k from from) from l g) k.declarations k.service frame f → Holds (IsConformed k (passage_of k from from)) number frame (as_found f)
+  by_checking f (MessageIsMet m spells deep meets e) = subst (λ x. Holds (IsConformed k (passage_of k from from)) number frame (as_found x)) (sym e) (IsMet m spells deep meets refl refl)
+  by_checking f (MessageBreaks m b spells deep breaks first e) = subst (λ x. Holds (IsConformed k (passage_of k from from)) number frame (as_found x)) (sym e) (IsBroken m b spells deep breaks first refl refl)
+  by_checking f (checkings.TellsFault header front rest g laid head stands e) = subst (λ x. Holds (IsConformed k (passage_of k from from)) number frame (as_found x)) (sym e) (IsFaulty g stands refl refl)
+  by_checking f (checkings.TellsNoHeader g none stands e) = subst (λ x. Holds (IsConformed k (passage_of k from from)) number frame (as_found x)) (sym e) (IsFaulty g stands refl refl)
+
+  pub conformed : Holds (IsConformed k (passage_of k from from)) number frame (treated k frame)
+  conformed = subst (λ d. Holds (IsConformed k (passage_of k from from)) number frame (treated_by k d frame)) (sym doing) (by_checking (found_by k from frame) (law k.declarations k.service from frame are source))
+
 -- ---- all frames of a stream
 
 no_line : (number : ℕ) (t : Treated) → is_passed t ≡ true → line_for number t ≡ []
 no_line number (Passes bytes) e = refl
 no_line number (Fails cause) e = absurd (cc)
+no_line number Meets e = refl
+no_line number (Breaks b) e = absurd (cc)
 
 both_false : (a b : Bool) → (not a || b) ≡ false → (a ≡ true) × (b ≡ false)
 both_false true b e = (refl, e)
@@ -83,10 +106,10 @@ nothing_reported k before (frame ∷ frames) none =
     ap (λ l. l ++ lines k (before + 1) frames) (no_line (before + 1) (treated k frame) parts.0) ∙ nothing_reported k (before + 1) frames parts.1
 
 module _ (k : Terms) (Each : ℕ → List ℕ → List ℕ → List ℕ → Type 0) (each : (number : ℕ) (frame : List ℕ) → AreBytes frame → Holds Each number frame (treated k frame)) where
-  all_give : (before : ℕ) (frames : List (List ℕ)) → AreFrames frames → GiveInOrder Each before frames (flat_map (output_of k) frames) (lines k before frames)
+  all_give : (before : ℕ) (frames : List (List ℕ)) → AreFrames frames → GiveInOrder Each before frames (outputs k before frames) (lines k before frames)
   all_give before [] are = (refl, refl)
   all_give before (frame ∷ frames) are =
-      (output_of k frame, flat_map (output_of k) frames, line_of k (before + 1) frame, lines k (before + 1) frames, each (before + 1) frame are.0, all_give (before + 1) frames are.1, refl, refl)
+      (output_of k (before + 1) frame, outputs k (before + 1) frames, line_of k (before + 1) frame, lines k (before + 1) frames, each (before + 1) frame are.0, all_give (before + 1) frames are.1, refl, refl)
 
   frames_are : (frames : List (List ℕ)) (rest : List ℕ) → AreBytes (flat_map framed frames ++ rest) → AreFrames frames
   frames_are [] rest are = tt
@@ -99,7 +122,7 @@ module _ (k : Terms) (Each : ℕ → List ℕ → List ℕ → List ℕ → Type
   covers a b read frames rest line are c = record {
     consumed = c.consumed;
     splits = c.splits;
-    out = flat_map (output_of k) frames;
+    out = outputs k 0 frames;
     told = lines k 0 frames;
     give = all_give 0 frames (frames_are frames rest (subst AreBytes c.splits.whole are));
     written = c.written;

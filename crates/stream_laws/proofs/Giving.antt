@@ -1,6 +1,5 @@
 -- What each frame gives, and what all of them give.
-use Rattle.std.proofs.Common.{◌≡◌, ℕ, ◌<◌, true, false, List, [], ◌∷◌, refl, ap, ◌∙◌, sym, inl, inr}
-use Rattle.std.specs.List.{flat_map}
+use Rattle.std.proofs.Common.{◌≡◌, ℕ, ◌+◌, ◌<◌, true, false, List, [], ◌∷◌, refl, ap, ◌∙◌, sym, inl, inr}
 use Rattle.thrift_value.specs.Trees.{Message, depth_of_members}
 use Rattle.protocol_traits.specs.declared.fault.Fault.{Fault}
 use Rattle.protocol_traits.specs.declared.proto.Proto.{Proto}
@@ -22,13 +21,13 @@ use Rattle.verdict_laws.specs.Verdicts.IsVerdict.{Passes, IsBarred, IsFaulty, Is
 use Rattle.verdict_laws.proofs.Faulted.{binary_told, compact_told}
 use Rattle.verdict_laws.proofs.Round.{round}
 use Rattle.gate_run.specs.declared.task.Doing.TheVariants.{Convert}
-use Rattle.gate_run.specs.Handling.{translated, treated_by, is_passed, bytes_of, output_of}
+use Rattle.gate_run.specs.Handling.{translated, treated_by, is_passed, bytes_for, output_of, outputs}
 use Rattle.gate_run.specs.Terms.{Terms, judged_by}
 use Rattle.stream_laws.specs.Streams.{Gives, GiveAll, AreFrames}
 
 -- what is written of a frame, by its verdict
-written : (k : Terms) (from to : Proto) (frame : List ℕ) → k.doing ≡ Convert from to → output_of k frame ≡ bytes_of (translated (judged_by k from to frame))
-written k from to frame e = ap (λ doing. bytes_of (treated_by k doing frame)) e
+written : (k : Terms) (from to : Proto) (number : ℕ) (frame : List ℕ) → k.doing ≡ Convert from to → output_of k number frame ≡ bytes_for number (translated (judged_by k from to frame))
+written k from to number frame e = ap (λ doing. bytes_for number (treated_by k doing frame)) e
 
 is_plain : (to : Proto) (d : Declarations) (route : Route) (m : Message) (bytes : List ℕ) → (to ≡ protocols.Json → ⊥) → IsPlain to d route m bytes → bytes ≡ plain_in to d route m
 is_plain protocols.Binary d route m bytes other e = e
@@ -38,13 +37,13 @@ is_plain protocols.Json d route m bytes other e = absurd (other refl)
 no_pass : (j : Judged) (i : Judged) → j ≡ i → is_passed (translated i) ≡ false → (p : Judged) → j ≡ p → is_passed (translated p) ≡ true → ⊥
 no_pass j i a none p b some = let wrong : false ≡ true = sym none ∙ ap (λ x. is_passed (translated x)) (sym a ∙ b) ∙ some in absurd (cc)
 
-module _ (k : Terms) (from to : Proto) (frame : List ℕ) (doing : k.doing ≡ Convert from to) (other : to ≡ protocols.Json → ⊥) where
+module _ (k : Terms) (from to : Proto) (number : ℕ) (frame : List ℕ) (doing : k.doing ≡ Convert from to) (other : to ≡ protocols.Json → ⊥) where
   -- a frame that is refused spells none
-  none_given : (i : Judged) → judged_by k from to frame ≡ i → is_passed (translated i) ≡ false → bytes_of (translated i) ≡ [] → Gives k from to frame (output_of k frame)
+  none_given : (i : Judged) → judged_by k from to frame ≡ i → is_passed (translated i) ≡ false → bytes_for number (translated i) ≡ [] → Gives k from to frame (output_of k number frame)
   none_given i e none empty =
       inr (
         (λ m spells deep. no_pass (judged_by k from to frame) i e none _ (round k.declarations (ByName k.service) from to m frame spells deep other).goes refl),
-        written k from to frame doing ∙ ap (λ x. bytes_of (translated x)) e ∙ empty,
+        written k from to number frame doing ∙ ap (λ x. bytes_for number (translated x)) e ∙ empty,
       )
 
   -- between protocols that hold each message none is barred
@@ -52,19 +51,19 @@ module _ (k : Terms) (from to : Proto) (frame : List ℕ) (doing : k.doing ≡ C
   never_barred m info cause spells deep e = no_pass (judged_by k from to frame) _ e refl _ (round k.declarations (ByName k.service) from to m frame spells deep other).goes refl
 
   by_verdict : (SpellsHead : Header → List ℕ → Type 0) (FaultAt : List ℕ → Fault → Type 0) (Place : Message → List ℕ → Spot → ℕ → Type 0) → IsVerdict SpellsHead (SpellsIn from) FaultAt Place k.declarations (ByName k.service) to frame (judged_by k from to frame)
-      → Gives k from to frame (output_of k frame)
+      → Gives k from to frame (output_of k number frame)
   by_verdict SpellsHead FaultAt Place (IsBarred m spot place bar spells deep first at e) = absurd (never_barred m _ _ spells deep e)
   by_verdict SpellsHead FaultAt Place (Passes m bytes spells deep holds plain e) =
-      inl (m, spells, deep, written k from to frame doing ∙ ap (λ x. bytes_of (translated x)) e ∙ ap framed (is_plain to k.declarations (ByName k.service) m bytes other plain))
+      inl (m, spells, deep, written k from to number frame doing ∙ ap (λ x. bytes_for number (translated x)) e ∙ ap framed (is_plain to k.declarations (ByName k.service) m bytes other plain))
   by_verdict SpellsHead FaultAt Place (IsFaulty header front rest f laid head stands e) = none_given _ e refl refl
   by_verdict SpellsHead FaultAt Place (IsUnread f none stands e) = none_given _ e refl refl
 
-given : (k : Terms) (from to : Proto) (frame : List ℕ) → AreBytes frame → k.doing ≡ Convert from to → (from ≡ protocols.Json → ⊥) → (to ≡ protocols.Json → ⊥) → Gives k from to frame (output_of k frame)
-given k protocols.Binary to frame are doing first other = by_verdict k protocols.Binary to frame doing other _ _ _ (binary_told k.declarations (ByName k.service) to frame are)
-given k protocols.Compact to frame are doing first other = by_verdict k protocols.Compact to frame doing other _ _ _ (compact_told k.declarations (ByName k.service) to frame are)
-given k protocols.Json to frame are doing first other = absurd (first refl)
+given : (k : Terms) (from to : Proto) (number : ℕ) (frame : List ℕ) → AreBytes frame → k.doing ≡ Convert from to → (from ≡ protocols.Json → ⊥) → (to ≡ protocols.Json → ⊥) → Gives k from to frame (output_of k number frame)
+given k protocols.Binary to number frame are doing first other = by_verdict k protocols.Binary to number frame doing other _ _ _ (binary_told k.declarations (ByName k.service) to frame are)
+given k protocols.Compact to number frame are doing first other = by_verdict k protocols.Compact to number frame doing other _ _ _ (compact_told k.declarations (ByName k.service) to frame are)
+given k protocols.Json to number frame are doing first other = absurd (first refl)
 
-pub all_given : (k : Terms) (from to : Proto) (frames : List (List ℕ)) → AreFrames frames → k.doing ≡ Convert from to → (from ≡ protocols.Json → ⊥) → (to ≡ protocols.Json → ⊥) → GiveAll k from to frames (flat_map (output_of k) frames)
-all_given k from to [] are doing first other = refl
-all_given k from to (frame ∷ frames) are doing first other =
-    (output_of k frame, flat_map (output_of k) frames, given k from to frame are.0 doing first other, all_given k from to frames are.1 doing first other, refl)
+pub all_given : (k : Terms) (from to : Proto) (before : ℕ) (frames : List (List ℕ)) → AreFrames frames → k.doing ≡ Convert from to → (from ≡ protocols.Json → ⊥) → (to ≡ protocols.Json → ⊥) → GiveAll k from to frames (outputs k before frames)
+all_given k from to before [] are doing first other = refl
+all_given k from to before (frame ∷ frames) are doing first other =
+    (output_of k (before + 1) frame, outputs k (before + 1) frames, given k from to (before + 1) frame are.0 doing first other, all_given k from to (before + 1) frames are.1 doing first other, refl)

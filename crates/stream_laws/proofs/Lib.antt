@@ -1,4 +1,5 @@
 pub mod Giving
 pub mod Sessions
+pub mod Unframed
 pub mod Covering
 pub mod Words

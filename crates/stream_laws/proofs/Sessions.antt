@@ -1,5 +1,5 @@
 -- What a server has carried, from its clause.
-use Rattle.std.proofs.Common.{ℕ, inl, inr, Option, refl, sym, subst}
+use Rattle.std.proofs.Common.{◌≡◌, ℕ, inl, inr, Option, None, Some, refl, sym, subst}
 use Rattle.type_tables.specs.declared.declared.ServiceId.{ServiceId}
 use Rattle.type_tables.specs.Declarations.{Declarations}
 use Rattle.gate_hub.specs.Meaning.{Meaning}
@@ -11,8 +11,12 @@ use Rattle.session_judge.specs.Rules.{rules_of}
 use Rattle.proxy_server.specs.Serving.{IsFresh}
 use Rattle.proxy_server.specs.Steps.{Outside, Serves}
 use Rattle.gate_words.specs.declared.options.Declared.{Declared}
+use Rattle.gate_words.specs.declared.peers.Sides.{Sides}
 use Rattle.gate_words.specs.declared.serving.Serving.{Serving}
 use Rattle.gate_run.specs.Outcome.{Streams}
+use Rattle.gate_words.specs.declared.peers.Front.{Front}
+use Rattle.gate_run.specs.Posts.{ServesByFront}
+use Rattle.gate_run.specs.Peers.{ServesBySides}
 use Rattle.gate_run.specs.Serving.{ServesAll, Began, NotBegun, NoMemory, started_by, setting_by, settings, served_from}
 use Rattle.gate_run.specs.declared.start.NoStart.{NoStart}
 use Rattle.gate_run.specs.declared.status.Ending.{Ending}
@@ -20,7 +24,7 @@ use Rattle.gate_run.specs.Starting.{Holds, Starting, Goes, Stops}
 use Rattle.session_laws.specs.Serving.{CarriesAll}
 use Rattle.stream_laws.specs.Sessions.{IsUntouched, CarriesMessages}
 
-fresh : (s : Serving) (m n : Meaning) → IsUntouched m → StartLeads (started_by s) began.Done m n → IsFresh n
+pub fresh : (s : Serving) (m n : Meaning) → IsUntouched m → StartLeads (started_by s) began.Done m n → IsFresh n
 fresh s m n before e = subst (λ (x : Meaning). IsFresh x) (sym e) (record { started = refl; unasked = before.unstarted.1; none = before.none })
 
 -- the law of a server of these sessions
@@ -50,3 +54,13 @@ pub then : (told : Option Holds) (words : Declared) (before now : ℕ) (P Q : De
     → Starting told words before now P Else → Starting told words before now Q Else
 then told words before now P Q Else on (Goes start known cause p) = Goes start known cause (on start.schema start.service p)
 then told words before now P Q Else on (Stops stop known cause halts) = Stops stop known cause halts
+
+-- what a server does by its words, where this is its front
+pub of_front : {H : Type 0} (tells : H → Meaning → Type 0) (counts : H → Counts) (s : Serving) (d : Declarations) (service : Option ServiceId) (h h' : H) (a b : Streams) (ending : Ending) (found : Front) → s.front ≡ found
+    → ServesByFront s.front tells counts s d service h h' a b ending → ServesByFront found tells counts s d service h h' a b ending
+of_front tells counts s d service h h' a b ending found is serves = subst (λ (o : Front). ServesByFront o tells counts s d service h h' a b ending) is serves
+
+-- what a server does by its words, where these are its sides without frames
+pub of_sides : {H : Type 0} (tells : H → Meaning → Type 0) (counts : H → Counts) (s : Serving) (d : Declarations) (service : Option ServiceId) (h h' : H) (a b : Streams) (ending : Ending) (found : Option Sides) → s.unframed ≡ found
+    → ServesBySides s.unframed tells counts s d service h h' a b ending → ServesBySides found tells counts s d service h h' a b ending
+of_sides tells counts s d service h h' a b ending found is serves = subst (λ (o : Option Sides). ServesBySides o tells counts s d service h h' a b ending) is serves

@@ -1,12 +1,12 @@
 -- The numbers of a server's words lie in their ranges.
-use Rattle.std.proofs.Common.{◌≡◌, ℕ, ◌<◌, ◌≤◌, ◌^◌, List, [], ◌∷◌, Bool, true, false, ◌&&◌, Option, None, Some, refl, subst, arith}
-use Rattle.std.specs.Prelude.{IfSome, is_some, nat_lt, if◌then◌else◌, codes}
+use Rattle.std.proofs.Common.{◌≡◌, ℕ, ◌<◌, ◌≤◌, ◌^◌, List, [], ◌∷◌, Bool, true, false, ◌&&◌, ◌||◌, Option, None, Some, refl, subst, arith}
+use Rattle.std.specs.Prelude.{IfSome, is_some, is_none, nat_lt, if◌then◌else◌, codes}
 use Rattle.std.proofs.lemmas.Bool.Decides.{nat_tests}
 use Rattle.protocol_traits.specs.declared.proto.Proto.{Proto}
 use Rattle.decimal_words.specs.Addresses.{is_address}
-use Rattle.gate_words.specs.Commands.{command, check_of, convert_of, convert_between, converted, show_of, show_from, shown, drill_of, drill_as, help_of}
+use Rattle.gate_words.specs.Commands.{command, check_of, convert_of, convert_between, converted, show_of, show_from, shown, conform_of, conform_from, conformed, drill_of, drill_as, help_of}
 use Rattle.decimal_words.specs.Numbers.{number_of, within}
-use Rattle.gate_words.specs.Options.{no_options, set_limit, limit_of, set_sessions, set_accept, set_events, set_calls, with_server_option, with_option, and_then, options_of, is_server_alone}
+use Rattle.gate_words.specs.Options.{no_options, set_limit, limit_of, set_sessions, set_accept, set_events, set_calls, set_unframed, set_front, with_server_option, with_peers, with_option, and_then, options_of, is_server_alone}
 use Rattle.gate_words.specs.Protos.{proto_of}
 use Rattle.decimal_words.specs.Same.{is}
 use Rattle.gate_words.specs.Same.{is_empty, or_else}
@@ -14,6 +14,8 @@ use Rattle.gate_words.specs.Serving.{serve_of, serve_between, serve_at, served}
 use Rattle.gate_words.specs.declared.command.Command.TheVariants as commands
 use Rattle.gate_words.specs.declared.options.Declared.{Declared}
 use Rattle.gate_words.specs.declared.options.Options.{Options}
+use Rattle.gate_words.specs.declared.peers.Sides.{Sides}
+use Rattle.gate_words.specs.declared.peers.Front.{Front}
 use Rattle.gate_words.specs.declared.serving.Serving.{Serving}
 
 by_test : {X : Type 0} (P : Type 0) (b : Bool) (x y : Option X) (v : X) → (x ≡ Some v → P) → (y ≡ Some v → P) → (if b then x else y) ≡ Some v → P
@@ -34,14 +36,17 @@ within_is low high (Some k) n e = by_tests (nat_lt k low) (nat_lt high k) refl r
 
 -- ---- options
 
+abbrev IsLimit : ℕ → Type 0
+IsLimit n = (0 < n) × (n < 2 ^ 31)
+
 -- the limit and the number of calls, where they are given
 abbrev IsBounded : Options → Type 0
-IsBounded o = IfSome o.limit (λ n. n < 2 ^ 31) × IfSome o.calls (λ n. 0 < n)
+IsBounded o = IfSome o.limit IsLimit × IfSome o.calls (λ n. 0 < n)
 
 some_same : (a b : Options) → Some a ≡ Some b → IsBounded a → IsBounded b
 some_same a b e p = let same : a ≡ b = cc in subst IsBounded same p
 
-limited : (o new : Options) (found : Option ℕ) → ((n : ℕ) → found ≡ Some n → n < 2 ^ 31) → set_limit o found ≡ Some new → IsBounded o → IsBounded new
+limited : (o new : Options) (found : Option ℕ) → ((n : ℕ) → found ≡ Some n → IsLimit n) → set_limit o found ≡ Some new → IsBounded o → IsBounded new
 limited o new None small e p = absurd (cc)
 limited o new (Some n) small e p = some_same (record o { limit = Some n }) new e (small n refl, p.1)
 
@@ -61,24 +66,36 @@ called : (o new : Options) (found : Option ℕ) → ((n : ℕ) → found ≡ Som
 called o new None some e p = absurd (cc)
 called o new (Some n) some e p = some_same (record o { calls = Some n }) new e (p.0, some n refl)
 
+wrapped : (o new : Options) (found : Option Sides) → set_unframed o found ≡ Some new → IsBounded o → IsBounded new
+wrapped o new None e p = absurd (cc)
+wrapped o new (Some sides) e p = some_same (record o { unframed = Some sides }) new e p
+
+fronted : (o new : Options) (found : Option Front) → set_front o found ≡ Some new → IsBounded o → IsBounded new
+fronted o new None e p = absurd (cc)
+fronted o new (Some front) e p = some_same (record o { front = Some front }) new e p
+
 one_option : (o new : Options) (name value : List ℕ) → with_option o name value ≡ Some new → IsBounded o → IsBounded new
-unfolding with_option with_server_option limit_of
+unfolding with_option with_server_option with_peers limit_of
 one_option o new name value e p =
     by_test (IsBounded new) (is name (codes "--idl")) _ _ new
     (by_test (IsBounded new) _ None _ new (none_is new) (λ f. some_same (record o { idl = Some value }) new f p))
     (by_test (IsBounded new) (is name (codes "--service")) _ _ new
     (by_test (IsBounded new) _ None _ new (none_is new) (λ f. some_same (record o { service = Some value }) new f p))
     (by_test (IsBounded new) (is name (codes "--limit")) _ _ new
-    (by_test (IsBounded new) (is_some o.limit) None _ new (none_is new) (λ f. limited o new (limit_of value) (λ n g. omega (arith, (within_is _ _ (number_of value) n g).1)) f p))
+    (by_test (IsBounded new) (is_some o.limit) None _ new (none_is new) (λ f. limited o new (limit_of value) (λ n g. (omega (arith, (within_is _ _ (number_of value) n g).0), omega (arith, (within_is _ _ (number_of value) n g).1))) f p))
     (by_test (IsBounded new) (is name (codes "--sessions")) _ _ new
     (by_test (IsBounded new) (is_some o.sessions) None _ new (none_is new) (λ f. numbered o new _ f p))
     (by_test (IsBounded new) (is name (codes "--accept")) _ _ new
     (by_test (IsBounded new) (is_some o.accept) None _ new (none_is new) (λ f. accepted o new _ f p))
     (by_test (IsBounded new) (is name (codes "--events")) _ _ new
     (by_test (IsBounded new) (is_some o.events) None _ new (none_is new) (λ f. spent o new _ f p))
-    (by_test (IsBounded new) (is name (codes "--calls")) _ None new
+    (by_test (IsBounded new) (is name (codes "--calls")) _ _ new
     (by_test (IsBounded new) (is_some o.calls) None _ new (none_is new) (λ f. called o new _ (λ n g. omega (arith, (within_is _ _ (number_of value) n g).0)) f p))
-    (none_is new))))))) e
+    (by_test (IsBounded new) (is name (codes "--unframed")) _ _ new
+    (by_test (IsBounded new) (is_some o.unframed) None _ new (none_is new) (λ f. wrapped o new _ f p))
+    (by_test (IsBounded new) (is name (codes "--front")) _ None new
+    (by_test (IsBounded new) (is_some o.front) None _ new (none_is new) (λ f. fronted o new _ f p))
+    (none_is new))))))))) e
 
 all_options : (words : List (List ℕ)) (o new : Options) → options_of o words ≡ Some new → IsBounded o → IsBounded new
 all_options [] o new e p = some_same o new e p
@@ -93,7 +110,7 @@ all_options (name ∷ value ∷ rest) o new e p = by_one (with_option o name val
 -- ---- the command
 
 abbrev pub IsSmall : Serving → Type 0
-IsSmall s = (s.limit < 2 ^ 31) × (0 < s.calls)
+IsSmall s = IsLimit s.limit × (0 < s.calls)
 
 or_bounded : (P : ℕ → Type 0) (default : ℕ) (o : Option ℕ) → P default → IfSome o P → P (or_else default o)
 or_bounded P default None d p = d
@@ -107,7 +124,7 @@ served_small : (client upstream : Proto) (listen target : List ℕ) (found : Opt
 served_small client upstream listen target None s d p e = absurd (cc)
 served_small client upstream listen target (Some o) s d p e =
     by_test (IsSmall s) _ _ None (commands.Serve s d)
-    (λ f. subst IsSmall (serving_is _ s _ d f) (or_bounded (λ n. n < 2 ^ 31) _ o.limit (omega arith) p.0, or_bounded (λ n. 0 < n) _ o.calls (omega arith) p.1))
+    (λ f. subst IsSmall (serving_is _ s _ d f) (or_bounded IsLimit _ o.limit (omega arith, omega arith) p.0, or_bounded (λ n. 0 < n) _ o.calls (omega arith) p.1))
     (none_is (commands.Serve s d)) e
 
 bounded_options : (words : List (List ℕ)) (found : Option Options) → options_of no_options words ≡ found → IfSome found IsBounded
@@ -164,6 +181,18 @@ module _ (s : Serving) (d : Declared) where
   no_showing [] e = absurd (cc)
   no_showing (from ∷ rest) e = not_shown (proto_of from) rest e
 
+  not_conformed : (from : Option Proto) (words : List (List ℕ)) → conform_from from words ≡ Some (commands.Serve s d) → IsSmall s
+  not_conformed None words e = absurd (cc)
+  not_conformed (Some from) words e = by_options (options_of no_options words) e
+    where
+      by_options : (found : Option Options) → conformed from found ≡ Some (commands.Serve s d) → IsSmall s
+      by_options None f = absurd (cc)
+      by_options (Some o) f = by_test (IsSmall s) (is_server_alone o || is_none o.idl) None _ (commands.Serve s d) (none_is (commands.Serve s d)) (λ g. absurd (cc)) f
+
+  no_conforming : (words : List (List ℕ)) → conform_of words ≡ Some (commands.Serve s d) → IsSmall s
+  no_conforming [] e = absurd (cc)
+  no_conforming (from ∷ rest) e = not_conformed (proto_of from) rest e
+
   not_drilled : (seed count : Option ℕ) → drill_as seed count ≡ Some (commands.Serve s d) → IsSmall s
   not_drilled (Some seed) (Some count) e = absurd (cc)
   not_drilled None count e = absurd (cc)
@@ -179,7 +208,7 @@ module _ (s : Serving) (d : Declared) where
   no_help [] e = absurd (cc)
   no_help (more ∷ rest) e = absurd (cc)
 
-  -- a server's limit is below 2 ^ 31, and a call may be open
+  -- a server's limit is at least 1 and below 2 ^ 31, and a call may be open
   pub small_server : (words : List (List ℕ)) → command words ≡ Some (commands.Serve s d) → IsSmall s
   unfolding command
   small_server [] e = absurd (cc)
@@ -189,5 +218,6 @@ module _ (s : Serving) (d : Declared) where
       (by_test (IsSmall s) (is name (codes "convert")) _ _ it (no_conversion rest)
       (by_test (IsSmall s) (is name (codes "serve")) _ _ it (serve_small rest s d)
       (by_test (IsSmall s) (is name (codes "show")) _ _ it (no_showing rest)
+      (by_test (IsSmall s) (is name (codes "conform")) _ _ it (no_conforming rest)
       (by_test (IsSmall s) (is name (codes "drill")) _ _ it (no_drill rest)
-      (by_test (IsSmall s) (is name (codes "help")) _ None it (no_help rest) (none_is it)))))) e
+      (by_test (IsSmall s) (is name (codes "help")) _ None it (no_help rest) (none_is it))))))) e

@@ -1,5 +1,5 @@
--- What a stream that is converted or shown gives in the words of the grammars: what is written of each frame, and what is reported.
-use Rattle.std.specs.Prelude.{⊤, ◌≡◌, ℕ, ◌+◌, List, [], ◌∷◌, ◌++◌, length}
+-- What a stream that is converted, shown or checked gives in the words of the grammars: what is written of each frame, and what is reported.
+use Rattle.std.specs.Prelude.{⊤, ◌≡◌, ℕ, ◌+◌, List, [], ◌∷◌, ◌++◌, length, Some}
 use Rattle.std.specs.Io.KnownBytes.{Appends, Consumes, IsAtEnd}
 use Rattle.thrift_value.specs.Trees.{Message}
 use Rattle.protocol_traits.specs.declared.fault.Fault.{Fault}
@@ -11,7 +11,9 @@ use Rattle.framed_transport.specs.Frames.{framed, Splits}
 use Rattle.session_laws.specs.Saying.{Passage, Spells, SpellsPlainly, IsShallow, StandsIn, FaultIn}
 use Rattle.verdict_laws.specs.Bars.{HoldsAll}
 use Rattle.show_laws.specs.Showings.{message_line}
-use Rattle.gate_run.specs.Lines.{refusal_text}
+use Rattle.conform_check.specs.Checking.{Broken}
+use Rattle.conform_laws.specs.Checkings.{MessageMeets, first_breach}
+use Rattle.gate_run.specs.Lines.{refusal_text, meets_text, breach_line}
 use Rattle.gate_run.specs.Outcome.{Streams, IsTooLargeOrAtEnd}
 use Rattle.gate_run.specs.Progress.{IsStreamLine}
 use Rattle.gate_run.specs.Terms.{Terms}
@@ -33,6 +35,13 @@ pub data IsConverted (p : Passage) (number : ℕ) (frame out line : List ℕ) : 
 pub data IsListed (k : Terms) (p : Passage) (number : ℕ) (frame out line : List ℕ) : Type 0 where
   HasLine : (m : Message) → Spells p p.from m frame → IsShallow m → out ≡ message_line k.declarations k.service m → line ≡ [] → IsListed k p number frame out line
   HasFault : (f : Fault) → FaultIn p frame f → out ≡ [] → line ≡ refusal_text number f.place (reason_text f.reason) → IsListed k p number frame out line
+
+-- That its message meets what is declared of it is written; or the first way in which it doesn't is reported, or the fault.
+pub data IsConformed (k : Terms) (p : Passage) (number : ℕ) (frame out line : List ℕ) : Type 0 where
+  IsMet : (m : Message) → Spells p p.from m frame → IsShallow m → MessageMeets k.declarations k.service m → out ≡ meets_text number → line ≡ [] → IsConformed k p number frame out line
+  IsBroken : (m : Message) (b : Broken) → Spells p p.from m frame → IsShallow m → (MessageMeets k.declarations k.service m → ⊥) → first_breach k.declarations k.service m ≡ Some b
+      → out ≡ [] → line ≡ breach_line number b → IsConformed k p number frame out line
+  IsFaulty : (f : Fault) → FaultIn p frame f → out ≡ [] → line ≡ refusal_text number f.place (reason_text f.reason) → IsConformed k p number frame out line
 
 -- these are written and reported of the frames, one after another, behind so many
 abbrev pub GiveInOrder : (ℕ → List ℕ → List ℕ → List ℕ → Type 0) → ℕ → List (List ℕ) → List ℕ → List ℕ → Type 0

@@ -1,6 +1,9 @@
-use Rattle.std.proofs.Common.{◌≡◌, Some, None, inl, refl}
+use Rattle.std.proofs.Common.{◌≡◌, Option, Some, None, false, inl, refl, subst}
 use Rattle.gate_words.specs.Commands.{command}
+use Rattle.gate_words.specs.declared.command.Command.{Command}
 use Rattle.gate_words.specs.declared.command.Command.TheVariants as commands
+use Rattle.gate_run.specs.Peers.{is_unframed}
+use Rattle.gate_run.specs.Posts.{has_posts}
 use Rattle.gate_run.proofs.Faults.{checked_faults, stream_faults, server_faults, by_code}
 use Rattle.gate_run.proofs.Starts.{unread}
 use Rattle.gate_run.proofs.commands.run.Goals as goal
@@ -35,6 +38,15 @@ pub returns-in-Ok-Some-Show-clause-no_file_fault : goal.returns-in-Ok-Some-Show-
 returns-in-Ok-Some-Show-clause-no_file_fault g c =
     by_code _ c.start_stream-in-Ok-Some-Show.result _ _ c.status-in-Ok-Some-Show.ensures (stream_faults c.start_stream-in-Ok-Some-Show.ensures.streamed)
 
+pub returns-in-Ok-Some-Conform-clause-does : goal.returns-in-Ok-Some-Conform-clause-does
+returns-in-Ok-Some-Conform-clause-does g c =
+    let named : Some (commands.Conform c.in-Ok-Some-Conform.k c.in-Ok-Some-Conform.declared) ≡ command c.args.words.now = cc (c.in-Ok-Some-Conform.ensures.value) in
+    rw (← named) (c.start_stream-in-Ok-Some-Conform.result, c.status-in-Ok-Some-Conform.ensures, c.start_stream-in-Ok-Some-Conform.ensures.streamed)
+
+pub returns-in-Ok-Some-Conform-clause-no_file_fault : goal.returns-in-Ok-Some-Conform-clause-no_file_fault
+returns-in-Ok-Some-Conform-clause-no_file_fault g c =
+    by_code _ c.start_stream-in-Ok-Some-Conform.result _ _ c.status-in-Ok-Some-Conform.ensures (stream_faults c.start_stream-in-Ok-Some-Conform.ensures.streamed)
+
 pub returns-in-Ok-Some-Serve-clause-does : goal.returns-in-Ok-Some-Serve-clause-does
 returns-in-Ok-Some-Serve-clause-does g c =
     let named : Some (commands.Serve c.in-Ok-Some-Serve.serving c.in-Ok-Some-Serve.declared) ≡ command c.args.words.now = cc (c.in-Ok-Some-Serve.ensures.value) in
@@ -47,6 +59,17 @@ returns-in-Ok-Some-Serve-clause-does g c =
 pub returns-in-Ok-Some-Serve-clause-no_file_fault : goal.returns-in-Ok-Some-Serve-clause-no_file_fault
 returns-in-Ok-Some-Serve-clause-no_file_fault g c =
     by_code _ c.start_server.result _ _ c.status-in-Ok-Some-Serve.ensures (server_faults (c.start_server.ensures.serves (g.I.Source.left c.args.input.now) (g.I.Source.faults c.args.input.now)))
+
+pub returns-in-Ok-Some-Serve-clause-hub_waits : goal.returns-in-Ok-Some-Serve-clause-hub_waits
+returns-in-Ok-Some-Serve-clause-hub_waits g c =
+    let named : command c.args.words.now ≡ Some (commands.Serve c.in-Ok-Some-Serve.serving c.in-Ok-Some-Serve.declared) = cc (c.in-Ok-Some-Serve.ensures.value) in
+    λ front. c.start_server.ensures.hub_waits (subst (λ (o : Option Command). has_posts o ≡ false) named front)
+
+pub returns-in-Ok-Some-Serve-clause-hub_links : goal.returns-in-Ok-Some-Serve-clause-hub_links
+returns-in-Ok-Some-Serve-clause-hub_links g c =
+    let named : command c.args.words.now ≡ Some (commands.Serve c.in-Ok-Some-Serve.serving c.in-Ok-Some-Serve.declared) = cc (c.in-Ok-Some-Serve.ensures.value) in
+    λ front framed.
+    c.start_server.ensures.hub_links (subst (λ (o : Option Command). has_posts o ≡ false) named front) (subst (λ (o : Option Command). is_unframed o ≡ false) named framed)
 
 pub returns-in-Ok-Some-Drill-clause-does : goal.returns-in-Ok-Some-Drill-clause-does
 returns-in-Ok-Some-Drill-clause-does g c =

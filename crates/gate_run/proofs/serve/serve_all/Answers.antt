@@ -1,13 +1,14 @@
-use Rattle.std.proofs.Common.{refl}
-use Rattle.gate_run.specs.Serving.{Began}
+use Rattle.std.proofs.Common.{◌≡◌, rules}
+use Rattle.gate_words.specs.declared.peers.Front.TheVariants as fronts
+use Rattle.gate_run.proofs.Posting.{by_front}
 use Rattle.gate_run.proofs.serve.serve_all.Goals as goal
 
-pub returns-in-Done-clause-serves : goal.returns-in-Done-clause-serves
-returns-in-Done-clause-serves g c = λ left input.
-    let leads = c.in-Done.ensures.leads in
-    Began c.start.new.self c.serve_started-served.result refl c.start.ensures.later
-    (rw (c.as_slice-listen.ensures, c.as_slice-target.ensures) at leads)
-    c.serve_started-served.ensures.serves
-    (c.end.ensures.ends left (g.O.Sink.written c.args.output.now) (g.O.Sink.written c.serve_started-served.new.output)
-    input (g.O.Sink.faults c.args.output.now) (g.O.Sink.faults c.serve_started-served.new.output)
-    (g.H.Hub.counts c.start.new.self).faults (g.H.Hub.counts c.serve_started-served.new.hub).faults c.serve_started-served.ensures.hub_fault)
+pub returns-in-Framed-clause-serves : goal.returns-in-Framed-clause-serves
+returns-in-Framed-clause-serves g c = λ left input.
+    let is : fronts.Framed ≡ c.args.serving.now.front = search rules in
+    by_front g.H.Hub.tells g.H.Hub.counts c.args.serving.now c.args.start.now.schema c.args.start.now.service c.args.hub.now _ _ _ c.serve_peers.result fronts.Framed is (c.serve_peers.ensures.serves left input)
+
+pub returns-in-Http-clause-serves : goal.returns-in-Http-clause-serves
+returns-in-Http-clause-serves g c = λ left input.
+    let is : fronts.Http ≡ c.args.serving.now.front = search rules in
+    by_front g.H.Hub.tells g.H.Hub.counts c.args.serving.now c.args.start.now.schema c.args.start.now.service c.args.hub.now _ _ _ c.serve_posts.result fronts.Http is (c.serve_posts.ensures.serves left input)

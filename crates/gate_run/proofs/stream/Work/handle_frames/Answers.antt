@@ -80,7 +80,7 @@ returns-in-Err-handle-clause-handled g c = λ left.
     let mid = moment c.frames.self left (g.O.Sink.written c.make_room.new.output) (g.E.Sink.written c.make_room.new.report) in
     one_broken c.args.task.now _ mid _ c.make_room.new.page.out.bytes c.make_room.new.lines.bytes c.in-Frame.frame.now c.in-Frame.ensures.exact.0
     (waits_roomy c.args.task.now _ (moment c.frames.self left (g.O.Sink.written c.frames.output) (g.E.Sink.written c.frames.report)) mid c.frames.self.page.out.bytes c.make_room.new.page.out.bytes c.frames.self.lines.bytes c.make_room.new.lines.bytes (i.waits left) refl refl refl refl refl c.in-Ok.ensures.made)
-    cut refl refl c.handle.ensures.front
+    cut refl refl c.in-Err-handle.ensures.handled
 
 pub frames-smaller : goal.frames-smaller
 frames-smaller g c =
@@ -102,6 +102,7 @@ frames-preserved g c =
         limit_is = ap (λ (h : Held). h.limit) c.drop_frame.ensures ∙ i.ready.limit_is;
         page = c.handle.ensures.roomy k.limit (subst (λ (n : ℕ). IsRoomy k.doing k.limit n) (sym c.make_room.ensures.room) i.ready.page);
         lines = c.handle.ensures.lines_room ∙ (c.make_room.ensures.lines_room ∙ i.ready.lines);
+        handler = c.handle.ensures.handler;
         counted = omega (arith, i.ready.counted, ap length e, framed_longer c.args.task.now.limit c.in-Frame.frame.now c.in-Frame.ensures.exact.0 c.frames.self.frames.held cut);
         taken = i.ready.taken;
       };
@@ -109,8 +110,8 @@ frames-preserved g c =
           let mid = moment c.frames.self left (g.O.Sink.written c.make_room.new.output) (g.E.Sink.written c.make_room.new.report) in
           waits_one k _ mid _ c.make_room.new.page.out.bytes c.make_room.new.lines.bytes _ _ frame rest
           (waits_roomy k _ (moment c.frames.self left (g.O.Sink.written c.frames.output) (g.E.Sink.written c.frames.report)) mid c.frames.self.page.out.bytes c.make_room.new.page.out.bytes c.frames.self.lines.bytes c.make_room.new.lines.bytes (i.waits left) refl refl refl refl refl c.in-Ok.ensures.made)
-          cut e refl c.in-Ok-handle.ensures.gathered refl refl refl (ap (λ t. c.frames.self.refused || not t) c.in-Ok-handle.ensures.passed)
-          (ap (λ (b : Buffer). b.bytes) c.in-Ok-handle.ensures.reported);
+          cut e refl c.in-Ok-handle.ensures.handled.1 refl refl refl (ap (λ t. c.frames.self.refused || not t) c.in-Ok-handle.ensures.handled.0)
+          (ap (λ (b : Buffer). b.bytes) c.in-Ok-handle.ensures.handled.2);
       later = omega (arith, i.later, c.make_room.ensures.later, c.handle.ensures.later);
       report_later = omega (arith, i.report_later, c.make_room.ensures.report_later);
     }
