@@ -1,5 +1,5 @@
 -- The counts of the front.
-use Rattle.std.proofs.Common.{◌≡◌, ℕ, ◌+◌, ◌-◌, ◌^◌, ◌≤◌, min, arith}
+use Rattle.std.proofs.Common.{ℕ, ◌+◌, ◌-◌, ◌^◌, ◌≤◌, arith}
 use Rattle.gate_base.specs.Causes.{Rose, one_more}
 use Rattle.gate_hub.specs.Hubs.{Counts, Later}
 use Rattle.gate_hub.specs.declared.hub.Side.{Side}

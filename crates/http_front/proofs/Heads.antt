@@ -1,9 +1,9 @@
 -- A head at the front of what is held, by what is read of the first bytes.
-use Rattle.std.proofs.Common.{◌≡◌, ◌≢◌, ℕ, zero, suc, ◌+◌, ◌-◌, ◌*◌, ◌≤◌, ◌<◌, ◌⊎◌, inl, inr, List, [], ◌∷◌, ◌++◌, length, take, drop, min, map, Bool, true, false, true≢false, Option, Some, None, Result, Ok, Err, ap, sym, ◌∙◌, subst, refl, arith, append_assoc, length-append, length-take, ◌&&◌, if◌then◌else◌, ◌==◌, leb-true, eqb-true, eq-eqb}
+use Rattle.std.proofs.Common.{◌≡◌, ◌≢◌, ℕ, ◌+◌, ◌-◌, ◌*◌, ◌≤◌, ◌<◌, ◌⊎◌, inl, inr, List, [], ◌∷◌, ◌++◌, length, take, drop, min, map, Bool, true, false, true≢false, Some, None, Result, Err, ap, sym, ◌∙◌, subst, refl, arith, append_assoc, length-append, length-take, ◌&&◌, if◌then◌else◌, ◌==◌, leb-true, eqb-true, eq-eqb}
 use Rattle.std.specs.Str.Parse.{digits_value}
 use Rattle.std.proofs.lemmas.Bool.{cases_lt}
 use Rattle.std.proofs.lemmas.Option.{same_Some}
-use Rattle.std.proofs.lemmas.List.{take-append-drop, take_all, take_at, drop_at}
+use Rattle.std.proofs.lemmas.List.{take-append-drop, take_all, drop_at}
 use Rattle.std.proofs.Math.Seq.{take-append-add}
 use Rattle.httparse.specs.declared.spans.HeaderSpan.{HeaderSpan}
 use Rattle.httparse.specs.declared.spans.RequestSpans.{RequestSpans}
@@ -12,10 +12,10 @@ use Rattle.httparse.specs.declared.Status.{Status}
 use Rattle.httparse.specs.declared.Error.{Error}
 use Rattle.httparse.specs.declared.Error.TheVariants.{TooManyHeaders}
 use Rattle.httparse.specs.Ascii.{space, colon}
-use Rattle.httparse.specs.Spans.{IsRequestAt, RequestExceeds, header_bytes, span_bytes, name_and_value}
-use Rattle.httparse.specs.Grammar.{LineEnd, crlf, lf, print_end, print_blank, print_version, print_section, Field, print_field, RequestHead, IsRequestHead, print_request, ReadsRequest, HasNoRequest, NeverHasRequest, MayBecomeRequest}
+use Rattle.httparse.specs.Spans.{IsRequestAt, RequestExceeds, header_bytes, span_bytes}
+use Rattle.httparse.specs.Grammar.{LineEnd, crlf, lf, print_end, print_blank, print_version, print_section, Field, print_field, RequestHead, print_request, ReadsRequest, HasNoRequest, NeverHasRequest}
 use Rattle.http_front.specs.Heads.{head_limit, length_within, told_length, body_by, body_length, ends_by, is_last, fields_of}
-use Rattle.http_front.specs.Posts.{IsGood, IsBad, Refused, Hopeless, TooLong}
+use Rattle.http_front.specs.Posts.{IsBad, Refused, Hopeless, TooLong}
 use Rattle.http_front.specs.Reading.{IsRefused, ReadsHead, ReadsFront, FindsHead, part_of}
 use Rattle.http_front.specs.declared.head.Head.{Head}
 use Rattle.http_front.specs.declared.head.Head.TheVariants as heads
@@ -148,6 +148,20 @@ head_long h = omega (
   length-append (print_blank h.blank ++ h.method ++ space ∷ h.target ++ space ∷ print_version h.minor ++ print_end h.line_end) (print_section h.fields h.last),
   length-append (flat_map print_field h.fields) (print_end h.last),
 )
+
+-- a head isn't empty
+pub head_some : (h : RequestHead) → 0 < length (print_request h)
+unfolding print_request
+head_some h = omega (
+  arith,
+  end_some h.last,
+  length-append (print_blank h.blank ++ h.method ++ space ∷ h.target ++ space ∷ print_version h.minor ++ print_end h.line_end) (print_section h.fields h.last),
+  length-append (flat_map print_field h.fields) (print_end h.last),
+)
+  where
+    end_some : (end : LineEnd) → 1 ≤ length (print_end end)
+    end_some crlf = omega arith
+    end_some lf = omega arith
 
 pub few_fields : (bytes : List ℕ) → length bytes ≤ head_limit → RequestExceeds 4096 bytes → ⊥
 few_fields bytes short (front, after, cut, h, reads, over) =

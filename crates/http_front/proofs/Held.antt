@@ -1,5 +1,5 @@
 -- What is read is held.
-use Rattle.std.proofs.Common.{◌≡◌, ℕ, ◌≤◌, List, ◌++◌, length, take, min, ap, sym, ◌∙◌, arith, length-take}
+use Rattle.std.proofs.Common.{◌≡◌, ℕ, ◌≤◌, List, ◌++◌, length, take, min, ap, ◌∙◌, arith, length-take}
 use Rattle.http_front.specs.Fronts.{Front}
 
 -- a piece more is held

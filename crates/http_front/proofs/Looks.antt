@@ -1,5 +1,5 @@
 -- Where no head can be whole.
-use Rattle.std.proofs.Common.{◌≡◌, ◌≢◌, ℕ, zero, suc, ◌+◌, ◌≤◌, ◌<◌, List, [], ◌∷◌, ◌++◌, length, take, drop, ◌-◌, Bool, true, false, true≢false, if◌then◌else◌, ◌==◌, ◌||◌, ap, sym, ◌∙◌, subst, refl, arith, append_assoc, eqb-true, slice_index_or}
+use Rattle.std.proofs.Common.{◌≡◌, ℕ, zero, suc, ◌+◌, ◌≤◌, ◌<◌, List, [], ◌∷◌, ◌++◌, length, take, drop, ◌-◌, Bool, true, false, true≢false, if◌then◌else◌, ◌==◌, ◌||◌, ap, sym, ◌∙◌, subst, refl, arith, eqb-true, slice_index_or}
 use Rattle.std.specs.List.{flat_map}
 use Rattle.httparse.specs.Ascii.{line_feed, carriage_return, space, colon}
 use Rattle.httparse.specs.Grammar.{LineEnd, crlf, lf, print_end, print_blank, Field, print_field, print_section, RequestHead, IsRequestHead, print_request, ReadsRequest, HasNoRequest, is_token_byte, print_version}

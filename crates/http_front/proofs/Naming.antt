@@ -1,11 +1,11 @@
 -- Fields by their names, and the options of lists.
-use Rattle.std.proofs.Common.{◌≡◌, ℕ, zero, suc, ◌+◌, ◌≤◌, ◌<◌, List, [], ◌∷◌, ◌++◌, length, take, drop, map, Bool, true, false, ◌||◌, ◌&&◌, cond, if◌then◌else◌, Option, Some, None, ap, sym, ◌∙◌, subst, refl, arith, true≢false, nat_eq, nat_lt, not, nat_le, ◌*◌, ltb-true, ltb-false, leb-true}
-use Rattle.std.specs.List.{list_any, list_all, position, position_or_len, slice_split, onto_first, before_first, after_first}
+use Rattle.std.proofs.Common.{◌≡◌, ℕ, ◌+◌, ◌≤◌, ◌<◌, List, [], ◌∷◌, length, take, drop, Bool, true, false, ◌||◌, ◌&&◌, cond, if◌then◌else◌, Some, None, ap, sym, ◌∙◌, subst, refl, arith, nat_lt, not, nat_le, ◌*◌, ltb-true, ltb-false, leb-true}
+use Rattle.std.specs.List.{list_any, position, position_or_len, slice_split, onto_first}
 use Rattle.std.proofs.lemmas.List.Splits.{slice_split_first, slice_split-cons_no}
 use Rattle.std.proofs.lemmas.Option.{cond_some}
 use Rattle.std.specs.Str.Parse.{digits_value_after}
 use Rattle.std.specs.Char.{digit_value}
-use Rattle.http_front.specs.Heads.{same_word, values, is_separator, has_option}
+use Rattle.http_front.specs.Heads.{same_word, values}
 use Rattle.http_front.specs.Reading.{AreValues}
 use Rattle.http_front.specs.declared.fields.Values.{Values}
 use Rattle.http_front.specs.declared.fields.Values.TheVariants as some

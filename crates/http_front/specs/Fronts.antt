@@ -1,10 +1,9 @@
 -- A session's front: what it holds, and what it stands for.
-use Rattle.std.specs.Prelude.{◌≡◌, ◌≢◌, ℕ, ⊤, ◌+◌, ◌-◌, ◌^◌, ◌<◌, ◌≤◌, ◌⊎◌, List, [], ◌∷◌, ◌++◌, length, take, drop, min, Bool, true, false, Option, Some, None, All, nat_lt, ◌==◌, if◌then◌else◌}
+use Rattle.std.specs.Prelude.{◌≡◌, ◌≢◌, ℕ, ⊤, ◌+◌, ◌-◌, ◌^◌, ◌<◌, ◌≤◌, List, [], ◌∷◌, ◌++◌, length, take, drop, Bool, true, false, Option, Some, None, All, nat_lt, ◌==◌, ◌||◌, not, if◌then◌else◌}
 use Rattle.std.specs.List.{flat_map}
-use Rattle.std.specs.Int.{to_be_bytes, w32}
+use Rattle.std.specs.Int.{to_be_bytes, from_be_bytes, w32}
 use Rattle.framed_transport.specs.Frames.{framed}
-use Rattle.gate_hub.specs.Meaning.{Link}
-use Rattle.httparse.specs.Grammar.{RequestHead, print_request, ReadsRequest, HasNoRequest}
+use Rattle.httparse.specs.Grammar.{RequestHead, print_request, HasNoRequest}
 use Rattle.type_tables.specs.Declarations.{Declarations}
 use Rattle.type_tables.specs.declared.declared.ServiceId.{ServiceId}
 use Rattle.protocol_traits.specs.declared.proto.Proto.{Proto}
@@ -94,10 +93,6 @@ nothing = record { dropped = []; given = []; sent = []; written = [] }
 abbrev pub asked : Post → List ℕ → List ℕ → Now
 asked post sent written = record { dropped = post_bytes post; given = framed post.body; sent = sent; written = written }
 
--- the end of the response leaves so many bytes of it
-abbrev pub all_but : ℕ → List ℕ → List ℕ
-all_but left bytes = take (length bytes - left) bytes
-
 -- why nothing more is handed out: the client ended, or ended inside a request; a bad request; a request that ends the connection
 -- has its response
 pub data IsOver (r : Reading) (input : List ℕ) (ended : Bool) (now : Now) : Type 0 where
@@ -108,6 +103,16 @@ pub data IsOver (r : Reading) (input : List ℕ) (ended : Bool) (now : Now) : Ty
   Last : (e : Exchange) → IsExchange r e → is_last e.post.head ≡ true
       → now ≡ asked e.post (response (content_of e.answer)) (answer_frame e.answer) → IsOver r input ended now
 
+-- the POST is answered by the next message that is written
+pub record AwaitsAnswer (r : Reading) (post : Post) (last : Bool) : Type 0 where
+  pub post_is : IsPost r.limit post
+  pub answers : reply_in r post ≡ reply.Answer
+  pub last_is : last ≡ is_last post.head
+
+-- of an answer of so many bytes this much was written
+abbrev pub with_content : Post → ℕ → List ℕ → Now
+with_content post size content = asked post (response_head size ++ content) (to_be_bytes w32 size ++ content)
+
 -- at each stage, what went over it since the last response
 abbrev pub StandsAt : Reading → Stage → List ℕ → Bool → Now → Type 0
 StandsAt r stage.Head input ended now = now ≡ nothing
@@ -115,15 +120,14 @@ StandsAt r (stage.Body size given last) input ended now =
     (head : RequestHead) × IsGood r.limit head size × (last ≡ is_last head)
     × (now ≡ record { dropped = print_request head; given = take given (framed (take size input)); sent = []; written = [] }) × (0 < given → size ≤ length input)
 StandsAt r (stage.Answer bytes have last) input ended now =
-    (post : Post) × IsPost r.limit post × (reply_in r post ≡ reply.Answer) × (last ≡ is_last post.head)
-    × (now ≡ asked post [] (take have bytes))
-StandsAt r (stage.Content size head_left left last) input ended now =
-    (post : Post) × (content : List ℕ) × IsPost r.limit post × (reply_in r post ≡ reply.Answer) × (last ≡ is_last post.head)
-    × (length content + left ≡ size) × (0 < head_left → content ≡ [])
-    × (now ≡ asked post (all_but head_left (response_head size) ++ content) (to_be_bytes w32 size ++ content))
-StandsAt r (stage.Empty left last) input ended now =
+    (post : Post) × AwaitsAnswer r post last × (now ≡ asked post [] (take have bytes))
+StandsAt r (stage.Response size sent last) input ended now =
+    (post : Post) × AwaitsAnswer r post last × (now ≡ asked post (take sent (response_head size)) (to_be_bytes w32 size))
+StandsAt r (stage.Content left last) input ended now =
+    (post : Post) × (content : List ℕ) × AwaitsAnswer r post last × (length content + left < 2 ^ 32) × (now ≡ with_content post (length content + left) content)
+StandsAt r (stage.Empty sent last) input ended now =
     (e : Exchange) × IsExchange r e × (content_of e.answer ≡ []) × (last ≡ is_last e.post.head)
-    × (now ≡ asked e.post (all_but left (response_head 0)) (answer_frame e.answer))
+    × (now ≡ asked e.post (take sent (response_head 0)) (answer_frame e.answer))
 StandsAt r stage.Missing input ended now =
     (post : Post) × IsPost r.limit post × (reply_in r post ≡ reply.Missing) × (now ≡ asked post [] [])
 StandsAt r (stage.Mark given) input ended now =
@@ -161,8 +165,9 @@ abbrev pub IsWithin : ℕ → Stage → Type 0
 IsWithin limit stage.Head = ⊤
 IsWithin limit (stage.Body size given last) = (size ≤ limit) × (given < size + 4)
 IsWithin limit (stage.Answer bytes have last) = (have < 4) × (length bytes ≡ 4)
-IsWithin limit (stage.Content size head_left left last) = (head_left ≤ length (response_head size)) × (0 < left) × (left ≤ size) × (size < 2 ^ 32)
-IsWithin limit (stage.Empty left last) = 0 < left
+IsWithin limit (stage.Response size sent last) = (sent ≤ length (response_head size)) × (0 < size)
+IsWithin limit (stage.Content left last) = (0 < left) × (left < 2 ^ 32)
+IsWithin limit (stage.Empty sent last) = sent < length (response_head 0)
 IsWithin limit stage.Missing = ⊤
 IsWithin limit (stage.Mark given) = given < 4
 IsWithin limit stage.Early = ⊤
@@ -181,8 +186,9 @@ abbrev pub IsOpenHead : Stage → List ℕ → Type 0
 IsOpenHead stage.Head input = (length input < head_limit) × HasNoRequest input
 IsOpenHead (stage.Body size given last) input = ⊤
 IsOpenHead (stage.Answer bytes have last) input = ⊤
-IsOpenHead (stage.Content size head_left left last) input = ⊤
-IsOpenHead (stage.Empty left last) input = ⊤
+IsOpenHead (stage.Response size sent last) input = ⊤
+IsOpenHead (stage.Content left last) input = ⊤
+IsOpenHead (stage.Empty sent last) input = ⊤
 IsOpenHead stage.Missing input = ⊤
 IsOpenHead (stage.Mark given) input = ⊤
 IsOpenHead stage.Early input = ⊤
@@ -193,8 +199,9 @@ abbrev pub wanted_in : Stage → List ℕ → ℕ
 wanted_in stage.Head input = head_limit - length input
 wanted_in (stage.Body size given last) input = size - length input
 wanted_in (stage.Answer bytes have last) input = 0
-wanted_in (stage.Content size head_left left last) input = 0
-wanted_in (stage.Empty left last) input = 0
+wanted_in (stage.Response size sent last) input = 0
+wanted_in (stage.Content left last) input = 0
+wanted_in (stage.Empty sent last) input = 0
 wanted_in stage.Missing input = 0
 wanted_in (stage.Mark given) input = 0
 wanted_in stage.Early input = 0
@@ -208,8 +215,9 @@ abbrev pub ahead_in : Stage → List ℕ → ℕ → ℕ
 ahead_in stage.Head input limit = limit + 1 + (head_limit - length input)
 ahead_in (stage.Body size given last) input limit = size - length input
 ahead_in (stage.Answer bytes have last) input limit = 0
-ahead_in (stage.Content size head_left left last) input limit = 0
-ahead_in (stage.Empty left last) input limit = 0
+ahead_in (stage.Response size sent last) input limit = 0
+ahead_in (stage.Content left last) input limit = 0
+ahead_in (stage.Empty sent last) input limit = 0
 ahead_in stage.Missing input limit = 0
 ahead_in (stage.Mark given) input limit = 0
 ahead_in stage.Early input limit = 0
@@ -223,41 +231,63 @@ abbrev pub holds_back : Stage → Bool
 holds_back stage.Head = false
 holds_back (stage.Body size given last) = false
 holds_back (stage.Answer bytes have last) = true
-holds_back (stage.Content size head_left left last) = true
-holds_back (stage.Empty left last) = false
+holds_back (stage.Response size sent last) = true
+holds_back (stage.Content left last) = true
+holds_back (stage.Empty sent last) = false
 holds_back stage.Missing = true
 holds_back (stage.Mark given) = false
 holds_back stage.Early = false
 holds_back stage.Over = false
+
+-- a response without content waits to be sent
+abbrev pub is_empty : Stage → Bool
+is_empty stage.Head = false
+is_empty (stage.Body size given last) = false
+is_empty (stage.Answer bytes have last) = false
+is_empty (stage.Response size sent last) = false
+is_empty (stage.Content left last) = false
+is_empty (stage.Empty sent last) = true
+is_empty stage.Missing = false
+is_empty (stage.Mark given) = false
+is_empty stage.Early = false
+is_empty stage.Over = false
+
+-- neither: requests are read, and their bodies handed out
+abbrev pub is_asking : Stage → Bool
+is_asking at = not (holds_back at || is_empty at)
 
 -- no answer is awaited
 abbrev pub is_answered : Stage → Bool
 is_answered stage.Head = true
 is_answered (stage.Body size given last) = true
 is_answered (stage.Answer bytes have last) = false
-is_answered (stage.Content size head_left left last) = false
-is_answered (stage.Empty left last) = true
+is_answered (stage.Response size sent last) = false
+is_answered (stage.Content left last) = false
+is_answered (stage.Empty sent last) = true
 is_answered stage.Missing = true
 is_answered (stage.Mark given) = true
 is_answered stage.Early = true
 is_answered stage.Over = true
 
--- what comes behind the last byte of an answer, where so much of the response is to be sent
+-- what comes behind a response
+abbrev pub behind_response : Bool → Stage
+behind_response last = if last then stage.Over else stage.Head
+
+-- what comes where so many bytes of an answer are left
 abbrev pub behind_content : ℕ → Bool → Stage
-behind_content left last = if nat_lt 0 left then stage.Empty left last else if last then stage.Over else stage.Head
+behind_content left last = if nat_lt 0 left then stage.Content left last else behind_response last
 
--- what comes where so much of a response's head is to be sent, and so much of its content to be written
-abbrev pub stage_left : ℕ → ℕ → ℕ → Bool → Stage
-stage_left size head_left left last = if nat_lt 0 left then stage.Content size head_left left last else behind_content head_left last
-
--- the bytes of a response without content
-abbrev pub empty_response : ℕ
-empty_response = 74
+-- what comes behind so many bytes of an answer's length
+abbrev pub behind_length : List ℕ → ℕ → Bool → Stage
+behind_length bytes have last =
+    if nat_lt have 4 then stage.Answer bytes have last
+    else if from_be_bytes w32 bytes == 0 then stage.Empty 0 last
+    else stage.Response (from_be_bytes w32 bytes) 0 last
 
 -- what comes behind a body that gets this response
 abbrev pub behind_body : Reply → Bool → Stage
 behind_body reply.Answer last = stage.Answer (0 ∷ 0 ∷ 0 ∷ 0 ∷ []) 0 last
-behind_body reply.Empty last = stage.Empty empty_response last
+behind_body reply.Empty last = stage.Empty 0 last
 behind_body reply.Missing last = stage.Missing
 
 -- a body of so many bytes is let go

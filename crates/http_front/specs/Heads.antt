@@ -1,11 +1,11 @@
 -- The head of a POST that carries a message (RFC 9110, sections 7.6.1, 8.6 and 9.3.3; RFC 9112, sections 2 to 6).
-use Rattle.std.specs.Prelude.{◌≡◌, ℕ, List, [], ◌∷◌, ◌++◌, length, map, Bool, true, false, ◌&&◌, ◌||◌, ◌==◌, not, nat_eq, nat_lt, nat_le, Option, Some, None, if◌then◌else◌, codes}
+use Rattle.std.specs.Prelude.{ℕ, List, [], ◌∷◌, length, map, Bool, true, false, ◌&&◌, ◌||◌, ◌==◌, nat_eq, nat_lt, nat_le, Option, Some, None, if◌then◌else◌, codes}
 use Rattle.std.specs.List.{slice_split, list_any, list_all}
 use Rattle.std.specs.Char.{is_ascii_digit, to_ascii_lowercase}
 use Rattle.std.specs.Cmp.Lexicographic.{pointwise}
 use Rattle.std.specs.Str.Parse.{digits_value}
 use Rattle.httparse.specs.Ascii.{comma}
-use Rattle.httparse.specs.Grammar.{is_ows, RequestHead, print_request, ReadsRequest}
+use Rattle.httparse.specs.Grammar.{is_ows, RequestHead}
 use Rattle.httparse.specs.Spans.{name_and_value}
 
 -- a head has at most so many bytes

@@ -1,5 +1,5 @@
 -- Which response a body gets, and how a response is written (RFC 9112, section 4; Apache Thrift, THttpTransport).
-use Rattle.std.specs.Prelude.{ℕ, List, [], ◌++◌, length, decimal, codes, Bool, true, false, Option, Some, None, Ok, Err, if◌then◌else◌}
+use Rattle.std.specs.Prelude.{ℕ, List, ◌++◌, length, decimal, codes, Option, Some, None, Ok, Err, if◌then◌else◌}
 use Rattle.thrift_value.specs.declared.kind.MessageType.{MessageType}
 use Rattle.thrift_value.specs.declared.kind.MessageType.TheVariants as types
 use Rattle.protocol_traits.specs.declared.proto.Proto.{Proto}

@@ -1,8 +1,9 @@
 //! Reads of the client.
-ghost use Rattle.std.specs.Prelude.{◌≡◌, length};
+ghost use Rattle.std.specs.Prelude.{◌≡◌, length, true};
 ghost use Rattle.gate_base.specs.Causes.{Rose};
 ghost use Rattle.gate_hub.specs.Hubs.{Later};
-ghost use Rattle.http_front.specs.Fronts.{wanted};
+ghost use Rattle.http_front.specs.Fronts.{wanted, is_asking, IsOpenHead};
+ghost use Rattle.http_front.specs.Moving.{Goes, Turns, Waits};
 
 use crate::front::Front;
 use crate::head::MOST_FIELDS;
@@ -27,7 +28,12 @@ pub(crate) fn fill<H: Hub>(
     fields: &mut [HeaderSpan],
 ) -> Filled
     requires room { length fields.old ≡ MOST_FIELDS }
-    ensures enough { result ≡ Filled.Enough → wanted front.new ≡ 0 }
+    requires asking { is_asking front.old.stage ≡ true }
+    ensures goes { Goes (H.tells inner.old) (H.tells inner.new) k (Turns front.old front.new) }
+    ensures enough { result ≡ Filled.Enough → (wanted front.new ≡ 0) × IsOpenHead front.new.stage front.new.input }
+    ensures waits { result ≡ Filled.NotReady → Waits front.new.stage front.new.input }
+    ensures asking { is_asking front.new.stage ≡ true }
+    ensures kept { H.kept inner.new ≡ H.kept inner.old }
     ensures limit { front.new.limit ≡ front.old.limit }
     ensures later { Later (H.counts inner.old) (H.counts inner.new) }
     ensures cause { result ≡ Filled.Failed → Rose ((H.counts inner.old).link_faults k Side.Client) ((H.counts inner.new).link_faults k Side.Client) }

@@ -1,16 +1,16 @@
 //! The front of one session: the client's bytes, and what comes next.
-ghost use Rattle.std.specs.Prelude.{◌≡◌, ◌≢◌, ◌+◌, ◌-◌, ◌*◌, ◌≤◌, ◌<◌, ◌^◌, [], ◌++◌, length, take, drop, min, true, IfOk, ℕ};
+ghost use Rattle.std.specs.Prelude.{◌≡◌, ◌≢◌, ◌+◌, ◌-◌, ◌*◌, ◌≤◌, ◌<◌, ◌^◌, [], ◌++◌, length, take, drop, min, true, false, IfOk, ℕ};
 ghost use Rattle.gate_base.specs.Causes.{Rose};
 ghost use Rattle.gate_hub.specs.Hubs.{Later};
 ghost use Rattle.http_front.specs.Heads.{head_limit};
-ghost use Rattle.http_front.specs.Fronts.{Front as State, IsSound, IsOpenHead, IsWithin, new_front, wanted, ahead, holds_back, behind_body, behind_mark, body_ended};
+ghost use Rattle.http_front.specs.Fronts.{Front as State, Reading, IsSound, IsOpenHead, IsWithin, new_front, wanted, ahead, holds_back, is_asking, behind_body, behind_mark, body_ended};
 ghost use Rattle.http_front.specs.Reading.{FindsHead};
-ghost use Rattle.http_front.specs.Moving.{GrowsBy, EndsHead};
+ghost use Rattle.http_front.specs.Moving.{Goes, Keeps, EndsFront, HandsOut, GrowsBy, ReadsMore, EndsHead};
 
 use crate::copies::{LENGTH_BYTES, copy_frame, copy_from};
 use crate::head::{HEAD_LIMIT, Head, MOST_FIELDS, find_head, refuses};
 use crate::look::{Look, look_on};
-use crate::replies::{EMPTY_RESPONSE, Reply, Rules};
+use crate::replies::{Reply, Rules};
 use crate::stage::Stage;
 use gate_base::OutOfMemory;
 use gate_hub::{Hub, LinkGot, Side};
@@ -21,6 +21,9 @@ use std::marker::Model;
 
 /// The length -1, behind which nothing comes.
 const MARK: [u8; 4] = [255; 4];
+
+/// The byte that tells of an end inside a request.
+const EARLY: [u8; 1] = [0];
 
 /// The client's bytes that are held, and what comes next.
 #[derive(Drop)]
@@ -84,7 +87,9 @@ impl Front {
     /// Reads the head at the front, where it is whole.
     pub(crate) fn settle(&mut self, fields: &mut [HeaderSpan])
         requires room { length fields.old ≡ MOST_FIELDS }
+        ensures keeps { Keeps self.old self.new }
         ensures decided { IsOpenHead self.new.stage self.new.input }
+        ensures asking { is_asking self.old.stage ≡ true → is_asking self.new.stage ≡ true }
         ensures limit { self.new.limit ≡ self.old.limit }
         ensures ahead { ahead self.new ≤ ahead self.old }
     {
@@ -143,6 +148,8 @@ impl Front {
         requires some { 0 < count }
         requires few { count ≤ wanted self.old }
         ensures within { GrowsBy count self.old self.new result }
+        ensures goes { Goes (H.tells inner.old) (H.tells inner.new) k (ReadsMore result self.old self.new) }
+        ensures kept { H.kept inner.new ≡ H.kept inner.old }
         ensures later { Later (H.counts inner.old) (H.counts inner.new) }
         ensures cause { result ≡ LinkGot.Failed → Rose ((H.counts inner.old).link_faults k Side.Client) ((H.counts inner.new).link_faults k Side.Client) }
         ensures wait { result ≡ LinkGot.NotReady → Rose ((H.counts inner.old).waits k Side.Client) ((H.counts inner.new).waits k Side.Client) }
@@ -161,21 +168,27 @@ impl Front {
         requires room { length fields.old ≡ MOST_FIELDS }
         requires front { IsOpenHead self.old.stage self.old.input }
         requires short { 0 < wanted self.old }
+        ensures ends { EndsFront self.old self.new }
+        ensures asking { is_asking self.new.stage ≡ true }
+        ensures decided { IsOpenHead self.new.stage self.new.input }
         ensures limit { self.new.limit ≡ self.old.limit }
         ensures nothing { wanted self.new ≡ 0 }
     {
         match self.stage {
             Stage::Head => self.end_head(fields),
             Stage::Body { .. } => self.stage = Stage::Early,
-            Stage::Answer { .. } | Stage::Content { .. } | Stage::Empty { .. } => (),
-            Stage::Missing | Stage::Mark { .. } | Stage::Early | Stage::Over => (),
+            _ => (),
         }
     }
 
     // The client has ended, and a head isn't whole.
     fn end_head(&mut self, fields: &mut [HeaderSpan])
         requires room { length fields.old ≡ MOST_FIELDS }
-        requires short { length self.old.input < head_limit }
+        requires at { self.old.stage ≡ Stage.Head }
+        requires front { IsOpenHead Stage.Head self.old.input }
+        ensures ends { EndsFront self.old self.new }
+        ensures asking { is_asking self.new.stage ≡ true }
+        ensures decided { IsOpenHead self.new.stage self.new.input }
         ensures limit { self.new.limit ≡ self.old.limit }
         ensures nothing { wanted self.new ≡ 0 }
     {
@@ -204,8 +217,16 @@ impl Front {
     {
         matches!(
             self.stage,
-            Stage::Answer { .. } | Stage::Content { .. } | Stage::Missing
+            Stage::Answer { .. } | Stage::Response { .. } | Stage::Content { .. } | Stage::Missing
         )
+    }
+
+    /// Whether nothing more is handed out.
+    pub(crate) fn is_over(&self) -> bool
+        ensures over { result ≡ true → self.now.stage ≡ Stage.Over }
+        ensures on { result ≡ false → self.now.stage ≢ Stage.Over }
+    {
+        matches!(self.stage, Stage::Over)
     }
 
     /// Hands out what comes next of a frame. It is some bytes, unless the answer is 0.
@@ -213,8 +234,11 @@ impl Front {
         requires room { self.old.limit ≤ length room.old }
         requires some { 0 < length into.old }
         requires whole { wanted self.old ≡ 0 }
+        requires front { IsOpenHead self.old.stage self.old.input }
+        requires asking { is_asking self.old.stage ≡ true }
         ensures within { result ≤ length into.new }
-        ensures none { result ≡ 0 → self.new ≡ self.old }
+        ensures hands { HandsOut rules.now (take result into.new) self.old self.new }
+        ensures none { result ≡ 0 → (self.new.stage ≡ Stage.Over) × (self.new ≡ self.old) }
         ensures limit { self.new.limit ≡ self.old.limit }
     {
         match self.stage {
@@ -244,6 +268,7 @@ impl Front {
         requires some { 0 < length into.old }
         ensures some { 0 < result }
         ensures within { result ≤ length into.new }
+        ensures hands { HandsOut rules.now (take result into.new) self.old self.new }
         ensures limit { self.new.limit ≡ self.old.limit }
     {
         let count = copy_frame(&self.input.bytes()[..size], given, into);
@@ -280,6 +305,7 @@ impl Front {
         requires some { 0 < length into.old }
         ensures some { 0 < result }
         ensures within { result ≤ length into.new }
+        ensures hands { (r : Reading) → HandsOut r (take result into.new) self.old self.new }
         ensures limit { self.new.limit ≡ self.old.limit }
     {
         let count = copy_from(&MARK, given, into);
@@ -291,13 +317,14 @@ impl Front {
     fn hand_early(&mut self, into: &mut [u8]) -> usize
         requires at { self.old.stage ≡ Stage.Early }
         requires some { 0 < length into.old }
-        ensures one { result ≡ 1 }
+        ensures some { 0 < result }
         ensures within { result ≤ length into.new }
+        ensures hands { (r : Reading) → HandsOut r (take result into.new) self.old self.new }
         ensures limit { self.new.limit ≡ self.old.limit }
     {
-        into[0] = 0;
+        let count = copy_from(&EARLY, 0, into);
         self.stage = Stage::Over;
-        1
+        count
     }
 }
 
@@ -322,10 +349,7 @@ fn behind_body(reply: Reply, last: bool) -> Stage
             have: 0,
             last,
         },
-        Reply::Empty => Stage::Empty {
-            left: EMPTY_RESPONSE,
-            last,
-        },
+        Reply::Empty => Stage::Empty { sent: 0, last },
         Reply::Missing => Stage::Missing,
     }
 }

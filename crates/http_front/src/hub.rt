@@ -1,8 +1,15 @@
 //! A hub over another one, whose clients send each message as the body of a POST.
-ghost use Rattle.std.specs.Prelude.{◌≡◌, ◌<◌, ◌≤◌, ◌^◌, length, IfSome};
+ghost use Rattle.std.specs.Prelude.{◌≡◌, ◌<◌, ◌≤◌, ◌^◌, ℕ, length, true, false, None, All, IfSome};
 ghost use Rattle.gate_base.specs.Causes.{Rose, one_more};
-ghost use Rattle.gate_hub.specs.Hubs.{Later, GotWithin, TookWithin};
+ghost use Rattle.gate_hub.specs.Meaning.{Meaning, IsOpen};
+ghost use Rattle.gate_hub.specs.Hubs.{Leads, Later, NotStarted, HasStarted, StartLeads, NextLeads, ReadLeads, WriteLeads, CloseLeads, GotWithin, TookWithin, started_with};
 ghost use Rattle.http_front.specs.Counting.{with_own};
+ghost use Rattle.http_front.specs.Fronts.{Reading};
+ghost use Rattle.http_front.specs.Laws.{bytes_over};
+ghost use Rattle.http_front.specs.Moving.{WroteWithin};
+ghost use Rattle.http_front.specs.Serving.{GaveWithin};
+ghost use Rattle.http_front.specs.Slots.{IsMarked, IsUnmarked, HasNone};
+ghost use Rattle.http_front.specs.Telling.{open_slots, stops, Follows, Gave, Wrote, HasNoSlot, GivesBack, TellsOver};
 
 use crate::answers::Written;
 use crate::replies::Rules;
@@ -40,6 +47,13 @@ impl<'h, H: Hub> HttpHub<'h, H> {
     ) -> HttpHub<'h, H>
         requires service { IfSome service (λ s. s.0 < length schema.now.services) }
         requires limit { limit < 2 ^ 31 }
+        ensures same_reference { result.inner.ghost_name ≡ inner.entry.ghost_name }
+        ensures rules { result.rules ≡ record { declared = schema.now; service = service; client = client; limit = limit } }
+        ensures fresh { (result.inner.now ≡ inner.old) × (result.slots ≡ None) × (result.stopped ≡ false) }
+        ensures uncounted { (result.strays ≡ 0) × (result.waits ≡ 0) }
+        ensures tells { (m : Meaning) → H.tells inner.old m → NotStarted m → ((k : ℕ) → (m.session k).announced ≡ false) →
+            TellsOver (H.tells result.inner.now) result.rules result.slots result.stopped m }
+        ensures counts { with_own (H.counts result.inner.now) result.strays result.waits ≡ with_own (H.counts inner.old) 0 0 }
     {
         HttpHub {
             inner,
@@ -51,113 +65,27 @@ impl<'h, H: Hub> HttpHub<'h, H> {
         }
     }
 
-    // Counts a call on a session without a slot, or a write that answers nothing.
-    fn count_stray(&mut self)
-        ensures inner { (self.new.inner.now ≡ self.old.inner.now) × (self.new.waits ≡ self.old.waits) }
-        ensures one { self.new.strays ≡ one_more self.old.strays }
-        ensures more { self.old.strays ≤ self.new.strays }
+    /// The hub below; the slots are let go.
+    pub fn into_inner(self) -> &'h mut H
+        ensures same_reference { result.ghost_name ≡ self.entry.inner.ghost_name }
+        ensures now { result.now ≡ self.entry.inner.now }
     {
-        self.strays = self.strays.saturating_add(1);
-    }
-
-    // Counts a read of a client that is held back.
-    fn count_wait(&mut self)
-        ensures inner { (self.new.inner.now ≡ self.old.inner.now) × (self.new.strays ≡ self.old.strays) }
-        ensures one { self.new.waits ≡ one_more self.old.waits }
-        ensures more { self.old.waits ≤ self.new.waits }
-    {
-        self.waits = self.waits.saturating_add(1);
-    }
-
-    // Whether the session has a slot.
-    fn has_slot(&self, k: u64) -> bool {
-        match &self.slots {
-            Some(slots) => slots.find(k).is_some(),
-            None => false,
-        }
-    }
-
-    // Reads from the client's side.
-    #[tactic(auto, using(crate::proofs::Counted::later_both, crate::proofs::Counted::rose_below, crate::proofs::Counted::rose_own, crate::proofs::Counted::later_same))]
-    fn read_client(&mut self, k: u64, into: &mut [u8]) -> LinkGot
-        requires { 0 < length into.old }
-        ensures within { GotWithin into.new result }
-        ensures later { Later (with_own (H.counts self.old.inner.now) self.old.strays self.old.waits) (with_own (H.counts self.new.inner.now) self.new.strays self.new.waits) }
-        ensures cause { result ≡ LinkGot.Failed → Rose ((with_own (H.counts self.old.inner.now) self.old.strays self.old.waits).link_faults k Side.Client) ((with_own (H.counts self.new.inner.now) self.new.strays self.new.waits).link_faults k Side.Client) }
-        ensures wait { result ≡ LinkGot.NotReady → Rose ((with_own (H.counts self.old.inner.now) self.old.strays self.old.waits).waits k Side.Client) ((with_own (H.counts self.new.inner.now) self.new.strays self.new.waits).waits k Side.Client) }
-    {
-        let given = match &mut self.slots {
-            Some(slots) => slots.read_of(self.inner, k, &self.rules, into),
-            None => Given::Stray,
-        };
-        match given {
-            Given::Bytes(count) => LinkGot::Bytes(count),
-            Given::End => LinkGot::End,
-            Given::NotReady => LinkGot::NotReady,
-            Given::Failed => LinkGot::Failed,
-            Given::Held => {
-                self.count_wait();
-                LinkGot::NotReady
-            }
-            Given::Stray => {
-                self.count_stray();
-                LinkGot::Failed
-            }
-        }
-    }
-
-    // Writes to the client's side.
-    #[tactic(auto, using(crate::proofs::Counted::later_both, crate::proofs::Counted::rose_below, crate::proofs::Counted::rose_own, crate::proofs::Counted::later_same))]
-    fn write_client(&mut self, k: u64, from: &[u8]) -> LinkPut
-        requires { 0 < length from.now }
-        ensures within { TookWithin from.now result }
-        ensures later { Later (with_own (H.counts self.old.inner.now) self.old.strays self.old.waits) (with_own (H.counts self.new.inner.now) self.new.strays self.new.waits) }
-        ensures cause { result ≡ LinkPut.Failed → Rose ((with_own (H.counts self.old.inner.now) self.old.strays self.old.waits).link_faults k Side.Client) ((with_own (H.counts self.new.inner.now) self.new.strays self.new.waits).link_faults k Side.Client) }
-        ensures wait { result ≡ LinkPut.NotReady → Rose ((with_own (H.counts self.old.inner.now) self.old.strays self.old.waits).waits k Side.Client) ((with_own (H.counts self.new.inner.now) self.new.strays self.new.waits).waits k Side.Client) }
-    {
-        let written = match &mut self.slots {
-            Some(slots) => slots.write_of(self.inner, k, from),
-            None => Written::Stray,
-        };
-        match written {
-            Written::Took(count) => LinkPut::Took(count),
-            Written::NotReady => LinkPut::NotReady,
-            Written::Failed => LinkPut::Failed,
-            Written::Stray => {
-                self.count_stray();
-                LinkPut::Failed
-            }
-        }
-    }
-
-    // Gives a session that was opened a slot, if one is free.
-    fn admit(&mut self, k: u64)
-        ensures same { (self.new.inner.now ≡ self.old.inner.now) × (self.new.strays ≡ self.old.strays) × (self.new.waits ≡ self.old.waits) }
-    {
-        if let Some(slots) = &mut self.slots {
-            slots.admit(k);
-        }
-    }
-
-    // The least session that is marked.
-    fn least_marked(&mut self) -> Option<u64>
-        ensures same { (self.new.inner.now ≡ self.old.inner.now) × (self.new.strays ≡ self.old.strays) × (self.new.waits ≡ self.old.waits) }
-    {
-        match &mut self.slots {
-            Some(slots) => slots.least_marked(),
-            None => None,
-        }
+        let HttpHub { inner, slots, .. } = self;
+        drop(slots);
+        inner
     }
 }
 
 impl<H: Hub> Hub for HttpHub<'_, H> {
-    ghost tells = { λ _ _. ⊥ };
+    ghost tells = { λ hub. TellsOver (H.tells hub.inner.now) hub.rules hub.slots hub.stopped };
 
-    ghost counts = { λ h. with_own (H.counts h.inner.now) h.strays h.waits };
+    ghost counts = { λ hub. with_own (H.counts hub.inner.now) hub.strays hub.waits };
 
-    ghost kept = { λ _. tt };
+    ghost Kept = { ℕ × Reading × H.Kept };
 
-    #[tactic(auto, using(crate::proofs::Counted::later_both, crate::proofs::Counted::rose_below, crate::proofs::Counted::rose_own, crate::proofs::Counted::later_same))]
+    ghost kept = { λ hub. (hub.inner.ghost_name, hub.rules, H.kept hub.inner.now) };
+
+    #[tactic(auto, using(crate::proofs::Counted::later_both, crate::proofs::Counted::rose_below, crate::proofs::Counted::later_same))]
     fn start(
         &mut self,
         alloc: Global,
@@ -172,37 +100,47 @@ impl<H: Hub> Hub for HttpHub<'_, H> {
         let Ok(slots) = Slots::open(alloc, count, self.rules.limit()) else {
             return Began::OutOfMemory;
         };
-        let began = self.inner.start(alloc, listen, upstream, accept, sessions);
-        if let Began::Done = began {
-            self.slots = Some(slots);
+        match self.inner.start(alloc, listen, upstream, accept, sessions) {
+            Began::Done => {
+                self.slots = Some(slots);
+                Began::Done
+            }
+            Began::Failed => Began::Failed,
+            Began::OutOfMemory => Began::OutOfMemory,
         }
-        began
     }
 
-    #[tactic(auto, using(crate::proofs::Counted::later_both, crate::proofs::Counted::rose_below, crate::proofs::Counted::rose_own, crate::proofs::Counted::later_same))]
+    #[tactic(auto, using(crate::proofs::Counted::later_both, crate::proofs::Counted::rose_below, crate::proofs::Counted::later_same))]
     fn next(&mut self) -> HubNext {
         if self.stopped {
             return HubNext::Stopped;
         }
-        if let Some(k) = self.least_marked() {
+        if let Some(k) = least_marked(&mut self.slots) {
             return HubNext::Ready(k);
         }
         let event = self.inner.next();
-        match event {
-            HubNext::Opened(k) => self.admit(k),
-            HubNext::Stopped => self.stopped = true,
-            HubNext::Ready(_) | HubNext::Failed => (),
-        }
+        follow(&mut self.slots, event);
+        self.stopped = stops(event);
         event
     }
 
     #[tactic(auto, using(crate::proofs::Counted::later_both, crate::proofs::Counted::rose_below, crate::proofs::Counted::rose_own, crate::proofs::Counted::later_same))]
     fn read(&mut self, k: u64, side: Side, into: &mut [u8]) -> LinkGot {
         match side {
-            Side::Client => self.read_client(k, into),
-            Side::Upstream if self.has_slot(k) => self.inner.read(k, Side::Upstream, into),
+            Side::Client => match read(&mut self.slots, self.inner, k, &self.rules, into) {
+                Given::Got(got) => got,
+                Given::Held => {
+                    self.waits = self.waits.saturating_add(1);
+                    LinkGot::NotReady
+                }
+                Given::Stray => {
+                    self.strays = self.strays.saturating_add(1);
+                    LinkGot::Failed
+                }
+            },
+            Side::Upstream if has_slot(&self.slots, k) => self.inner.read(k, Side::Upstream, into),
             Side::Upstream => {
-                self.count_stray();
+                self.strays = self.strays.saturating_add(1);
                 LinkGot::Failed
             }
         }
@@ -211,22 +149,116 @@ impl<H: Hub> Hub for HttpHub<'_, H> {
     #[tactic(auto, using(crate::proofs::Counted::later_both, crate::proofs::Counted::rose_below, crate::proofs::Counted::rose_own, crate::proofs::Counted::later_same))]
     fn write(&mut self, k: u64, side: Side, from: &[u8]) -> LinkPut {
         match side {
-            Side::Client => self.write_client(k, from),
-            Side::Upstream if self.has_slot(k) => self.inner.write(k, Side::Upstream, from),
+            Side::Client => match write(&mut self.slots, self.inner, k, from) {
+                Written::Put(put) => put,
+                Written::Stray => {
+                    self.strays = self.strays.saturating_add(1);
+                    LinkPut::Failed
+                }
+            },
+            Side::Upstream if has_slot(&self.slots, k) => self.inner.write(k, Side::Upstream, from),
             Side::Upstream => {
-                self.count_stray();
+                self.strays = self.strays.saturating_add(1);
                 LinkPut::Failed
             }
         }
     }
 
-    #[tactic(auto, using(crate::proofs::Counted::later_both, crate::proofs::Counted::rose_below, crate::proofs::Counted::rose_own, crate::proofs::Counted::later_same))]
+    #[tactic(auto, using(crate::proofs::Counted::later_both, crate::proofs::Counted::later_same))]
     fn close(&mut self, k: u64) {
-        if let Some(slots) = &mut self.slots {
-            slots.release(k);
-        }
+        release(&mut self.slots, k);
         self.inner.close(k);
     }
 
-    ghost bytes = { λ hub m told. absurd told };
+    ghost bytes = { λ hub. bytes_over (H.tells hub.inner.now) hub.rules hub.slots hub.stopped (H.bytes hub.inner.now) };
+}
+
+/// Gives a session that was opened a slot, if one is free.
+fn follow(slots: &mut Option<Slots>, event: HubNext)
+    ensures { Follows event slots.old slots.new }
+{
+    if let HubNext::Opened(k) = event
+        && let Some(slots) = slots
+    {
+        slots.admit(k);
+    }
+}
+
+/// Whether it is the last event.
+fn stops(event: HubNext) -> bool
+    ensures { result ≡ stops event }
+{
+    matches!(event, HubNext::Stopped)
+}
+
+/// The least session that is marked.
+fn least_marked(slots: &mut Option<Slots>) -> Option<u64>
+    ensures same { slots.new ≡ slots.old }
+    ensures marked { IfSome result (IsMarked (open_slots slots.old)) }
+    ensures none { result ≡ None → All IsUnmarked (open_slots slots.old) }
+{
+    match slots {
+        Some(slots) => slots.least_marked(),
+        None => None,
+    }
+}
+
+/// Whether a session has a slot.
+fn has_slot(slots: &Option<Slots>, k: u64) -> bool
+    ensures has { result ≡ true → HasNone (open_slots slots.now) k → ⊥ }
+    ensures none { result ≡ false → HasNoSlot k slots.now }
+{
+    match slots {
+        Some(slots) => slots.has(k),
+        None => false,
+    }
+}
+
+/// Reads from the client of a session.
+fn read<H: Hub>(
+    slots: &mut Option<Slots>,
+    inner: &mut H,
+    k: u64,
+    rules: &Rules<'_>,
+    into: &mut [u8],
+) -> Given
+    requires { 0 < length into.old }
+    ensures within { GaveWithin into.new result }
+    ensures goes { Gave (H.tells inner.old) (H.tells inner.new) rules.now k into.new result slots.old slots.new }
+    ensures stray { result ≡ Given.Stray → inner.new ≡ inner.old }
+    ensures later { Later (H.counts inner.old) (H.counts inner.new) }
+    ensures kept { H.kept inner.new ≡ H.kept inner.old }
+    ensures cause { result ≡ Given.Got LinkGot.Failed → Rose ((H.counts inner.old).link_faults k Side.Client) ((H.counts inner.new).link_faults k Side.Client) }
+    ensures wait { result ≡ Given.Got LinkGot.NotReady → Rose ((H.counts inner.old).waits k Side.Client) ((H.counts inner.new).waits k Side.Client) }
+{
+    match slots {
+        Some(slots) => slots.read(inner, k, rules, into),
+        None => Given::Stray,
+    }
+}
+
+/// Writes to the client of a session.
+fn write<H: Hub>(slots: &mut Option<Slots>, inner: &mut H, k: u64, from: &[u8]) -> Written
+    requires { 0 < length from.now }
+    ensures within { WroteWithin from.now result }
+    ensures goes { (r : Reading) → Wrote (H.tells inner.old) (H.tells inner.new) r k from.now result slots.old slots.new }
+    ensures stray { result ≡ Written.Stray → inner.new ≡ inner.old }
+    ensures later { Later (H.counts inner.old) (H.counts inner.new) }
+    ensures kept { H.kept inner.new ≡ H.kept inner.old }
+    ensures cause { result ≡ Written.Put LinkPut.Failed → Rose ((H.counts inner.old).link_faults k Side.Client) ((H.counts inner.new).link_faults k Side.Client) }
+    ensures wait { result ≡ Written.Put LinkPut.NotReady → Rose ((H.counts inner.old).waits k Side.Client) ((H.counts inner.new).waits k Side.Client) }
+{
+    match slots {
+        Some(slots) => slots.write(inner, k, from),
+        None => Written::Stray,
+    }
+}
+
+/// Takes the slot of a session back, if it has one.
+fn release(slots: &mut Option<Slots>, k: u64)
+    ensures { GivesBack k slots.old slots.new }
+{
+    if let Some(slots) = slots {
+        slots.release(k);
+    }
 }

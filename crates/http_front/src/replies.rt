@@ -24,9 +24,6 @@ const RESPONSE_END: &[u8] = b"\r\n\r\n";
 /// The bytes of the head of a response at the most.
 pub(crate) const RESPONSE_HEAD_ROOM: usize = 128;
 
-/// The bytes of a response without content.
-pub(crate) const EMPTY_RESPONSE: usize = 74;
-
 /// The response that a body gets.
 #[derive(Clone, Copy)]
 pub(crate) enum Reply {

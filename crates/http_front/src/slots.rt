@@ -1,16 +1,19 @@
 //! The slots of the open sessions, in the order of their numbers.
-ghost use Rattle.std.specs.Prelude.{◌≡◌, ◌<◌, ◌≤◌, ◌^◌, [], length, All, IfOk, IfSome};
+ghost use Rattle.std.specs.Prelude.{◌≡◌, ◌<◌, ◌≤◌, ◌^◌, [], length, true, false, None, All, IfOk, IfSome};
 ghost use Rattle.gate_base.specs.Causes.{Rose};
 ghost use Rattle.gate_hub.specs.Hubs.{Later};
-ghost use Rattle.http_front.specs.Fronts.{wanted};
-ghost use Rattle.http_front.specs.Moving.{WroteWithin};
-ghost use Rattle.http_front.specs.Slots.{Open, GaveWithin, FrontHasLimit};
+ghost use Rattle.http_front.specs.declared.slots.Slot.{Slot};
+ghost use Rattle.http_front.specs.Fronts.{Reading, wanted, is_asking, IsOpenHead};
+ghost use Rattle.http_front.specs.Moving.{Goes, HandsOut, TurnsGiven, WritesOn, WroteWithin};
+ghost use Rattle.http_front.specs.Slots.{Open, FrontHasLimit, IsMarked, IsUnmarked, IsRising, IsAt, HasNone, Admits, Releases};
+ghost use Rattle.http_front.specs.Serving.{GaveWithin, given_bytes, StandsBehind, GaveIn, MarksIf, WroteIn};
 
 use crate::answers::{RESPONSE_ROOM, Sent, Written};
 use crate::asking::{Filled, fill};
 use crate::front::Front;
 use crate::head::MOST_FIELDS;
 use crate::replies::Rules;
+use crate::stage::Stage;
 use gate_base::OutOfMemory;
 use gate_hub::{Hub, LinkGot, LinkPut, Side};
 use gate_io::Out;
@@ -58,25 +61,23 @@ pub(crate) struct Slots {
 }
 
 impl Model for Slots {
-    ghost use Rattle.std.specs.Prelude.{All};
-    ghost use Rattle.http_front.specs.Slots.{Open, HasLimit, FrontHasLimit};
+    ghost use Rattle.std.specs.Prelude.{◌≡◌, false, All};
+    ghost use Rattle.http_front.specs.Slots.{Open, HasLimit, FrontHasLimit, IsUnmarked};
 
     ghost Value = { Open };
 
     ghost view = { λ s. record { slots = s.open.items; limit = s.rooms } };
 
-    ghost invariant = { λ s. All (HasLimit s.rooms) s.open.items × All (FrontHasLimit s.rooms) s.spare.items };
+    ghost invariant = { λ s. All (HasLimit s.rooms) s.open.items × All (FrontHasLimit s.rooms) s.spare.items
+        × (s.marks ≡ false → All IsUnmarked s.open.items) };
 }
 
 /// What a read answers.
 #[derive(Clone, Copy)]
 pub(crate) enum Given {
-    Bytes(usize),
+    Got(LinkGot),
     /// The client waits for an answer, or is to be asked nothing.
     Held,
-    NotReady,
-    End,
-    Failed,
     /// The session has no slot.
     Stray,
 }
@@ -99,7 +100,9 @@ impl Slots {
     }
 
     /// Gives a session that was opened a free slot, if there is one. Its number is above those of all open ones.
-    pub(crate) fn admit(&mut self, number: u64) {
+    pub(crate) fn admit(&mut self, number: u64)
+        ensures { Admits number self.old self.new }
+    {
         if self.open.len() == self.open.capacity() {
             return;
         }
@@ -115,8 +118,10 @@ impl Slots {
     }
 
     /// Takes the slot of a session back, if it has one.
-    pub(crate) fn release(&mut self, number: u64) {
-        let Some(at) = self.find(number) else {
+    pub(crate) fn release(&mut self, number: u64)
+        ensures { Releases number self.old self.new }
+    {
+        let Some(at) = find(&self.open, number) else {
             return;
         };
         let slot = self.open.remove(at);
@@ -126,99 +131,72 @@ impl Slots {
     }
 
     /// The least session that is marked.
-    pub(crate) fn least_marked(&mut self) -> Option<u64> {
+    pub(crate) fn least_marked(&mut self) -> Option<u64>
+        ensures same { self.new ≡ self.old }
+        ensures marked { IfSome result (IsMarked self.old.slots) }
+        ensures none { result ≡ None → All IsUnmarked self.old.slots }
+    {
         if !self.marks {
             return None;
         }
-        'slots: for slot in &self.open {
-            if slot.marked {
-                return Some(slot.number);
-            }
-        }
-        self.marks = false;
-        None
+        let least = first_marked(&self.open);
+        self.marks = least.is_some();
+        least
     }
 
-    /// The place of the slot of a session.
-    pub(crate) fn find(&self, number: u64) -> Option<usize>
-        ensures within { IfSome result (λ at. at < length self.now.slots) }
+    /// Whether a session has a slot.
+    pub(crate) fn has(&self, number: u64) -> bool
+        ensures has { result ≡ true → HasNone self.now.slots number → ⊥ }
+        ensures none { result ≡ false → IsRising self.now.slots → HasNone self.now.slots number }
     {
-        find(&self.open, number)
+        match find(&self.open, number) {
+            Some(_) => true,
+            None => false,
+        }
     }
 
-    /// Reads from the client of the session whose slot stands at this place.
+    /// Reads from the client of a session into a slice that isn't empty. The mark is taken off.
     pub(crate) fn read<H: Hub>(
         &mut self,
-        at: usize,
         inner: &mut H,
         k: u64,
         rules: &Rules<'_>,
         into: &mut [u8],
     ) -> Given
-        requires at { at < length self.old.slots }
         requires some { 0 < length into.old }
         ensures within { GaveWithin into.new result }
+        ensures goes { GaveIn (H.tells inner.old) (H.tells inner.new) rules.now k into.new result self.old self.new }
+        ensures stray { result ≡ Given.Stray → inner.new ≡ inner.old }
         ensures later { Later (H.counts inner.old) (H.counts inner.new) }
-        ensures cause { result ≡ Given.Failed → Rose ((H.counts inner.old).link_faults k Side.Client) ((H.counts inner.new).link_faults k Side.Client) }
-        ensures wait { result ≡ Given.NotReady → Rose ((H.counts inner.old).waits k Side.Client) ((H.counts inner.new).waits k Side.Client) }
+        ensures kept { H.kept inner.new ≡ H.kept inner.old }
+        ensures cause { result ≡ Given.Got LinkGot.Failed → Rose ((H.counts inner.old).link_faults k Side.Client) ((H.counts inner.new).link_faults k Side.Client) }
+        ensures wait { result ≡ Given.Got LinkGot.NotReady → Rose ((H.counts inner.old).waits k Side.Client) ((H.counts inner.new).waits k Side.Client) }
     {
+        let Some(at) = find(&self.open, k) else {
+            return Given::Stray;
+        };
         let slot = &mut self.open[at];
         slot.marked = false;
         read(&mut slot.front, inner, k, &mut self.rooms, rules, into)
     }
 
-    /// Reads from the client of a session.
-    pub(crate) fn read_of<H: Hub>(
-        &mut self,
-        inner: &mut H,
-        k: u64,
-        rules: &Rules<'_>,
-        into: &mut [u8],
-    ) -> Given
-        requires { 0 < length into.old }
-        ensures within { GaveWithin into.new result }
-        ensures later { Later (H.counts inner.old) (H.counts inner.new) }
-        ensures cause { result ≡ Given.Failed → Rose ((H.counts inner.old).link_faults k Side.Client) ((H.counts inner.new).link_faults k Side.Client) }
-        ensures wait { result ≡ Given.NotReady → Rose ((H.counts inner.old).waits k Side.Client) ((H.counts inner.new).waits k Side.Client) }
-    {
-        match self.find(k) {
-            Some(at) => self.read(at, inner, k, rules, into),
-            None => Given::Stray,
-        }
-    }
-
-    /// Writes to the client of a session.
-    pub(crate) fn write_of<H: Hub>(&mut self, inner: &mut H, k: u64, from: &[u8]) -> Written
-        requires { 0 < length from.now }
-        ensures within { WroteWithin from.now result }
-        ensures later { Later (H.counts inner.old) (H.counts inner.new) }
-        ensures cause { result ≡ Written.Failed → Rose ((H.counts inner.old).link_faults k Side.Client) ((H.counts inner.new).link_faults k Side.Client) }
-        ensures wait { result ≡ Written.NotReady → Rose ((H.counts inner.old).waits k Side.Client) ((H.counts inner.new).waits k Side.Client) }
-    {
-        match self.find(k) {
-            Some(at) => self.write(at, inner, k, from),
-            None => Written::Stray,
-        }
-    }
-
-    /// Writes to the client of the session whose slot stands at this place.
-    pub(crate) fn write<H: Hub>(&mut self, at: usize, inner: &mut H, k: u64, from: &[u8]) -> Written
-        requires at { at < length self.old.slots }
+    /// Writes the front of a slice that isn't empty to the client of a session. Behind an answer that is whole it is marked.
+    pub(crate) fn write<H: Hub>(&mut self, inner: &mut H, k: u64, from: &[u8]) -> Written
         requires some { 0 < length from.now }
         ensures within { WroteWithin from.now result }
+        ensures goes { (r : Reading) → WroteIn (H.tells inner.old) (H.tells inner.new) r k from.now result self.old self.new }
+        ensures stray { result ≡ Written.Stray → inner.new ≡ inner.old }
         ensures later { Later (H.counts inner.old) (H.counts inner.new) }
-        ensures cause { result ≡ Written.Failed → Rose ((H.counts inner.old).link_faults k Side.Client) ((H.counts inner.new).link_faults k Side.Client) }
-        ensures wait { result ≡ Written.NotReady → Rose ((H.counts inner.old).waits k Side.Client) ((H.counts inner.new).waits k Side.Client) }
+        ensures kept { H.kept inner.new ≡ H.kept inner.old }
+        ensures cause { result ≡ Written.Put LinkPut.Failed → Rose ((H.counts inner.old).link_faults k Side.Client) ((H.counts inner.new).link_faults k Side.Client) }
+        ensures wait { result ≡ Written.Put LinkPut.NotReady → Rose ((H.counts inner.old).waits k Side.Client) ((H.counts inner.new).waits k Side.Client) }
     {
+        let Some(at) = find(&self.open, k) else {
+            return Written::Stray;
+        };
+        self.marks = true;
         let slot = &mut self.open[at];
-        let written = slot.front.write(inner, k, from, &mut self.rooms.response);
-        if let Written::Took(_) = written
-            && slot.front.is_answered()
-        {
-            slot.marked = true;
-            self.marks = true;
-        }
-        written
+        write(slot, inner, k, from, &mut self.rooms)
     }
 }
 
@@ -234,9 +212,24 @@ fn open_fronts(alloc: Global, count: usize, limit: usize) -> Result<Vec<Front>, 
     Ok(fronts)
 }
 
-/// The place of the slot of session `number`.
+/// The least number that is marked.
+fn first_marked(slots: &[Slot]) -> Option<u64>
+    ensures marked { IfSome result (IsMarked slots.now) }
+    ensures none { result ≡ None → All IsUnmarked slots.now }
+{
+    'slots: for slot in slots {
+        if slot.marked {
+            return Some(slot.number);
+        }
+    }
+    None
+}
+
+/// The place of the slot of a session.
 fn find(slots: &[Slot], number: u64) -> Option<usize>
-    ensures { IfSome result (λ at. at < length slots.now) }
+    ensures within { IfSome result (λ at. at < length slots.now) }
+    ensures found { IfSome result (λ at. (slot : Slot) × IsAt slots.now number at slot) }
+    ensures none { result ≡ None → IsRising slots.now → HasNone slots.now number }
 {
     let mut low = 0;
     let mut high = slots.len();
@@ -284,24 +277,31 @@ fn read<H: Hub>(
     requires limit { front.old.limit ≡ rooms.old }
     requires some { 0 < length into.old }
     ensures within { GaveWithin into.new result }
+    ensures goes { Goes (H.tells inner.old) (H.tells inner.new) k (TurnsGiven rules.now (given_bytes into.new result) front.old front.new) }
+    ensures over { front.old.stage ≡ Stage.Over → result ≡ Given.Got LinkGot.End }
+    ensures stands { StandsBehind result front.new }
     ensures limit { front.new.limit ≡ front.old.limit }
     ensures rooms { rooms.new ≡ rooms.old }
     ensures later { Later (H.counts inner.old) (H.counts inner.new) }
-    ensures cause { result ≡ Given.Failed → Rose ((H.counts inner.old).link_faults k Side.Client) ((H.counts inner.new).link_faults k Side.Client) }
-    ensures wait { result ≡ Given.NotReady → Rose ((H.counts inner.old).waits k Side.Client) ((H.counts inner.new).waits k Side.Client) }
+    ensures kept { H.kept inner.new ≡ H.kept inner.old }
+    ensures cause { result ≡ Given.Got LinkGot.Failed → Rose ((H.counts inner.old).link_faults k Side.Client) ((H.counts inner.new).link_faults k Side.Client) }
+    ensures wait { result ≡ Given.Got LinkGot.NotReady → Rose ((H.counts inner.old).waits k Side.Client) ((H.counts inner.new).waits k Side.Client) }
 {
+    if front.is_over() {
+        return Given::Got(LinkGot::End);
+    }
     match front.send_empty(inner, k, &mut rooms.response) {
         Sent::Whole => (),
-        Sent::NotReady => return Given::NotReady,
-        Sent::Failed => return Given::Failed,
+        Sent::NotReady => return Given::Got(LinkGot::NotReady),
+        Sent::Failed => return Given::Got(LinkGot::Failed),
     }
     if front.holds_back() {
         return Given::Held;
     }
     match fill(front, inner, k, &mut rooms.fields) {
         Filled::Enough => hand(front, rules, &mut rooms.texts, into),
-        Filled::NotReady => Given::NotReady,
-        Filled::Failed => Given::Failed,
+        Filled::NotReady => Given::Got(LinkGot::NotReady),
+        Filled::Failed => Given::Got(LinkGot::Failed),
     }
 }
 
@@ -310,12 +310,43 @@ fn hand(front: &mut Front, rules: &Rules<'_>, texts: &mut [u8], into: &mut [u8])
     requires room { front.old.limit ≤ length texts.old }
     requires some { 0 < length into.old }
     requires whole { wanted front.old ≡ 0 }
+    requires decided { IsOpenHead front.old.stage front.old.input }
+    requires asking { is_asking front.old.stage ≡ true }
     ensures within { GaveWithin into.new result }
+    ensures hands { HandsOut rules.now (given_bytes into.new result) front.old front.new }
+    ensures stands { StandsBehind result front.new }
     ensures limit { front.new.limit ≡ front.old.limit }
-    ensures calm { (result ≡ Given.Failed → ⊥) × (result ≡ Given.NotReady → ⊥) }
+    ensures calm { (result ≡ Given.Held → ⊥) × (result ≡ Given.Got LinkGot.Failed → ⊥) × (result ≡ Given.Got LinkGot.NotReady → ⊥) }
 {
     match front.hand(rules, texts, into) {
-        0 => Given::End,
-        count => Given::Bytes(count),
+        0 => Given::Got(LinkGot::End),
+        count => Given::Got(LinkGot::Bytes(count)),
+    }
+}
+
+/// Writes to a client. Behind an answer that is whole the slot is marked.
+fn write<H: Hub>(slot: &mut Slot, inner: &mut H, k: u64, from: &[u8], rooms: &mut Rooms) -> Written
+    requires some { 0 < length from.now }
+    ensures within { WroteWithin from.now result }
+    ensures goes { WritesOn (H.tells inner.old) (H.tells inner.new) k slot.old.front slot.new.front from.now result }
+    ensures marks { MarksIf result slot.old slot.new }
+    ensures number { slot.new.number ≡ slot.old.number }
+    ensures stray { result ≡ Written.Stray → inner.new ≡ inner.old }
+    ensures over { slot.old.front.stage ≡ Stage.Over → result ≡ Written.Stray }
+    ensures limit { slot.new.front.limit ≡ slot.old.front.limit }
+    ensures rooms { rooms.new ≡ rooms.old }
+    ensures later { Later (H.counts inner.old) (H.counts inner.new) }
+    ensures kept { H.kept inner.new ≡ H.kept inner.old }
+    ensures cause { result ≡ Written.Put LinkPut.Failed → Rose ((H.counts inner.old).link_faults k Side.Client) ((H.counts inner.new).link_faults k Side.Client) }
+    ensures wait { result ≡ Written.Put LinkPut.NotReady → Rose ((H.counts inner.old).waits k Side.Client) ((H.counts inner.new).waits k Side.Client) }
+{
+    match slot.front.write(inner, k, from, &mut rooms.response) {
+        Written::Put(LinkPut::Took(count)) => {
+            slot.marked = slot.front.is_answered();
+            Written::Put(LinkPut::Took(count))
+        }
+        Written::Put(LinkPut::NotReady) => Written::Put(LinkPut::NotReady),
+        Written::Put(LinkPut::Failed) => Written::Put(LinkPut::Failed),
+        Written::Stray => Written::Stray,
     }
 }

@@ -18,16 +18,20 @@ pub(crate) enum Stage {
         have: usize,
         last: bool,
     },
-    /// The answer of so many bytes: so many of the response's head are to be sent, and so many of the answer to be written.
-    Content {
+    /// The content of an answer of so many bytes, of which none was written. So many bytes of the response's head were sent.
+    Response {
         size: u32,
-        head_left: usize,
+        sent: usize,
+        last: bool,
+    },
+    /// So many more bytes of an answer. The response's head was sent.
+    Content {
         left: usize,
         last: bool,
     },
-    /// A response without content, of which so many bytes are to be sent.
+    /// A response without content, of which so many bytes were sent.
     Empty {
-        left: usize,
+        sent: usize,
         last: bool,
     },
     /// Nothing: the body ends the session.

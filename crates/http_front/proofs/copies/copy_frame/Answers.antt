@@ -1,5 +1,4 @@
-use Rattle.std.proofs.Common.{rules, ◌≡◌, ◌++◌, ℕ, ◌+◌, ◌-◌, ◌≤◌, ◌⊎◌, inl, inr, List, length, take, drop, ap, sym, ◌∙◌, refl, arith}
-use Rattle.std.proofs.Math.Seq.{take-append-add}
+use Rattle.std.proofs.Common.{rules, ◌++◌, ℕ, ◌+◌, List, length, take, drop, ap, ◌∙◌, arith}
 use Rattle.framed_transport.specs.Frames.{framed}
 use Rattle.http_front.proofs.Copied.{copied_both}
 use Rattle.http_front.proofs.copies.copy_frame.Goals as goal

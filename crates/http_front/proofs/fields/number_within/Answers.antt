@@ -1,4 +1,4 @@
-use Rattle.std.proofs.Common.{◌+◌, ℕ, length, drop, ap, ◌∙◌, sym}
+use Rattle.std.proofs.Common.{◌+◌, ℕ, drop, ap, ◌∙◌, sym}
 use Rattle.std.proofs.lemmas.List.{at_drop_more}
 use Rattle.std.specs.Str.Parse.{digits_value_after}
 use Rattle.http_front.proofs.Naming.{past_limit}

@@ -1,4 +1,4 @@
-use Rattle.std.proofs.Common.{ℕ, List, ap, sym, ◌∙◌, take, arith, length, length-take, ◌≤◌}
+use Rattle.std.proofs.Common.{ℕ, List, ap, sym, ◌∙◌}
 use Rattle.http_front.specs.Looking.{looked}
 use Rattle.http_front.specs.Heads.{head_limit}
 use Rattle.http_front.specs.declared.look.Look.TheVariants as look

@@ -1,5 +1,4 @@
 use Rattle.std.proofs.Common.{ap, ◌∙◌, List, ℕ, ◌++◌}
-use Rattle.gate_io.specs.Buffer.{Buffer}
 use Rattle.http_front.specs.Replies.{response_head}
 use Rattle.http_front.proofs.Copied.{laid_behind}
 use Rattle.http_front.proofs.replies.push_response_head.Goals as goal

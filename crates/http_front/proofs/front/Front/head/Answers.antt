@@ -1,4 +1,4 @@
-use Rattle.std.proofs.Common.{◌≡◌, ◌≤◌, ℕ, List, length, take, ap, sym, ◌∙◌, arith}
+use Rattle.std.proofs.Common.{ℕ, List, length, take, ap, sym, ◌∙◌, arith}
 use Rattle.http_front.specs.Heads.{head_limit}
 use Rattle.http_front.specs.Looking.{looked}
 use Rattle.http_front.specs.declared.look.Look.TheVariants as look

@@ -1,7 +1,7 @@
 use Rattle.std.proofs.Common.{rules, ◌<◌, List, length, All, sym, subst}
 use Rattle.std.proofs.lemmas.List.Elements.{All-push}
 use Rattle.http_front.specs.Fronts.{Front}
-use Rattle.http_front.specs.Slots.{HasLimit, FrontHasLimit}
+use Rattle.http_front.specs.Slots.{HasLimit, FrontHasLimit, IsUnmarked}
 use Rattle.http_front.specs.declared.slots.Slot.{Slot}
 use Rattle.http_front.proofs.Slotted.{all_remove, all_read}
 use Rattle.http_front.proofs.slots.Slots.release.Goals as goal
@@ -13,4 +13,5 @@ invariant_of-self c =
       subst (λ (xs : List Front). All (FrontHasLimit c.self.inside.rooms) xs) (sym c.push_reserved.ensures.items)
           (All-push (FrontHasLimit c.self.inside.rooms) c.self.inside.spare.items c.remove-slot.result.front c.self.invariant.1
           (all_read (HasLimit c.self.inside.rooms) c.self.inside.open.items c.in-Some.at c.remove-slot.result c.self.invariant.0 within c.remove-slot.ensures.value)),
+      λ m. subst (λ (xs : List Slot). All IsUnmarked xs) (sym c.remove-slot.ensures.items) (all_remove IsUnmarked c.self.inside.open.items c.in-Some.at (c.self.invariant.2 m)),
     )

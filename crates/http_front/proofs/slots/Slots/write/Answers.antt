@@ -1,0 +1,20 @@
+use Rattle.std.proofs.Common.{◌<◌, List, ℕ, length, ap, ◌∙◌, subst, arith}
+use Rattle.std.proofs.Math.ListN.{set}
+use Rattle.http_front.specs.declared.slots.Slot.{Slot}
+use Rattle.http_front.specs.Slots.{Open, IsAt}
+use Rattle.http_front.proofs.Served.{wrote_in, is_read}
+use Rattle.http_front.proofs.slots.Slots.write.Goals as goal
+
+pub returns-clause-goes : goal.returns-clause-goes
+returns-clause-goes g c = λ r.
+    let slots = c.self.inside.open.items in
+    let at = c.in-Some.at in
+    let slot = c.index_mut-slot.result.now in
+    let found = c.in-Some.ensures.found in
+    let here : IsAt slots c.args.k at found.0 = subst (λ (xs : List Slot). IsAt xs c.args.k at found.0) c.deref.ensures.value found.1 in
+    let within : at < length slots = omega (arith, c.in-Some.ensures.within, ap (λ (xs : List Slot). length xs) c.deref.ensures.value) in
+    let was = is_read slots c.args.k at slot found.0 within c.index_mut-slot.ensures.value here in
+    let after = c.write.new.slot in
+    wrote_in (g.H.Hub.tells c.args.inner.now) (g.H.Hub.tells c.write.new.inner) r c.args.k c.args.from.now c.write.result c.args.self.now _ at slot after (subst (λ (o : Open). IsAt o.slots c.args.k at slot) c.self.view_is was) c.write.ensures.number
+    (ap (λ (l : ℕ). record { slots = set slots at after; limit = l }) c.write.ensures.rooms ∙ ap (λ (o : Open). record o { slots = set o.slots at after }) c.self.view_is)
+    c.write.ensures.marks c.write.ensures.goes c.write.ensures.over
