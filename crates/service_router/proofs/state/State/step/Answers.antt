@@ -1,0 +1,36 @@
+use Rattle.std.proofs.Common.{ap, inl, inr}
+use Rattle.service_router.specs.Judging.{rules_of}
+use Rattle.service_router.specs.Working.{standing}
+use Rattle.service_router.proofs.Moves.{asks_after}
+use Rattle.service_router.proofs.Keeping.{works_on, works_at, keeps_on, keeps_by}
+use Rattle.service_router.proofs.state.State.step.Goals as goal
+
+pub returns-in-Takes-clause-goes : goal.returns-in-Takes-clause-goes
+returns-in-Takes-clause-goes c = inl c.in-Takes.ensures.comes
+
+pub returns-in-Takes-client_step-clause-goes : goal.returns-in-Takes-client_step-clause-goes
+returns-in-Takes-client_step-clause-goes c =
+    let s = c.args.self.now in
+    let mid = c.upstream_step.new.self in
+    let keeps = c.in-Waits.ensures.keeps in
+    inr (asks_after (rules_of c.args.judge.now) (rules_of c.upstream_step.new.judge) s.client.limit mid.client.limit s.calls.capacity mid.calls.capacity (standing s) (standing mid) (standing c.client_step.new.self)
+    (ap rules_of c.in-Waits.ensures.same) keeps.ready.client.limit_is keeps.ready.capacity c.in-Waits.ensures.comes.1 c.in-Takes-client_step.ensures.comes)
+
+pub client_step-requires : goal.client_step-requires
+client_step-requires c =
+    record { works = works_at c.args.judge.now c.upstream_step.new.judge c.upstream_step.new.self c.in-Waits.ensures.same (works_on c.args.judge.now c.args.self.now c.upstream_step.new.self c.requires.works c.in-Waits.ensures.keeps) }
+
+pub returns-in-Takes-client_step-clause-keeps : goal.returns-in-Takes-client_step-clause-keeps
+returns-in-Takes-client_step-clause-keeps c =
+    keeps_on c.args.judge.now c.args.self.now c.upstream_step.new.self c.client_step.new.self c.in-Waits.ensures.keeps
+    (keeps_by c.args.judge.now c.upstream_step.new.judge c.upstream_step.new.self c.client_step.new.self c.in-Waits.ensures.same c.in-Takes-client_step.ensures.keeps)
+
+pub returns-in-Halts-client_step-clause-keeps : goal.returns-in-Halts-client_step-clause-keeps
+returns-in-Halts-client_step-clause-keeps c =
+    keeps_on c.args.judge.now c.args.self.now c.upstream_step.new.self c.client_step.new.self c.in-Waits.ensures.keeps
+    (keeps_by c.args.judge.now c.upstream_step.new.judge c.upstream_step.new.self c.client_step.new.self c.in-Waits.ensures.same c.in-Halts-client_step.ensures.keeps)
+
+pub returns-in-Waits-client_step-clause-keeps : goal.returns-in-Waits-client_step-clause-keeps
+returns-in-Waits-client_step-clause-keeps c =
+    keeps_on c.args.judge.now c.args.self.now c.upstream_step.new.self c.client_step.new.self c.in-Waits.ensures.keeps
+    (keeps_by c.args.judge.now c.upstream_step.new.judge c.upstream_step.new.self c.client_step.new.self c.in-Waits.ensures.same c.in-Waits-client_step.ensures.keeps)
