@@ -51,6 +51,24 @@ const REFUSED: Row = Row {
     report: b"frame 1: at 16: U2 unknown string\n",
 };
 
+/// The same call, checked against its declarations.
+const MEETING: Row = Row {
+    line: b"conform compact --limit 1024 --idl calc.thrift",
+    input: b"\0\0\0\x1b\x82\x21\x07\x09calculate\x15\x02\x1c\x15\x1e\x15\x14\x15\x04\x18\x01a\0\0",
+    code: 0,
+    output: b"frame 1: meets\n",
+    report: b"",
+};
+
+/// The same with an operation that is no member of its enum.
+const BREAKING: Row = Row {
+    line: b"conform compact --limit 1024 --idl calc.thrift",
+    input: b"\0\0\0\x1b\x82\x21\x07\x09calculate\x15\x02\x1c\x15\x1e\x15\x14\x15\x12\x18\x01a\0\0",
+    code: 1,
+    output: b"",
+    report: b"frame 1: at 2/3: M7 not a member\n",
+};
+
 /// The file that `calc.thrift` includes.
 const SHARED_FILE: &[u8] =
     b"namespace * shared\nstruct SharedStruct { 1: i32 key  2: string value }\nservice SharedService { SharedStruct getStruct(1: i32 key) }\n";
@@ -132,6 +150,8 @@ fn a_fault_cuts_off_what_follows(rt: HostRuntime) -> Result<(), Fail> {
         (NUMBERS, [6, 4, 0, 0]),
         (DECLARED, [6, 23, 0, 2]),
         (REFUSED, [5, 0, 7, 0]),
+        (MEETING, [6, 3, 0, 2]),
+        (BREAKING, [6, 0, 7, 2]),
     ];
     for (row, counts) in rows {
         let kinds = [

@@ -125,6 +125,52 @@ const ONE_AT_A_TIME: Case = Case {
     ending: b"session 0: left open\n",
 };
 
+/// Two Binary calls without frames, to an upstream that frames Compact.
+const WITHOUT_FRAMES: Case = Case {
+    line: b"serve binary compact 127.0.0.1:1 127.0.0.1:2 --unframed client",
+    acts: &[
+        Act::Connects,
+        Act::Sends(
+            Side::Client,
+            b"\x80\x01\0\x01\0\0\0\x04ping\0\0\0\x01\0\x80\x01\0\x01\0\0\0\x04ping\0\0\0\x01\0",
+        ),
+        Act::Sends(
+            Side::Upstream,
+            b"\0\0\0\x09\x82\x41\x01\x04ping\0\0\0\0\x09\x82\x41\x01\x04ping\0",
+        ),
+        Act::Ends(Side::Client),
+    ],
+    client: b"\x80\x01\0\x02\0\0\0\x04ping\0\0\0\x01\0\x80\x01\0\x02\0\0\0\x04ping\0\0\0\x01\0",
+    upstream: b"\0\0\0\x09\x82\x21\x01\x04ping\0\0\0\0\x09\x82\x21\x01\x04ping\0",
+    ending: b"session 0: clean\n",
+};
+
+/// A field of no kind in a call without a frame: the call is answered, and no end of it can be found.
+const WITHOUT_AN_END: Case = Case {
+    line: b"serve binary compact 127.0.0.1:1 127.0.0.1:2 --unframed client",
+    acts: &[
+        Act::Connects,
+        Act::Sends(Side::Client, b"\x80\x01\0\x01\0\0\0\x04ping\0\0\0\x01\x05"),
+    ],
+    client: b"\x80\x01\0\x03\0\0\0\x04ping\0\0\0\x01\x0b\0\x01\0\0\0\x0bG4 bad kind\x08\0\x02\0\0\0\x07\0",
+    upstream: b"",
+    ending: b"session 0: client fault: frame 2: length -1\n",
+};
+
+/// An upstream whose answers have no frames.
+const ANSWERS_WITHOUT_FRAMES: Case = Case {
+    line: b"serve json compact 127.0.0.1:1 127.0.0.1:2 --unframed upstream",
+    acts: &[
+        Act::Connects,
+        Act::Sends(Side::Client, b"\0\0\0\x11[1,\"ping\",1,1,{}]"),
+        Act::Sends(Side::Upstream, b"\x82\x41\x01\x04ping\0"),
+        Act::Ends(Side::Client),
+    ],
+    client: b"\0\0\0\x11[1,\"ping\",2,1,{}]",
+    upstream: b"\x82\x21\x01\x04ping\0",
+    ending: b"session 0: clean\n",
+};
+
 /// Runs a server over the acts of a case, and says whether it shows what the case tells.
 fn shows(alloc: Global, case: &Case, chunk: usize) -> Result<bool, OutOfMemory>
     requires { 0 < chunk }
@@ -142,6 +188,17 @@ fn shows(alloc: Global, case: &Case, chunk: usize) -> Result<bool, OutOfMemory>
 #[test]
 fn sessions_are_served(rt: HostRuntime) -> Result<(), Fail> {
     for case in [IN_PLACE, BY_NAME, UNANSWERED, WRONG_WAY, ONE_AT_A_TIME] {
+        for chunk in [1, 4096] {
+            let is_shown = shows(rt.alloc(), &case, chunk).ok().ok_or("memory")?;
+            assert!(rt; is_shown, "{:?} at {chunk}", case.ending);
+        }
+    }
+    Ok(())
+}
+
+#[test]
+fn peers_without_frames_are_served(rt: HostRuntime) -> Result<(), Fail> {
+    for case in [WITHOUT_FRAMES, WITHOUT_AN_END, ANSWERS_WITHOUT_FRAMES] {
         for chunk in [1, 4096] {
             let is_shown = shows(rt.alloc(), &case, chunk).ok().ok_or("memory")?;
             assert!(rt; is_shown, "{:?} at {chunk}", case.ending);

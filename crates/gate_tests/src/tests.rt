@@ -1,4 +1,4 @@
-//! The commands `check` and `convert` on small inputs, and a body there and back.
+//! The commands `check`, `convert` and `conform` on small inputs, and a body there and back.
 ghost use Rattle.std.specs.Prelude.{◌≤◌, length};
 
 use crate::outside::{Outside, Ran, run_line, with_input};
@@ -72,6 +72,38 @@ fn bytes_go_to_json_as_they_are_declared(rt: HostRuntime) -> Result<(), Fail> {
         b"\0\0\0\x22[1,\"ping\",1,1,{\"1\":{\"str\":\"QUI\"}}]".as_slice()
     );
     assert_eq!(rt; ran.report.bytes(), b"".as_slice());
+    Ok(())
+}
+
+#[test]
+fn a_message_is_checked_against_its_declarations(rt: HostRuntime) -> Result<(), Fail> {
+    let rows = [
+        (
+            b"service S { void ping() }".as_slice(),
+            0,
+            b"frame 1: meets\n".as_slice(),
+            b"".as_slice(),
+        ),
+        (
+            b"service Calc { string name() }",
+            1,
+            b"",
+            b"frame 1: at .: M1 unknown method\n",
+        ),
+    ];
+    for (text, code, output, report) in rows {
+        let ran = with_idl(
+            rt.alloc(),
+            b"conform compact --idl a.thrift",
+            text,
+            &COMPACT,
+        )
+        .ok()
+        .ok_or("memory")?;
+        assert_eq!(rt; ran.code, code);
+        assert_eq!(rt; ran.output.bytes(), output);
+        assert_eq!(rt; ran.report.bytes(), report);
+    }
     Ok(())
 }
 

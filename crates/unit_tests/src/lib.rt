@@ -29,6 +29,8 @@ mod memory_hub_tests;
 #[cfg(test)]
 mod message_show_tests;
 #[cfg(test)]
+mod stream_messages_tests;
+#[cfg(test)]
 mod type_tables_tests;
 #[cfg(test)]
 mod value_trees_tests;
