@@ -1,8 +1,8 @@
-/* Calls over framed connections, as fast as they are answered.
+/* Calls over connections, as fast as they are answered.
  *
  *     load PROTOCOL PORT[,PORT..] CONNECTIONS OPEN CALLS [IDLE]
  *
- * PROTOCOL is `binary` or `compact`. Each of the CONNECTIONS keeps OPEN calls of about 60 bytes open until CALLS were answered
+ * PROTOCOL is `binary` or `compact`, framed, or `unframed`: Binary whose messages have no lengths. Each of the CONNECTIONS keeps OPEN calls of about 60 bytes open until CALLS were answered
  * in all; IDLE more connections are opened before and send nothing. Of several ports each gets a connection in turn. The clock
  * starts once each of the CONNECTIONS had one answer, so that opening them isn't measured. Prints the calls a second, the bytes
  * of answers a second, and the median, the 99th percentile and the greatest time from a call to its answer in microseconds. */
@@ -30,7 +30,7 @@ struct connection {
     size_t first, open;
 };
 
-static int compact, ports[MOST_PORTS], port_count;
+static int compact, unframed, ports[MOST_PORTS], port_count;
 static long left_to_begin, answered, total;
 static uint64_t answer_bytes;
 static uint32_t *times;
@@ -77,12 +77,44 @@ static size_t compact_call(unsigned char *to, uint32_t seq)
     return n;
 }
 
+static size_t put_call(unsigned char *to, uint32_t seq)
+{
+    size_t length = compact ? compact_call(to, seq) : binary_call(to, seq);
+    if (!unframed)
+        return length;
+    memmove(to, to + 4, length - 4);
+    return length - 4;
+}
+
+static size_t number(const unsigned char *at)
+{
+    return (size_t)at[0] << 24 | at[1] << 16 | at[2] << 8 | at[3];
+}
+
+/* The length of the answer that stands there, or 0 where it isn't whole. One without a length before it has a header of 15
+ * bytes, perhaps field 0, a string, and a stop. */
+static size_t answer_length(const unsigned char *at, size_t held)
+{
+    size_t length = 4;
+    if (unframed)
+        length = 16;
+    if (held < length)
+        return 0;
+    if (!unframed)
+        length += number(at);
+    else if (at[15] && held < 22)
+        return 0;
+    else if (at[15])
+        length = 23 + number(at + 18);
+    return length <= held ? length : 0;
+}
+
 static void begin_calls(struct connection *c, size_t open)
 {
     static uint32_t seq;
     while (c->open < open && left_to_begin > 0 && c->due + 128 < ROOM) {
         c->begun[(c->first + c->open) % MOST_OPEN] = now();
-        c->due += compact ? compact_call(c->out + c->due, ++seq) : binary_call(c->out + c->due, ++seq);
+        c->due += put_call(c->out + c->due, ++seq);
         c->open++;
         left_to_begin--;
     }
@@ -113,13 +145,9 @@ static void take_answers(struct connection *c)
         return;
     c->held += (size_t)got;
     answer_bytes += (uint64_t)got;
-    size_t at = 0;
+    size_t at = 0, length;
     uint64_t time = now();
-    while (c->held - at >= 4) {
-        const unsigned char *f = c->in + at;
-        size_t length = (size_t)f[0] << 24 | f[1] << 16 | f[2] << 8 | f[3];
-        if (c->held - at - 4 < length)
-            break;
+    while ((length = answer_length(c->in + at, c->held - at)) > 0) {
         if (c->open == 0) {
             fprintf(stderr, "load: an answer to no call\n");
             exit(1);
@@ -127,7 +155,7 @@ static void take_answers(struct connection *c)
         times[answered++] = (uint32_t)((time - c->begun[c->first]) / 100);
         c->first = (c->first + 1) % MOST_OPEN;
         c->open--;
-        at += 4 + length;
+        at += length;
     }
     memmove(c->in, c->in + at, c->held - at);
     c->held -= at;
@@ -157,7 +185,7 @@ static int open_connection(void)
 /* Makes one call and waits for its answer. */
 static void warm_up(struct connection *c)
 {
-    size_t held = 0, length = compact ? compact_call(c->out, 1) : binary_call(c->out, 1);
+    size_t held = 0, length = put_call(c->out, 1);
     if (write(c->fd, c->out, length) != (ssize_t)length)
         exit(1);
     do {
@@ -167,8 +195,7 @@ static void warm_up(struct connection *c)
             exit(1);
         }
         held += (size_t)got;
-        length = 4 + ((size_t)c->in[0] << 24 | c->in[1] << 16 | c->in[2] << 8 | c->in[3]);
-    } while (held < 4 || held < length);
+    } while (answer_length(c->in, held) == 0);
 }
 
 static int by_time(const void *a, const void *b)
@@ -182,6 +209,7 @@ int main(int count, char **words)
     if (count < 6)
         return 2;
     compact = !strcmp(words[1], "compact");
+    unframed = !strcmp(words[1], "unframed");
     read_ports(words[2]);
     int connections = atoi(words[3]);
     size_t open = (size_t)atol(words[4]);

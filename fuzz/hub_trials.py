@@ -621,6 +621,6 @@ parser = argparse.ArgumentParser(description=__doc__, formatter_class=argparse.R
 parser.add_argument("--command", default=COMMAND)
 parser.add_argument("--seconds", type=float, default=60)
 parser.add_argument("trials", nargs="*", choices=[[], *TRIALS], metavar="TRIAL")
-options = parser.parse_args()
+options = parser.parse_args() if __name__ == "__main__" else parser.parse_args([])
 if __name__ == "__main__":
     sys.exit(main())

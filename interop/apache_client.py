@@ -1,14 +1,14 @@
 #!/usr/bin/env python3
 """A client of notes.thrift by Apache Thrift's own Python library.
 
-    apache_client.py binary|compact|json A.B.C.D:PORT
+    apache_client.py binary|compact|json A.B.C.D:PORT [framed|buffered]
 
-It makes some calls one by one and some without waiting, and sees that every answer is right and
+Its messages stand in frames, or follow one another without lengths. It makes some calls one by one and some without waiting, and sees that every answer is right and
 in its place. It writes `ok` then, and its status is 0.
 """
 import sys
 
-from apache_notes import ARGUMENTS, FACTORIES, TMessageType, TSocket, TTransport, address, read_answer, words, write_message
+from apache_notes import ARGUMENTS, FACTORIES, TRANSPORTS, TMessageType, TSocket, read_answer, words, write_message
 
 # Method, arguments, result. None: no answer comes.
 CALLS = [
@@ -22,15 +22,15 @@ CALLS = [
 
 
 def main() -> int:
-    protocol, target = words(sys.argv, __doc__, 2)
-    transport = TTransport.TFramedTransport(TSocket.TSocket(*address(target)))
+    protocol, target, form = words(sys.argv, __doc__)
+    transport = TRANSPORTS[form]().getTransport(TSocket.TSocket(*target))
     link = FACTORIES[protocol]().getProtocol(transport)
     transport.open()
 
     def send(number: int) -> None:
         name, arguments, result = CALLS[number % len(CALLS)]
-        form = TMessageType.ONEWAY if result is None else TMessageType.CALL
-        write_message(link, name, form, number, ARGUMENTS[name], arguments)
+        kind = TMessageType.ONEWAY if result is None else TMessageType.CALL
+        write_message(link, name, kind, number, ARGUMENTS[name], arguments)
 
     def receive(number: int) -> None:
         name, _, result = CALLS[number % len(CALLS)]

@@ -17,6 +17,7 @@ except ImportError:
     sys.exit(77)
 
 FACTORIES = {"binary": TBinaryProtocolFactory, "compact": TCompactProtocolFactory, "json": TJSONProtocolFactory}
+TRANSPORTS = {"framed": TTransport.TFramedTransportFactory, "buffered": TTransport.TBufferedTransportFactory}
 
 # What is declared: the arguments of each method by id, and its result. A list and a map are pairs
 # of their parts.
@@ -118,8 +119,10 @@ def address(text: str) -> Tuple[str, int]:
     return host, int(port)
 
 
-def words(text: List[str], usage: str, count: int) -> List[str]:
-    if len(text) != count + 1 or text[1] not in FACTORIES:
+def words(text: List[str], usage: str) -> Tuple[str, Tuple[str, int], str]:
+    """The protocol, the address, and `framed` or `buffered`."""
+    found = text[1:] if len(text) == 4 else text[1:] + ["framed"]
+    if len(found) != 3 or found[0] not in FACTORIES or found[2] not in TRANSPORTS:
         print(usage, file=sys.stderr)
         sys.exit(2)
-    return text[1:]
+    return found[0], address(found[1]), found[2]

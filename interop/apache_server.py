@@ -1,15 +1,15 @@
 #!/usr/bin/env python3
 """A server of notes.thrift by Apache Thrift's own Python library.
 
-    apache_server.py binary|compact|json A.B.C.D:PORT
+    apache_server.py binary|compact|json A.B.C.D:PORT [framed|buffered]
 
-It takes framed messages, and answers until it is stopped.
+It takes messages in frames, or one after another without lengths, and answers until it is stopped.
 """
 import sys
 from collections import Counter
 from typing import Any, Dict
 
-from apache_notes import ARGUMENTS, FACTORIES, RESULTS, TMessageType, TSocket, TTransport, address, read_fields, words, write_message
+from apache_notes import ARGUMENTS, FACTORIES, RESULTS, TRANSPORTS, TMessageType, TSocket, read_fields, words, write_message
 from thrift.server import TServer
 
 
@@ -36,11 +36,9 @@ class Notes:
 
 
 def main() -> None:
-    protocol, listen = words(sys.argv, __doc__, 2)
-    host, port = address(listen)
+    protocol, (host, port), form = words(sys.argv, __doc__)
     socket = TSocket.TServerSocket(host, port)
-    server = TServer.TThreadedServer(
-        Notes(), socket, TTransport.TFramedTransportFactory(), FACTORIES[protocol](), daemon=True)
+    server = TServer.TThreadedServer(Notes(), socket, TRANSPORTS[form](), FACTORIES[protocol](), daemon=True)
     server.serve()
 
 
