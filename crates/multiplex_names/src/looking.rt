@@ -9,6 +9,7 @@ use type_tables::{MethodInfo, Schema, ServiceId};
 /// The method of the service that the name's prefix means, or of `default` where the name has no prefix.
 ///
 /// A prefix that means no service finds nothing. `default` is a service of this schema.
+#[inline(always)]
 #[tactic(auto, unfolding(crate::specs::Names::find_in))]
 pub fn find(schema: &Schema, default: Option<ServiceId>, name: &[u8]) -> Option<MethodInfo>
     requires { IfSome default (λ s. s.0 < length schema.now.services) }

@@ -170,7 +170,7 @@ fn ends_at(bytes: &[u8], at: usize) -> u64
 }
 
 // A number of nine or ten bytes.
-#[inline(always)]
+#[inline(never)]
 fn long_front_of(bytes: &[u8], at: usize) -> Option<(u64, usize)>
     requires { at ≤ length bytes.now }
     ensures within { IfSome result (λ found. at + found.1 ≤ length bytes.now) }
