@@ -1,8 +1,8 @@
 -- Words found at a place of a frame: integers and kind names.
-use Rattle.std.proofs.Common.{◌≡◌, ℕ, ℤ, pos, negsuc, Option, Some, None, zero, suc, ◌+◌, ◌-◌, ◌<◌, ◌≤◌, ◌≤ℤ◌, Bool, true, false, List, [], ◌∷◌, ◌++◌, length, take, drop, get_or, Ok, refl, sym, ap, subst, ◌∙◌, arith, length-drop, length-append}
+use Rattle.std.proofs.Common.{◌≡◌, ℕ, ℤ, pos, negsuc, Option, Some, None, zero, suc, ◌+◌, ◌-◌, ◌<◌, ◌≤◌, ◌≤ℤ◌, true, false, List, [], ◌∷◌, ◌++◌, length, drop, get_or, Ok, refl, sym, ap, ◌∙◌, arith, length-drop, length-append}
 use lib.IntN.{nat_abs}
 use Rattle.std.specs.Prelude.{IfSome, nat_lt, nat_le, ◌==◌, slice_index}
-use Rattle.std.specs.Int.{w32, from_le_bytes, to_le_bytes}
+use Rattle.std.specs.Int.{w32, from_le_bytes}
 use Rattle.std.proofs.lemmas.Bool.Decides.{nat_tests}
 use Rattle.std.proofs.lemmas.List.{drop-drop, get_or-drop}
 use Rattle.std.proofs.lemmas.Nat.{le_bytes_4}
@@ -15,9 +15,9 @@ use Rattle.json_text.specs.Int.{is_int_byte, int_at}
 use Rattle.json_text.specs.Places.{IsInside}
 use Rattle.json_text.specs.Scan.{is_white}
 use Rattle.json_text.specs.Scan as words
-use Rattle.json_protocol.specs.Scan.{Scan, item}
-use Rattle.json_protocol.specs.Words.{begins_two, begins_three, large_kind_at, wide_kind_at, kind_at, int_in, closed, quoted_int_in}
-use Rattle.json_protocol.specs.Values.{size_of, size_in}
+use Rattle.json_protocol.specs.Scan.{item}
+use Rattle.json_protocol.specs.Words.{large_kind_at, wide_kind_at, kind_at, int_in, quoted_int_in}
+use Rattle.json_protocol.specs.Values.{size_of}
 use Rattle.json_protocol.specs.Writing.{kind_name}
 use Rattle.json_protocol.specs.ReadForms.{Finds, IsMark, SizeFound}
 

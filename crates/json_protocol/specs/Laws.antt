@@ -1,4 +1,5 @@
 -- What holds of each item that is read, whatever the bytes.
+-- Nothing here has to be believed: these are lemmas on the definitions of Reading, Values and Writing, each with its proof.
 use Rattle.std.proofs.Common.{◌≡◌, ℕ, ℤ, zero, suc, ◌+◌, ◌-◌, ◌*◌, ◌<◌, ◌≤◌, ◌^◌, ◌≤ℤ◌, Bool, true, false, cond, List, [], ◌∷◌, length, drop, Option, Some, None, Ok, Err, refl, sym, ap, subst, arith, length-drop, length-take, add-zero}
 use Rattle.std.specs.Prelude.{⊤, nat_lt, nat_le, slice_index, ◌==◌, ◌&&◌, IfOk, pos, negsuc, int_lt, FitsSigned}
 use Rattle.std.specs.Int.{w8, w16, w32, w64}

@@ -1,4 +1,5 @@
 -- No item is written in more bytes than its weight, whatever stood before it.
+-- Nothing here has to be believed: these are lemmas on the definitions of Writing, each with its proof.
 use Rattle.std.proofs.Common.{◌≡◌, ℕ, ℤ, pos, ◌+◌, ◌*◌, ◌<◌, ◌≤◌, ◌^◌, Bool, true, false, List, [], ◌∷◌, ◌++◌, length, Option, Some, None, refl, arith, length-append, w8, w16, w32, w64}
 use Rattle.std.specs.Prelude.{◌==◌, cond, FitsSigned}
 use Rattle.std.specs.Fmt.{signed_decimal, decimal}

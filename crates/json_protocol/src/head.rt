@@ -8,10 +8,10 @@ ghost use Rattle.json_protocol.specs.ReadForms.{HeadFound};
 ghost use Rattle.json_protocol.specs.Head.{type_of, front_at, back_at, head_at, head_scan, end_scan};
 
 use crate::room::Room;
-use crate::scan::{fault, gap_from, mark_from};
+use crate::scan::{gap_from, mark_from};
 use crate::word::int_in;
 use json_text::plain_text;
-use protocol_traits::{Fault, Head, Reason};
+use protocol_traits::{Fault, Head, Reason, fault_at};
 use thrift_value::MessageType;
 
 fn int_from(
@@ -31,7 +31,7 @@ fn int_from(
     let at = gap_from(bytes, at);
     match int_in(reason, low, high, &bytes[at..]) {
         Ok((value, taken)) => Ok((value, at + taken)),
-        Err(f) => Err(fault(at + f.place, f.reason)),
+        Err(f) => Err(fault_at(at + f.place, f.reason)),
     }
 }
 
@@ -87,7 +87,7 @@ fn name_from<'f>(
 {
     match room.text(&bytes[at..]) {
         Ok((text, taken)) => Ok((text, at + taken)),
-        Err(f) => Err(fault(at + f.place, f.reason)),
+        Err(f) => Err(fault_at(at + f.place, f.reason)),
     }
 }
 
@@ -141,5 +141,5 @@ pub fn end_scan(bytes: &[u8]) -> Result<((), usize), Fault>
     if at == bytes.len() {
         return Ok(((), at));
     }
-    Err(fault(at, Reason::Trailing))
+    Err(fault_at(at, Reason::Trailing))
 }

@@ -6,9 +6,9 @@ ghost use Rattle.json_protocol.specs.Reading.{lead_by, lead_pairs, lead_fields, 
 
 use crate::opening::Opening;
 use crate::room::Room;
-use crate::scan::{fault, gap_from, mark_from};
+use crate::scan::{gap_from, mark_from};
 use crate::value::{end_at, first_at, next_at, value_in};
-use protocol_traits::{Fault, Hint, Slot};
+use protocol_traits::{Fault, Hint, Slot, fault_at};
 use thrift_value::Event;
 
 /// The item that the innermost of so many levels calls for, with the place where it begins behind its marks.
@@ -29,7 +29,7 @@ pub fn led<'f>(
     let (_, lead) = lead_at(opening, slot, bytes)?;
     match item_in(depth, opening, hint, slot, &bytes[lead..], room) {
         Ok((event, taken)) => Ok(((event, lead), lead + taken)),
-        Err(f) => Err(fault(lead + f.place, f.reason)),
+        Err(f) => Err(fault_at(lead + f.place, f.reason)),
     }
 }
 

@@ -4,6 +4,7 @@ ghost use Rattle.thrift_value.specs.Items.{item_of};
 ghost use Rattle.protocol_traits.specs.Heads.{header_of};
 ghost use Rattle.json_protocol.specs.Reading.{begun, reads, ahead};
 ghost use Rattle.json_protocol.specs.Head.{reads_head, reads_end};
+ghost use Rattle.json_protocol.specs.ReadForms.{stands_at};
 ghost use Rattle.json_protocol.specs.Laws.{reads_pays, reads_nests, reads_follows, reads_head_pays, reads_head_opens, begins};
 
 use crate::reader::JsonRead;
@@ -39,6 +40,8 @@ impl<'f> ReadRules for JsonRead<'f> {
     ghost nest = { λ s. s.nest };
 
     ghost depth = { λ s. length s.nest };
+
+    ghost stands_at = { stands_at };
 
     ghost ahead = { ahead };
 

@@ -1,6 +1,7 @@
 //! The reader: a frame, a place in it, the open levels and the room for its strings.
-ghost use Rattle.std.specs.Prelude.{◌≡◌, ◌<◌, ◌≤◌, ◌+◌, ◌^◌, [], ◌∷◌, length, IfOk};
+ghost use Rattle.std.specs.Prelude.{◌≡◌, ◌<◌, ◌≤◌, ◌+◌, ◌^◌, length, IfOk};
 ghost use Rattle.thrift_value.specs.Items.{item_of};
+ghost use Rattle.protocol_traits.specs.declared.nest.TheConstants.{DEPTH};
 ghost use Rattle.protocol_traits.specs.Heads.{header_of};
 ghost use Rattle.protocol_traits.specs.Steps.{Answers};
 ghost use Rattle.protocol_traits.specs.Stack.{first_of};
@@ -12,8 +13,7 @@ use crate::head::{end_scan, head_at};
 use crate::item::led;
 use crate::opening::{Opening, opening_after};
 use crate::room::Room;
-use crate::scan::fault;
-use protocol_traits::{Fault, Head, Hint, Nest, Reason, Slot, follow};
+use protocol_traits::{Fault, Head, Hint, Nest, Reason, Slot, fault_at, follow};
 use std::marker::Model;
 use thrift_value::Event;
 
@@ -31,13 +31,14 @@ pub struct JsonRead<'f> {
 /// Clauses see the frame, the places in it and the open levels. The room is always as long as what is left of the frame.
 impl<'f> Model for JsonRead<'f> {
     ghost use Rattle.std.specs.Prelude.{◌<◌, ◌≤◌, ◌+◌, ◌^◌, length};
+    ghost use Rattle.protocol_traits.specs.declared.nest.TheConstants.{DEPTH};
     ghost use Rattle.json_protocol.specs.Reading.{State};
 
     ghost Value = { State };
 
     ghost view = { λ r. record { frame = r.frame.now; place = r.place; value = r.value; nest = r.nest; opening = r.opening } };
 
-    ghost invariant = { λ r. (r.place ≤ length r.frame.now) × (length r.frame.now < 2 ^ 31) × (length r.nest ≤ 256) × (length r.frame.now ≤ r.place + r.room) };
+    ghost invariant = { λ r. (r.place ≤ length r.frame.now) × (length r.frame.now < 2 ^ 31) × (length r.nest ≤ DEPTH) × (length r.frame.now ≤ r.place + r.room) };
 }
 
 impl<'f> JsonRead<'f> {
@@ -61,12 +62,12 @@ impl<'f> JsonRead<'f> {
     pub(crate) fn read(&mut self, hint: Hint) -> Result<Event<'f>, Fault>
         ensures exact { Answers item_of result self.new (reads self.old hint) }
         ensures sized { IfOk result (λ e. IsSized (item_of e)) }
-        ensures shallow { IfOk result (λ e. depth_after (item_of e) (length self.old.nest) ≤ 256) }
+        ensures shallow { IfOk result (λ e. depth_after (item_of e) (length self.old.nest) ≤ DEPTH) }
     {
         let frame = self.frame;
         let slot = match self.nest.top() {
             Some(slot) => slot,
-            None => return Err(fault(self.place, Reason::Trailing)),
+            None => return Err(fault_at(self.place, Reason::Trailing)),
         };
         match led(
             self.nest.depth(),
@@ -83,7 +84,7 @@ impl<'f> JsonRead<'f> {
                 self.place += taken;
                 Ok(event)
             }
-            Err(f) => Err(fault(self.place + f.place, f.reason)),
+            Err(f) => Err(fault_at(self.place + f.place, f.reason)),
         }
     }
 
@@ -104,14 +105,14 @@ impl<'f> JsonRead<'f> {
             Ok(((head, start), taken)) => {
                 self.value = self.place + start;
                 self.place += taken;
-                self.nest = Nest::new(Slot::Fields(0));
+                self.nest.restart(Slot::Fields(0));
                 self.opening = Opening::Body;
                 Ok(head)
             }
             Err(f) => {
                 let place = self.place + f.place;
                 self.place = frame.len();
-                Err(fault(place, f.reason))
+                Err(fault_at(place, f.reason))
             }
         }
     }
@@ -128,7 +129,7 @@ impl<'f> JsonRead<'f> {
     {
         match end_scan(&self.frame[self.place..]) {
             Ok(_) => Ok(()),
-            Err(f) => Err(fault(self.place + f.place, f.reason)),
+            Err(f) => Err(fault_at(self.place + f.place, f.reason)),
         }
     }
 }

@@ -4,9 +4,8 @@ ghost use Rattle.protocol_traits.specs.Steps.{seen};
 ghost use Rattle.json_protocol.specs.Scan.{IsWithin, string_scan, Keeps};
 ghost use Rattle.json_protocol.specs.Words.{text_in, blob_in};
 
-use crate::scan::fault;
 use json_text::{Scan, read_blob, read_text};
-use protocol_traits::{Fault, Reason};
+use protocol_traits::{Fault, Reason, fault_at};
 use std::marker::Model;
 use std::mem;
 
@@ -49,11 +48,11 @@ impl<'f> Room<'f> {
             }
             Scan::Short => {
                 self.room = room;
-                Err(fault(bytes.len(), Reason::Truncated))
+                Err(fault_at(bytes.len(), Reason::Truncated))
             }
             Scan::Bad(place) => {
                 self.room = room;
-                Err(fault(place, Reason::BadString))
+                Err(fault_at(place, Reason::BadString))
             }
         }
     }
@@ -76,11 +75,11 @@ impl<'f> Room<'f> {
             }
             Scan::Short => {
                 self.room = room;
-                Err(fault(bytes.len(), Reason::Truncated))
+                Err(fault_at(bytes.len(), Reason::Truncated))
             }
             Scan::Bad(place) => {
                 self.room = room;
-                Err(fault(place, Reason::BadBase64))
+                Err(fault_at(place, Reason::BadBase64))
             }
         }
     }

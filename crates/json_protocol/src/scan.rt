@@ -3,13 +3,7 @@ ghost use Rattle.std.specs.Prelude.{◌≡◌, ℕ, ◌+◌, ◌≤◌, drop, le
 ghost use Rattle.json_protocol.specs.Scan.{IsWithin, further, gap, mark_at, byte_fits};
 
 use json_text::skip_white;
-use protocol_traits::{Fault, Reason};
-
-pub fn fault(place: usize, reason: Reason) -> Fault
-    ensures { result ≡ record { place = place; reason = reason } }
-{
-    Fault { place, reason }
-}
+use protocol_traits::{Fault, Reason, fault_at};
 
 /// The place behind the whitespace that stands at `at`.
 pub fn gap_from(bytes: &[u8], at: usize) -> usize
@@ -27,12 +21,12 @@ pub fn mark_at(mark: u8, bytes: &[u8]) -> Result<((), usize), Fault>
     ensures exact { result ≡ mark_at mark bytes.now }
 {
     if bytes.is_empty() {
-        return Err(fault(0, Reason::Truncated));
+        return Err(fault_at(0, Reason::Truncated));
     }
     if bytes[0] == mark {
         return Ok(((), 1));
     }
-    Err(fault(0, Reason::BadToken))
+    Err(fault_at(0, Reason::BadToken))
 }
 
 /// A mark behind whitespace, so many bytes further on.
@@ -45,7 +39,7 @@ pub fn mark_from(mark: u8, bytes: &[u8], at: usize) -> Result<((), usize), Fault
     let at = gap_from(bytes, at);
     match mark_at(mark, &bytes[at..]) {
         Ok((there, taken)) => Ok((there, at + taken)),
-        Err(f) => Err(fault(at + f.place, f.reason)),
+        Err(f) => Err(fault_at(at + f.place, f.reason)),
     }
 }
 

@@ -6,9 +6,9 @@ ghost use Rattle.json_protocol.specs.Words.{string_in};
 ghost use Rattle.json_protocol.specs.Values.{field_at, first_at, next_at, bool_at, i8_at, i16_at, i32_at, i64_at, double_at, struct_at, size_in, sequence_at, list_at, set_at, map_head_at, no_pairs_at, map_at, end_at, value_at, opens, value_in};
 
 use crate::room::Room;
-use crate::scan::{fault, gap_from, mark_at, mark_from};
+use crate::scan::{gap_from, mark_at, mark_from};
 use crate::word::{double_in, int_in, kind_from, quoted_int_in, whole_in};
-use protocol_traits::{DEPTH, Fault, Hint, Reason};
+use protocol_traits::{DEPTH, Fault, Hint, Reason, fault_at};
 use thrift_value::{Event, Kind};
 
 /// A value of a kind, in quotes where it is a number or bool and a key. A level deeper than `DEPTH` is refused before
@@ -29,7 +29,7 @@ pub fn value_in<'f>(
     ensures room { Keeps (length bytes.now) room.old room.new result }
 {
     if opens(kind) && depth >= DEPTH {
-        return Err(fault(0, Reason::TooDeep));
+        return Err(fault_at(0, Reason::TooDeep));
     }
     value_at(key, hint, kind, bytes, room)
 }
@@ -66,7 +66,7 @@ fn value_at<'f>(
         Kind::Map => map_at(bytes),
         Kind::Set => set_at(bytes),
         Kind::List => list_at(bytes),
-        Kind::Uuid => Err(fault(0, Reason::BadKind)),
+        Kind::Uuid => Err(fault_at(0, Reason::BadKind)),
     }
 }
 
@@ -105,12 +105,12 @@ pub fn first_at(bytes: &[u8]) -> Result<(Event<'_>, usize), Fault>
     ensures exact { seen scan_of result ≡ first_at bytes.now }
 {
     if bytes.is_empty() {
-        return Err(fault(0, Reason::Truncated));
+        return Err(fault_at(0, Reason::Truncated));
     }
     match bytes[0] {
         b'}' => Ok((Event::Stop, 1)),
         b'"' => field_at(bytes),
-        _ => Err(fault(0, Reason::BadToken)),
+        _ => Err(fault_at(0, Reason::BadToken)),
     }
 }
 
@@ -121,12 +121,12 @@ pub fn next_at(bytes: &[u8]) -> Result<(Event<'_>, usize), Fault>
     ensures exact { seen scan_of result ≡ next_at bytes.now }
 {
     if bytes.is_empty() {
-        return Err(fault(0, Reason::Truncated));
+        return Err(fault_at(0, Reason::Truncated));
     }
     match bytes[0] {
         b'}' => Ok((Event::Stop, 1)),
         b',' => field_from(bytes, 1),
-        _ => Err(fault(0, Reason::BadToken)),
+        _ => Err(fault_at(0, Reason::BadToken)),
     }
 }
 
@@ -138,7 +138,7 @@ fn field_from(bytes: &[u8], at: usize) -> Result<(Event<'_>, usize), Fault>
     let at = gap_from(bytes, at);
     match field_at(&bytes[at..]) {
         Ok((event, taken)) => Ok((event, at + taken)),
-        Err(f) => Err(fault(at + f.place, f.reason)),
+        Err(f) => Err(fault_at(at + f.place, f.reason)),
     }
 }
 
@@ -315,6 +315,6 @@ fn size_from(bytes: &[u8], at: usize) -> Result<(u32, usize), Fault>
     let at = gap_from(bytes, at);
     match int_in(Reason::BadSize, 0, 2147483647, &bytes[at..]) {
         Ok((size, taken)) => Ok((size as u32, at + taken)),
-        Err(f) => Err(fault(at + f.place, f.reason)),
+        Err(f) => Err(fault_at(at + f.place, f.reason)),
     }
 }

@@ -5,9 +5,9 @@ ghost use Rattle.json_text.specs.declared.scanned.Scan.TheVariants.{Whole};
 ghost use Rattle.json_protocol.specs.Scan.{IsWithin, further, word_end, byte_fits, string_scan};
 ghost use Rattle.json_protocol.specs.Words.{begins_two, begins_three, large_kind_at, wide_kind_at, kind_at, int_in, closed, quoted_int_in, whole_in, infinity_fits, spelled, number_in, quoted_number_in, double_in};
 
-use crate::scan::{byte_fits, fault, gap_from};
+use crate::scan::{byte_fits, gap_from};
 use json_text::{Scan, read_int, read_number};
-use protocol_traits::{Fault, Reason};
+use protocol_traits::{Fault, Reason, fault_at};
 use thrift_value::Kind;
 
 /// A kind's name in quotes, so many bytes further on and behind whitespace.
@@ -19,7 +19,7 @@ pub fn kind_from(bytes: &[u8], at: usize) -> Result<(Kind, usize), Fault>
     let at = gap_from(bytes, at);
     match kind_at(&bytes[at..]) {
         Ok((kind, taken)) => Ok((kind, at + taken)),
-        Err(f) => Err(fault(at + f.place, f.reason)),
+        Err(f) => Err(fault_at(at + f.place, f.reason)),
     }
 }
 
@@ -53,8 +53,8 @@ pub fn int_in(reason: Reason, low: i64, high: i64, bytes: &[u8]) -> Result<(i64,
 {
     match read_int(bytes, 0, low, high) {
         Scan::Whole(value, end) => Ok((value, end)),
-        Scan::Short => Err(fault(bytes.len(), Reason::Truncated)),
-        Scan::Bad(place) => Err(fault(place, reason)),
+        Scan::Short => Err(fault_at(bytes.len(), Reason::Truncated)),
+        Scan::Bad(place) => Err(fault_at(place, reason)),
     }
 }
 
@@ -72,18 +72,18 @@ pub fn quoted_int_in(
     ensures exact { result ≡ quoted_int_in reason low high bytes.now }
 {
     if bytes.is_empty() {
-        return Err(fault(0, Reason::Truncated));
+        return Err(fault_at(0, Reason::Truncated));
     }
     if bytes[0] != b'"' {
-        return Err(fault(0, reason));
+        return Err(fault_at(0, reason));
     }
     match read_int(bytes, 1, low, high) {
         Scan::Whole(value, end) => match quote_at(reason, bytes, end) {
             Ok((_, end)) => Ok((value, end)),
             Err(f) => Err(f),
         },
-        Scan::Short => Err(fault(bytes.len(), Reason::Truncated)),
-        Scan::Bad(_) => Err(fault(0, reason)),
+        Scan::Short => Err(fault_at(bytes.len(), Reason::Truncated)),
+        Scan::Bad(_) => Err(fault_at(0, reason)),
     }
 }
 
@@ -163,7 +163,7 @@ fn large_kind_at(bytes: &[u8]) -> Result<(Kind, usize), Fault>
     if begins_three(bytes, b'l', b's', b't') {
         return word_end(bytes, 5, Kind::List);
     }
-    Err(fault(0, Reason::BadKind))
+    Err(fault_at(0, Reason::BadKind))
 }
 
 /// A quote, two letters and a quote, as far as there are bytes.
@@ -213,7 +213,7 @@ fn word_end<T: Copy>(bytes: &[u8], size: usize, value: T) -> Result<(T, usize), 
     ensures exact { result ≡ word_end bytes.now size value }
 {
     if bytes.len() < size {
-        return Err(fault(bytes.len(), Reason::Truncated));
+        return Err(fault_at(bytes.len(), Reason::Truncated));
     }
     Ok((value, size))
 }
@@ -225,10 +225,10 @@ fn quote_at(reason: Reason, bytes: &[u8], at: usize) -> Result<((), usize), Faul
     ensures exact { result ≡ closed reason bytes.now (Whole tt at) }
 {
     if bytes.len() <= at {
-        return Err(fault(bytes.len(), Reason::Truncated));
+        return Err(fault_at(bytes.len(), Reason::Truncated));
     }
     if bytes[at] != b'"' {
-        return Err(fault(0, reason));
+        return Err(fault_at(0, reason));
     }
     Ok(((), at + 1))
 }
@@ -242,8 +242,8 @@ fn number_in(bytes: &[u8]) -> Result<(usize, usize), Fault>
 {
     match read_number(bytes, 0) {
         Scan::Whole(size, end) => Ok((size, end)),
-        Scan::Short => Err(fault(bytes.len(), Reason::Truncated)),
-        Scan::Bad(place) => Err(fault(place, Reason::BadNumber)),
+        Scan::Short => Err(fault_at(bytes.len(), Reason::Truncated)),
+        Scan::Bad(place) => Err(fault_at(place, Reason::BadNumber)),
     }
 }
 
@@ -255,18 +255,18 @@ fn quoted_number_in(bytes: &[u8]) -> Result<(usize, usize), Fault>
     ensures exact { result ≡ quoted_number_in bytes.now }
 {
     if bytes.is_empty() {
-        return Err(fault(0, Reason::Truncated));
+        return Err(fault_at(0, Reason::Truncated));
     }
     if bytes[0] != b'"' {
-        return Err(fault(0, Reason::BadNumber));
+        return Err(fault_at(0, Reason::BadNumber));
     }
     match read_number(bytes, 1) {
         Scan::Whole(size, end) => match quote_at(Reason::BadNumber, bytes, end) {
             Ok((_, end)) => Ok((size, end)),
             Err(f) => Err(f),
         },
-        Scan::Short => Err(fault(bytes.len(), Reason::Truncated)),
-        Scan::Bad(_) => Err(fault(0, Reason::BadNumber)),
+        Scan::Short => Err(fault_at(bytes.len(), Reason::Truncated)),
+        Scan::Bad(_) => Err(fault_at(0, Reason::BadNumber)),
     }
 }
 

@@ -4,7 +4,7 @@ ghost use Rattle.std.specs.Fmt.{signed_decimal};
 ghost use Rattle.json_text.specs.Blob.{blob_spelling};
 ghost use Rattle.json_text.specs.Plain.{text_spelling};
 ghost use Rattle.json_protocol.specs.Writing.{flag, kinds_spelling, sequence_spelling, stop_spelling};
-ghost use Rattle.json_protocol.specs.WriteForms.{stands_at, starts_at, goes_on, stand_lead};
+ghost use Rattle.json_protocol.specs.WriteForms.{starts_at, goes_on, stand_lead};
 
 use crate::lay::{
     container_end, flag_word, lay_both, lay_field, lay_marks, lay_whole, quoted_name, stand_key,
@@ -19,8 +19,6 @@ use protocol_traits::{Container, FormWrite, Head, Hint, Mark, Opening, Stand};
 use thrift_value::Kind;
 
 impl FormWrite for JsonWrite {
-    ghost stands_at = { stands_at };
-
     ghost hinted = { true };
 
     ghost marked = { true };

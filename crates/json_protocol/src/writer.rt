@@ -7,6 +7,7 @@ ghost use Rattle.protocol_traits.specs.Stack.{first_of};
 ghost use Rattle.protocol_traits.specs.Heads.{header_of};
 ghost use Rattle.protocol_traits.specs.Follow.{depth_after};
 ghost use Rattle.json_protocol.specs.Writing.{string_bar, is_uuid, kind_bar, bar, name_bar, begun, after, plain, plain_head};
+ghost use Rattle.json_protocol.specs.WriteForms.{stands_at};
 ghost use Rattle.json_protocol.specs.Weights.{plain_nests, light_head, light};
 
 use crate::opening::{Opening, opening_after};
@@ -26,13 +27,14 @@ pub struct JsonWrite {
 /// Clauses see the open levels and what was written of the innermost.
 impl Model for JsonWrite {
     ghost use Rattle.std.specs.Prelude.{◌≤◌, length};
+    ghost use Rattle.protocol_traits.specs.declared.nest.TheConstants.{DEPTH};
     ghost use Rattle.json_protocol.specs.Writing.{Writer};
 
     ghost Value = { Writer };
 
     ghost view = { λ w. record { nest = w.nest; opening = w.opening } };
 
-    ghost invariant = { λ w. length w.nest ≤ 256 };
+    ghost invariant = { λ w. length w.nest ≤ DEPTH };
 }
 
 impl WireWrite for JsonWrite {
@@ -49,6 +51,8 @@ impl WireWrite for JsonWrite {
     ghost after = { after };
 
     ghost depth = { λ w. length w.nest };
+
+    ghost stands_at = { stands_at };
 
     ghost starts = { refl };
 

@@ -3,8 +3,7 @@ use Rattle.std.proofs.Common.{◌≡◌, ℕ, List, ◌++◌, Ok, Err, refl}
 use Rattle.protocol_traits.specs.declared.fault.Fault.{Fault}
 use Rattle.protocol_traits.specs.Heads.{Header}
 use Rattle.protocol_traits.specs.Steps.{Step, told}
-use Rattle.thrift_value.specs.Items.{Item, field, stop, bool_value, i8_value, i16_value, i32_value, i64_value, double_value, text, number_text, unknown_text, struct_begin, empty_map, map_begin, set_begin, list_begin, end, uuid_value}
-use Rattle.type_walk.specs.Positions.{Position, after}
+use Rattle.type_walk.specs.Positions.{Position}
 use Rattle.translate_core.specs.Body.{Source, Going, Ended}
 use Rattle.message_show.specs.declared.checking.Checked.TheVariants as checked
 use Rattle.message_show.specs.Line.{line_end}

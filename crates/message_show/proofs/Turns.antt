@@ -1,5 +1,5 @@
 -- Turns through a body.
-use Rattle.std.proofs.Common.{◌≡◌, ◌≤◌, ◌<◌, ◌+◌, ℕ, ℤ, suc, List, [], ◌∷◌, ◌++◌, length, Bool, true, false, Some, None, Result, Ok, Err, arith, refl, sym, ap, subst, ◌∙◌, append_assoc}
+use Rattle.std.proofs.Common.{◌≡◌, ◌≤◌, ◌<◌, ◌+◌, ℕ, ℤ, suc, List, [], ◌∷◌, ◌++◌, length, Bool, true, false, Some, None, Ok, Err, arith, refl, sym, ap, subst, ◌∙◌, append_assoc}
 use Rattle.std.specs.Prelude.{IfOk}
 use Rattle.std.proofs.lemmas.List.{append-nil}
 use Rattle.thrift_value.specs.declared.event.Event.{Event}
@@ -27,7 +27,6 @@ use Rattle.message_show.specs.Line.{item_text, opens}
 use Rattle.message_show.specs.Pieces.{Output, Tells, Waiting}
 use Rattle.message_show.specs.Shown.{Place, place, line_target}
 use Rattle.message_show.specs.Turns.{Standing, standing, rest_from, Leads, Turned}
-use Rattle.message_show.proofs.Told.{tells_then}
 
 pub closes_stop : (d : Declarations) (here : OpenLevel) → IsSound d here → Passes d here here stop turns.Closed
 closes_stop d here sound = record { after = λ up. refl; first = refl; depth = λ up. omega arith; sound = sound }

@@ -17,7 +17,7 @@ use Rattle.protocol_traits.specs.Steps.{Step}
 use Rattle.translate_core.specs.declared.route.Route.TheVariants.{ByName}
 use Rattle.translate_core.specs.Positions.{typed}
 use Rattle.translate_core.specs.Routes.{start_of}
-use Rattle.translate_core.specs.Body.{Source, Target, Ended, going, whole, source_of}
+use Rattle.translate_core.specs.Body.{Source, TargetRules, Ended, going, whole, source_in}
 use Rattle.protocol_pairs.specs.Pairs.{binary_source, compact_source, json_source}
 use Rattle.message_show.specs.declared.showing.Shown.{Shown}
 use Rattle.message_show.specs.declared.showing.Shown.TheVariants as shown_as
@@ -42,7 +42,7 @@ abbrev pub text_at : Place → Item → List ℕ
 text_at p item = item_text p.position.schema (first_of p.position.levels) p.levels item
 
 -- a writer of the line
-abbrev pub line_target : Place → Target Place
+abbrev pub line_target : Place → TargetRules Place
 line_target p = record {
   begun = p;
   name_bar = λ name. None;
@@ -126,9 +126,6 @@ HasLine (Refused f) = ⊥
 HasLine (Unread f) = ⊥
 
 -- ---- by the rules of any reader
-
-abbrev pub source_in : {S : Type 0} → ReadRules S → Source S
-source_in rules = source_of rules.begun rules.reads_head rules.reads rules.reads_end rules.value_place rules.ahead
 
 -- what is shown of a frame; names without a service before them are those of this service
 abbrev pub shown_in : {S : Type 0} → ReadRules S → Declarations → Option ServiceId → List ℕ → Showing

@@ -1,8 +1,9 @@
 -- The forms of the quick way: one item that is read at a place of a frame, and one that is written into cells.
-use Rattle.std.specs.Prelude.{◌≡◌, ℕ, ℤ, ◌+◌, ◌-◌, ◌*◌, ◌<◌, ◌≤◌, List, [], ◌∷◌, ◌++◌, length, take, drop, Bool, true, Option, None, Ok, ◌==◌, if◌then◌else◌}
+use Rattle.std.specs.Prelude.{◌≡◌, ℕ, ℤ, pos, ◌+◌, ◌-◌, ◌*◌, ◌<◌, ◌≤◌, List, [], ◌∷◌, ◌++◌, length, take, drop, Bool, true, Option, None, Ok, ◌==◌, if◌then◌else◌}
+use Rattle.std.specs.Int.{w64, to_be_bytes}
 use Rattle.thrift_value.specs.declared.kind.Kind.{Kind}
 use Rattle.thrift_value.specs.declared.kind.Kind.TheVariants as kinds
-use Rattle.thrift_value.specs.Items.{Item, field, stop, struct_begin, empty_map, map_begin, set_begin, list_begin}
+use Rattle.thrift_value.specs.Items.{Item, field, stop, bool_value, double_value, text, struct_begin, empty_map, map_begin, set_begin, list_begin, end, uuid_value}
 use Rattle.protocol_traits.specs.declared.fault.Bar.{Bar}
 use Rattle.protocol_traits.specs.declared.forms.Container.{Container}
 use Rattle.protocol_traits.specs.declared.forms.Container.TheVariants as containers
@@ -14,8 +15,10 @@ use Rattle.protocol_traits.specs.declared.forms.Stand.{Stand}
 use Rattle.protocol_traits.specs.declared.forms.Stand.TheVariants as stands
 use Rattle.protocol_traits.specs.declared.nest.Slot.{Slot}
 use Rattle.protocol_traits.specs.declared.nest.Slot.TheVariants as slots
+use Rattle.protocol_traits.specs.declared.nest.TheConstants.{DEPTH}
 use Rattle.protocol_traits.specs.declared.proto.Hint.{Hint}
 use Rattle.protocol_traits.specs.declared.proto.Mark.{Mark}
+use Rattle.protocol_traits.specs.Heads.{Header}
 use Rattle.protocol_traits.specs.Steps.{Step}
 use Rattle.protocol_traits.specs.Follow.{after}
 
@@ -61,7 +64,15 @@ pairs_item key value size = if size == 0 then empty_map else map_begin key value
 
 -- a part of a frame
 abbrev pub part : List ℕ → ℕ → ℕ → List ℕ
-part frame begin end = take (end - begin) (drop begin frame)
+part frame begin behind = take (behind - begin) (drop begin frame)
+
+-- a double, by the number that its bytes make big endian
+abbrev pub double_item : ℕ → Item
+double_item number = double_value (to_be_bytes w64 number)
+
+-- a uuid whose sixteen bytes lie in a frame
+abbrev pub uuid_item : List ℕ → ℕ → Item
+uuid_item frame begin = uuid_value (part frame begin (begin + 16))
 
 -- the most bytes that any protocol spells a text of so many bytes in
 abbrev pub text_weight : ℕ → ℕ
@@ -107,11 +118,36 @@ module _ {S : Type 0} (reads : S → Hint → Step S Item) (stands_at : S → Li
 
   -- the beginning of one that is a level is read, not too deep
   abbrev pub StepsInto : List ℕ → ℕ → Stand → Kind → Item → ℕ → Type 0
-  StepsInto frame at stand kind item behind = (opening : Opening) (nest : List Slot) (hint : Hint) → Calls stand kind opening nest → length nest < 256 → Steps frame at opening nest hint item behind
+  StepsInto frame at stand kind item behind = (opening : Opening) (nest : List Slot) (hint : Hint) → Calls stand kind opening nest → length nest < DEPTH → Steps frame at opening nest hint item behind
+
+  -- what stands next in a struct is read: its end, or the id and kind of a field
+  abbrev pub StepsLead : List ℕ → ℕ → Opening → ℤ → Lead → ℤ → ℕ → Type 0
+  StepsLead frame at opening last lead id behind = (up : List Slot) (hint : Hint) → (lead ≡ leads.Bad → ⊥) → Steps frame at opening (slots.Fields last ∷ up) hint (lead_item lead id) behind
+
+  -- where the id and kind of a bool field are read to the first of two places, its value is read to the second
+  abbrev pub StepsFlag : List ℕ → ℕ → Opening → ℕ → Bool → ℕ → Type 0
+  StepsFlag frame at opening named value behind =
+      (id : ℤ) (last : ℤ) (up : List Slot) → ((hint : Hint) → Steps frame at opening (slots.Fields last ∷ up) hint (field id kinds.Bool) named)
+      → StepsTwice frame at opening (slots.Fields last ∷ up) (field id kinds.Bool) (bool_value value) behind
+
+  -- A string that is called for there is read. Where that depends on its position, this hint is what the position says.
+  abbrev pub StepsText : Bool → Hint → List ℕ → ℕ → Stand → List ℕ → ℕ → Type 0
+  StepsText hinted hint frame at stand bytes behind =
+      (opening : Opening) (nest : List Slot) (known : Hint) → (hinted ≡ true → known ≡ hint)
+      → Calls stand kinds.Str opening nest → Steps frame at opening nest known (text bytes) behind
+
+  -- the end of a container is read
+  abbrev pub StepsEnd : List ℕ → ℕ → Container → ℕ → Type 0
+  StepsEnd frame at container behind = (opening : Opening) (nest : List Slot) (hint : Hint) → IsDone container nest → Steps frame at opening nest hint end behind
+
+module _ {S : Type 0} (stands_at : S → List ℕ → ℕ → Opening → List Slot → Type 0) where
+  -- a frame's header was read, and the reader stands behind it, where the body begins
+  abbrev pub ReadsHead : Step S Header → List ℕ → Header → ℕ → Type 0
+  ReadsHead step frame header behind = (new : S) × (step ≡ Ok (header, new)) × stands_at new frame behind openings.Body (slots.Fields (pos 0) ∷ [])
 
 -- the cells in front of these places are those before, and behind them this text
 abbrev pub Appends : List ℕ → ℕ → List ℕ → ℕ → List ℕ → Type 0
-Appends old to new behind text = take behind new ≡ take to old ++ text
+Appends old to new behind added = take behind new ≡ take to old ++ added
 
 module _ {T : Type 0} (bar : Item → Mark → Option Bar) (plain : T → Item → Mark → List ℕ) (stands_at : T → Opening → List Slot → Type 0) where
   -- Wherever a writer stands in these levels, nothing bars this item, and the cells have its spelling.
@@ -129,3 +165,37 @@ module _ {T : Type 0} (bar : Item → Mark → Option Bar) (plain : T → Item �
       (t : T) (mark later : Mark) → stands_at t opening nest
       → (bar first mark ≡ None) × (bar item later ≡ None)
       × Appends old to new behind (plain t first mark ++ plain (next t first mark) item later)
+
+  -- a field's id and kind are written, behind the field with the last id
+  abbrev pub SpellsField : List ℕ → ℕ → List ℕ → ℕ → Opening → ℤ → Item → Type 0
+  SpellsField old to new behind opening last item = (up : List Slot) (mark : Mark) → Spells old to new behind opening (slots.Fields last ∷ up) mark item
+
+  -- a bool field is written whole, behind the field with the last id
+  abbrev pub SpellsFlag : (T → Item → Mark → T) → List ℕ → ℕ → List ℕ → ℕ → Opening → ℤ → ℤ → Bool → Type 0
+  SpellsFlag next old to new behind opening last id value =
+      (up : List Slot) → SpellsTwice next old to new behind opening (slots.Fields last ∷ up) (field id kinds.Bool) (bool_value value)
+
+  -- the end of a struct that is the innermost of so many levels is written
+  abbrev pub SpellsStop : List ℕ → ℕ → List ℕ → ℕ → Opening → ℕ → Type 0
+  SpellsStop old to new behind opening depth =
+      (last : ℤ) (up : List Slot) (mark : Mark) → length up + 1 ≡ depth → Spells old to new behind opening (slots.Fields last ∷ up) mark stop
+
+  -- A string that is called for there is written. Where that depends on its position, this hint is what the position says.
+  abbrev pub SpellsText : Bool → Hint → List ℕ → ℕ → List ℕ → ℕ → Stand → List ℕ → Type 0
+  SpellsText hinted hint old to new behind stand bytes =
+      (opening : Opening) (nest : List Slot) (mark : Mark) → (hinted ≡ true → mark.hint ≡ hint)
+      → Calls stand kinds.Str opening nest → Spells old to new behind opening nest mark (text bytes)
+
+  -- the beginning of a list or set is written
+  abbrev pub SpellsElements : List ℕ → ℕ → List ℕ → ℕ → Stand → Container → Kind → ℕ → Type 0
+  SpellsElements old to new behind stand container kind size = SpellsValue old to new behind stand (container_kind container) (elements_item container kind size)
+
+  -- An empty map is written. Where that depends on its position, this mark is what is known of the position.
+  abbrev pub SpellsNoPairs : Bool → Mark → List ℕ → ℕ → List ℕ → ℕ → Stand → Type 0
+  SpellsNoPairs marked known old to new behind stand =
+      (opening : Opening) (nest : List Slot) (mark : Mark) → (marked ≡ true → mark ≡ known)
+      → Calls stand kinds.Map opening nest → Spells old to new behind opening nest mark empty_map
+
+  -- the end of a container is written
+  abbrev pub SpellsEnd : List ℕ → ℕ → List ℕ → ℕ → Container → Type 0
+  SpellsEnd old to new behind container = (opening : Opening) (nest : List Slot) (mark : Mark) → IsDone container nest → Spells old to new behind opening nest mark end

@@ -30,6 +30,10 @@ weight (uuid_value bytes) = 16
 abbrev pub head_weight : ℕ → ℕ
 head_weight length = 6 * length + 21
 
+-- the most bytes that any protocol spells a message in that came in a frame of so many bytes
+abbrev pub room_for : ℕ → ℕ
+room_for n = 24 * n + 256
+
 -- what can stand in an event: numbers of their width, and no text or container longer than a size can tell
 abbrev pub IsSized : Item → Type 0
 IsSized (field id kind) = FitsSigned w16 id

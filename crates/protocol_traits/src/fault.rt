@@ -1,4 +1,5 @@
 //! Why a frame is no message, and why a value can't be written in another protocol.
+ghost use Rattle.std.specs.Prelude.{◌≡◌};
 
 /// Why a frame is no message of its protocol.
 #[derive(Clone, Copy, Debug, PartialEq, Eq)]
@@ -39,6 +40,14 @@ pub struct Fault {
     /// The place in the frame, counted from 0, of the first byte of the faulty item.
     pub place: usize,
     pub reason: Reason,
+}
+
+/// This fault, at this place.
+#[inline(always)]
+pub fn fault_at(place: usize, reason: Reason) -> Fault
+    ensures { result ≡ record { place = place; reason = reason } }
+{
+    Fault { place, reason }
 }
 
 /// Why a value that was read can't be written in the target's protocol.

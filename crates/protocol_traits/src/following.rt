@@ -2,6 +2,7 @@
 ghost use Rattle.std.specs.Prelude.{◌≡◌, ◌<◌, ◌≤◌, ◌∷◌, List, Some, length};
 ghost use Rattle.thrift_value.specs.Items.{item_of};
 ghost use Rattle.protocol_traits.specs.declared.nest.Slot.{Slot};
+ghost use Rattle.protocol_traits.specs.declared.nest.TheConstants.{DEPTH};
 ghost use Rattle.protocol_traits.specs.Stack.{first_of};
 ghost use Rattle.protocol_traits.specs.Follow.{after, spent, depth_after};
 
@@ -12,7 +13,7 @@ use thrift_value::Event;
 #[inline(always)]
 pub fn follow(nest: &mut Nest, event: &Event<'_>)
     requires begun { 0 < length nest.old }
-    requires shallow { depth_after (item_of event.now) (length nest.old) ≤ 256 }
+    requires shallow { depth_after (item_of event.now) (length nest.old) ≤ DEPTH }
     ensures { nest.new ≡ after (item_of event.now) nest.old }
 {
     let Some(level) = nest.top() else {
@@ -25,7 +26,7 @@ pub fn follow(nest: &mut Nest, event: &Event<'_>)
 #[inline(always)]
 pub fn follow_in(nest: &mut Nest, level: Slot, event: &Event<'_>)
     requires known { first_of nest.old ≡ Some level }
-    requires shallow { depth_after (item_of event.now) (length nest.old) ≤ 256 }
+    requires shallow { depth_after (item_of event.now) (length nest.old) ≤ DEPTH }
     ensures { nest.new ≡ after (item_of event.now) nest.old }
 {
     match *event {
@@ -44,7 +45,7 @@ pub fn follow_in(nest: &mut Nest, level: Slot, event: &Event<'_>)
 #[inline(always)]
 fn open(nest: &mut Nest, level: Slot, slot: Slot)
     requires known { first_of nest.old ≡ Some level }
-    requires shallow { length nest.old < 256 }
+    requires shallow { length nest.old < DEPTH }
     ensures { nest.new ≡ slot ∷ spent nest.old }
 {
     nest.set_top(spent_in(level));

@@ -13,7 +13,7 @@ mod nest;
 mod proto;
 mod traits;
 
-pub use fault::{Bar, Fault, Reason};
+pub use fault::{Bar, Fault, Reason, fault_at};
 pub use following::{follow, follow_in};
 pub use form_traits::{FormRead, FormWrite, UUID, WIDE};
 pub use forms::{Container, Decoded, Lead, Opening, Pairs, Span, Stand};

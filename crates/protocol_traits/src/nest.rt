@@ -34,7 +34,8 @@ pub enum Slot {
 /// The open levels.
 ///
 /// The innermost lies apart, since nearly every event changes it alone. The deeper places are made ready only when a
-/// message needs them, since a reader and a writer are made anew for each.
+/// message needs them, since a reader and a writer are made anew for each. type_walk's `Levels` has the same places over
+/// again, since the language has no array of a type parameter.
 #[derive(Drop)]
 pub struct Nest {
     top: Slot,
@@ -46,13 +47,14 @@ pub struct Nest {
 impl Model for Nest {
     ghost use Rattle.std.specs.Prelude.{◌≤◌, List};
     ghost use Rattle.protocol_traits.specs.declared.nest.Slot.{Slot};
+    ghost use Rattle.protocol_traits.specs.declared.nest.TheConstants.{DEPTH};
     ghost use Rattle.protocol_traits.specs.Places.{nested};
 
     ghost Value = { List Slot };
 
     ghost view = { λ n. nested n.top n.outer n.depth };
 
-    ghost invariant = { λ n. n.depth ≤ 256 };
+    ghost invariant = { λ n. n.depth ≤ DEPTH };
 }
 
 impl Nest {
@@ -70,11 +72,20 @@ impl Nest {
         }
     }
 
+    /// One open level again, in place. The outer places keep what they hold, since each is written before it is read.
+    #[inline(always)]
+    pub fn restart(&mut self, outermost: Slot)
+        ensures { self.new ≡ outermost ∷ [] }
+    {
+        self.top = outermost;
+        self.depth = 1;
+    }
+
     /// How many levels are open.
     #[inline(always)]
     pub fn depth(&self) -> usize
         ensures depth { result ≡ length self.now }
-        ensures bound { result ≤ 256 }
+        ensures bound { result ≤ DEPTH }
     {
         self.depth
     }
@@ -94,7 +105,7 @@ impl Nest {
     #[inline(always)]
     pub fn push(&mut self, slot: Slot)
         requires some { 0 < length self.old }
-        requires room { length self.old < 256 }
+        requires room { length self.old < DEPTH }
         ensures { self.new ≡ slot ∷ self.old }
     {
         self.outer.set(self.depth - 1, self.top);
@@ -134,7 +145,7 @@ struct Places {
 impl Places {
     #[inline(always)]
     fn get(&self, at: usize) -> Slot
-        requires { at < 256 }
+        requires { at < DEPTH }
         ensures { result ≡ slot_at self.now at }
     {
         if at < NEAR {
@@ -148,7 +159,7 @@ impl Places {
 
     #[inline(always)]
     fn set(&mut self, at: usize, slot: Slot)
-        requires { at < 256 }
+        requires { at < DEPTH }
         ensures there { slot_at self.new at ≡ slot }
         ensures others { (i : ℕ) → (i ≡ at → ⊥) → slot_at self.new i ≡ slot_at self.old i }
     {
@@ -161,9 +172,9 @@ impl Places {
 
     #[inline(never)]
     fn set_far(&mut self, at: usize, slot: Slot)
-        requires { at < 240 }
-        ensures there { slot_at self.new (at + 16) ≡ slot }
-        ensures others { (i : ℕ) → (i ≡ at + 16 → ⊥) → slot_at self.new i ≡ slot_at self.old i }
+        requires { at < FAR }
+        ensures there { slot_at self.new (at + NEAR) ≡ slot }
+        ensures others { (i : ℕ) → (i ≡ at + NEAR → ⊥) → slot_at self.new i ≡ slot_at self.old i }
     {
         match &mut self.far {
             Some(far) => put(far, at, slot),
@@ -178,7 +189,7 @@ impl Places {
 
 /// Far places that were just made ready.
 fn blank() -> [Slot; FAR]
-    ensures { result ≡ replicate 240 (Fields (pos 0)) }
+    ensures { result ≡ replicate FAR (Fields (pos 0)) }
 {
     [Slot::Fields(0); FAR]
 }
@@ -186,9 +197,9 @@ fn blank() -> [Slot; FAR]
 /// Writes one far place.
 #[inline(always)]
 fn put(far: &mut [Slot; FAR], at: usize, slot: Slot)
-    requires { at < 240 }
+    requires { at < FAR }
     ensures written { far.new ≡ slice_set far.old at slot }
-    ensures places { length far.old ≡ 240 }
+    ensures places { length far.old ≡ FAR }
 {
     far[at] = slot;
 }

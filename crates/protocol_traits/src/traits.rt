@@ -4,12 +4,14 @@ ghost use Rattle.std.specs.Int.{w32};
 ghost use Rattle.std.specs.Borrow.{sem};
 ghost use Rattle.std.specs.Io.BufRead.{Rests};
 ghost use Rattle.thrift_value.specs.Items.{Item, item_of};
+ghost use Rattle.protocol_traits.specs.declared.forms.Opening.{Opening};
 ghost use Rattle.protocol_traits.specs.declared.proto.Hint.{Hint};
 ghost use Rattle.protocol_traits.specs.declared.proto.Mark.{Mark};
 ghost use Rattle.protocol_traits.specs.declared.fault.Bar.{Bar};
 ghost use Rattle.protocol_traits.specs.Heads.{Header, header_of};
 ghost use Rattle.protocol_traits.specs.declared.nest.Slot.{Slot};
 ghost use Rattle.protocol_traits.specs.declared.nest.Slot.TheVariants.{Fields};
+ghost use Rattle.protocol_traits.specs.declared.nest.TheConstants.{DEPTH};
 ghost use Rattle.protocol_traits.specs.Stack.{first_of};
 ghost use Rattle.protocol_traits.specs.Follow.{depth_after, after as levels_after};
 ghost use Rattle.protocol_traits.specs.Steps.{Step, told, seen, Leaves, IsFree};
@@ -41,6 +43,9 @@ pub trait ReadRules {
 
     /// How many levels are open.
     ghost depth: { Self → ℕ };
+
+    /// The reader stands at this place of this frame, with so much read of the innermost of these levels.
+    ghost stands_at: { Self → List ℕ → ℕ → Opening → List Slot → Type 0 };
 
     /// The most bytes that a writer may need for what may still be read. It falls with each item.
     ghost ahead: { Self → ℕ };
@@ -82,7 +87,7 @@ pub trait WireRead<'f>: ReadRules + Sized + Drop {
     fn next(&mut self, hint: Hint) -> Result<Event<'_>, Fault>
         ensures answer { seen item_of result ≡ told (Self.reads self.old hint) }
         ensures sized { IfOk result (λ e. IsSized (item_of e)) }
-        ensures shallow { IfOk result (λ e. depth_after (item_of e) (Self.depth self.old) ≤ 256) }
+        ensures shallow { IfOk result (λ e. depth_after (item_of e) (Self.depth self.old) ≤ DEPTH) }
         ensures* after { sem 𝓛 (Rests Self.row self.entry (λ new. Leaves (Self.reads self.old hint) new)) };
 
     /// The innermost open level; None behind the body.
@@ -94,7 +99,7 @@ pub trait WireRead<'f>: ReadRules + Sized + Drop {
         requires level { first_of (Self.nest self.old) ≡ Some level }
         ensures answer { seen item_of result ≡ told (Self.reads self.old hint) }
         ensures sized { IfOk result (λ e. IsSized (item_of e)) }
-        ensures shallow { IfOk result (λ e. depth_after (item_of e) (Self.depth self.old) ≤ 256) }
+        ensures shallow { IfOk result (λ e. depth_after (item_of e) (Self.depth self.old) ≤ DEPTH) }
         ensures* after { sem 𝓛 (Rests Self.row self.entry (λ new. Leaves (Self.reads self.old hint) new)) };
 
     /// Where the last value began; after `head`, where the name began.
@@ -129,6 +134,9 @@ pub trait WireWrite: Sized + Drop {
     /// How many levels are open.
     ghost depth: { Self → ℕ };
 
+    /// The writer stands in these levels, with so much written of the innermost.
+    ghost stands_at: { Self → Opening → List Slot → Type 0 };
+
     ghost starts: { depth begun ≡ 1 };
 
     ghost nests: { (s : Self) (item : Item) (mark : Mark) → 0 < depth s → depth (after s item mark) ≡ depth_after item (depth s) };
@@ -161,7 +169,7 @@ pub trait WireWrite: Sized + Drop {
         requires sized { IsSized (item_of e.now) }
         requires taken { bar (item_of e.now) mark ≡ None }
         requires open { 0 < depth self.old }
-        requires shallow { depth_after (item_of e.now) (depth self.old) ≤ 256 }
+        requires shallow { depth_after (item_of e.now) (depth self.old) ≤ DEPTH }
         requires room { length out.old.bytes + length (plain self.old (item_of e.now) mark) ≤ out.old.room }
         ensures out { out.new ≡ record out.old { bytes = out.old.bytes ++ plain self.old (item_of e.now) mark } }
         ensures state { self.new ≡ after self.old (item_of e.now) mark };

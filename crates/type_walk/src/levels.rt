@@ -32,7 +32,7 @@ pub enum Level {
 /// The open levels.
 ///
 /// The innermost lies apart, since most events change it alone. The deeper places are made ready only when a message
-/// needs them.
+/// needs them. protocol_traits' `Nest` has the same places over again, since the language has no array of a type parameter.
 #[derive(Drop)]
 pub struct Levels {
     top: Level,

@@ -1,5 +1,5 @@
 //! A body gathered from its events.
-ghost use Rattle.std.specs.Prelude.{◌≡◌, ◌<◌, ◌^◌, [], map, length, IfOk, IsTrue, ◌↔◌, reverse};
+ghost use Rattle.std.specs.Prelude.{◌≡◌, ◌<◌, ◌^◌, [], ◌∷◌, ◌++◌, map, length, IfOk, IsTrue, ◌↔◌, reverse};
 ghost use Rattle.thrift_value.specs.Items.{item_of};
 ghost use Rattle.value_trees.specs.Gathering.{settled, turned, started, step, onward, run, at_first, over, body_at, IsRefused, StopsAt};
 ghost use Rattle.value_trees.specs.Stands.{stand_of};
@@ -120,26 +120,46 @@ fn begin(
     start: Start,
     event: &Event<'_>,
     top: Level,
-    mut levels: Vec<Level>,
+    levels: Vec<Level>,
 ) -> Result<State, OutOfMemory>
     ensures { IfOk result (λ state. stand_of state ≡ started start (item_of event.now) top (reverse levels.items)) }
 {
     match start {
-        Start::Whole(value) => {
-            levels.push(top)?;
-            settle(value, levels)
-        }
+        Start::Whole(value) => match with(levels, top) {
+            Ok(levels) => settle(value, levels),
+            Err(fault) => {
+                let_go(value);
+                Err(fault)
+            }
+        },
         Start::Opens(kind, level) => {
             if !top.wants(kind) {
+                let_go(top);
+                let_go(level);
                 return Ok(State::Refused);
             }
-            levels.push(top)?;
-            levels.push(level)?;
-            Ok(State::Going(levels))
+            match with(levels, top) {
+                Ok(levels) => Ok(State::Going(with(levels, level)?)),
+                Err(fault) => {
+                    let_go(level);
+                    Err(fault)
+                }
+            }
         }
         Start::Nothing => go_on(top.turned(event), levels),
     }
 }
+
+/// One more level, the innermost.
+fn with(mut levels: Vec<Level>, level: Level) -> Result<Vec<Level>, OutOfMemory>
+    ensures { IfOk result (λ more. more.items ≡ levels.items ++ level ∷ []) }
+{
+    levels.push(level)?;
+    Ok(levels)
+}
+
+/// Drops what is given up. It is a call, so that the drop of each variant is written out, and proved, in one place.
+fn let_go<T: Drop>(_given_up: T) {}
 
 fn go_on(turn: LevelChange, mut levels: Vec<Level>) -> Result<State, OutOfMemory>
     ensures { IfOk result (λ state. stand_of state ≡ turned turn (reverse levels.items)) }
@@ -162,6 +182,8 @@ fn settle(value: Value, mut levels: Vec<Level>) -> Result<State, OutOfMemory>
         return Ok(over(value));
     };
     if !top.wants(value.kind()) {
+        let_go(top);
+        let_go(value);
         return Ok(State::Refused);
     }
     levels.push(top.put(value)?)?;

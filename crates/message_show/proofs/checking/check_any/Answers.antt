@@ -5,7 +5,7 @@ use Rattle.protocol_traits.specs.declared.proto.Hint.TheVariants as hints
 use Rattle.protocol_traits.specs.Follow.{depth_after}
 use Rattle.protocol_traits.specs.Steps.{Step, step_ok, step_err}
 use Rattle.translate_core.specs.Positions.{typed}
-use Rattle.translate_core.specs.Body.{moved, source_of, going}
+use Rattle.translate_core.specs.Body.{moved, source_in, going}
 use Rattle.translate_core.proofs.Whole.{whole_step, whole_fault, whole_end}
 use Rattle.message_show.specs.Line.{begun, after}
 use Rattle.type_walk.specs.Positions as positions
@@ -19,7 +19,7 @@ events-init g c =
 
 pub events-preserved : goal.events-preserved
 events-preserved g c =
-    let source = source_of g.R.ReadRules.begun g.R.ReadRules.reads_head g.R.ReadRules.reads g.R.ReadRules.reads_end g.R.ReadRules.value_place g.R.ReadRules.ahead in
+    let source = source_in g.R.ReadRules in
     let inv = c.events.invariant in
     let depth = length c.events.walk.levels in
     let item = item_of c.in-Ok.event in
@@ -40,7 +40,7 @@ events-preserved g c =
 
 pub returns-in-Err : goal.returns-in-Err
 returns-in-Err g c first text =
-    let source = source_of g.R.ReadRules.begun g.R.ReadRules.reads_head g.R.ReadRules.reads g.R.ReadRules.reads_end g.R.ReadRules.value_place g.R.ReadRules.ahead in
+    let source = source_in g.R.ReadRules in
     let target = line_target (place first begun) in
     let told = c.events.invariant.told first text in
     let before = going c.events.reader told.0 (place told.0 told.1) (length c.events.walk.levels) None told.2 in
@@ -50,7 +50,7 @@ returns-in-Err g c first text =
 
 pub returns-in-Ok-finish : goal.returns-in-Ok-finish
 returns-in-Ok-finish g c first text =
-    let source = source_of g.R.ReadRules.begun g.R.ReadRules.reads_head g.R.ReadRules.reads g.R.ReadRules.reads_end g.R.ReadRules.value_place g.R.ReadRules.ahead in
+    let source = source_in g.R.ReadRules in
     let target = line_target (place first begun) in
     let told = c.events.invariant.told first text in
     let depth = length c.events.walk.levels in
@@ -62,7 +62,7 @@ returns-in-Ok-finish g c first text =
 
 pub returns-in-Err-finish : goal.returns-in-Err-finish
 returns-in-Err-finish g c first text =
-    let source = source_of g.R.ReadRules.begun g.R.ReadRules.reads_head g.R.ReadRules.reads g.R.ReadRules.reads_end g.R.ReadRules.value_place g.R.ReadRules.ahead in
+    let source = source_in g.R.ReadRules in
     let target = line_target (place first begun) in
     let told = c.events.invariant.told first text in
     let depth = length c.events.walk.levels in

@@ -4,7 +4,7 @@ use Rattle.thrift_value.specs.Items.{Item, item_of}
 use Rattle.protocol_traits.specs.Follow.{depth_after}
 use Rattle.protocol_traits.specs.Steps.{Step, step_ok, step_err}
 use Rattle.translate_core.specs.Positions.{typed}
-use Rattle.translate_core.specs.Body.{moved, source_of, going}
+use Rattle.translate_core.specs.Body.{moved, source_in, going}
 use Rattle.translate_core.proofs.Whole.{whole_step, whole_fault, whole_end}
 use Rattle.message_show.specs.Line.{begun, after}
 use Rattle.message_show.specs.Shown.{place, line_target}
@@ -16,7 +16,7 @@ events-init g c = record { told = λ text. (begun, text, rw c.requires.walks ref
 
 pub events-preserved : goal.events-preserved
 events-preserved g c =
-    let source = source_of g.R.ReadRules.begun g.R.ReadRules.reads_head g.R.ReadRules.reads g.R.ReadRules.reads_end g.R.ReadRules.value_place g.R.ReadRules.ahead in
+    let source = source_in g.R.ReadRules in
     let target = line_target (place (g.K.Walking.at c.args.walk.now) begun) in
     let inv = c.events.invariant in
     let at = g.K.Walking.at c.events.walk in
@@ -36,7 +36,7 @@ events-preserved g c =
 
 pub returns-in-Err : goal.returns-in-Err
 returns-in-Err g c text =
-    let source = source_of g.R.ReadRules.begun g.R.ReadRules.reads_head g.R.ReadRules.reads g.R.ReadRules.reads_end g.R.ReadRules.value_place g.R.ReadRules.ahead in
+    let source = source_in g.R.ReadRules in
     let target = line_target (place (g.K.Walking.at c.args.walk.now) begun) in
     let told = c.events.invariant.told text in
     let at = g.K.Walking.at c.events.walk in
@@ -46,7 +46,7 @@ returns-in-Err g c text =
 
 pub returns-in-Ok-finish : goal.returns-in-Ok-finish
 returns-in-Ok-finish g c text =
-    let source = source_of g.R.ReadRules.begun g.R.ReadRules.reads_head g.R.ReadRules.reads g.R.ReadRules.reads_end g.R.ReadRules.value_place g.R.ReadRules.ahead in
+    let source = source_in g.R.ReadRules in
     let target = line_target (place (g.K.Walking.at c.args.walk.now) begun) in
     let told = c.events.invariant.told text in
     let at = g.K.Walking.at c.events.walk in
@@ -58,7 +58,7 @@ returns-in-Ok-finish g c text =
 
 pub returns-in-Err-finish : goal.returns-in-Err-finish
 returns-in-Err-finish g c text =
-    let source = source_of g.R.ReadRules.begun g.R.ReadRules.reads_head g.R.ReadRules.reads g.R.ReadRules.reads_end g.R.ReadRules.value_place g.R.ReadRules.ahead in
+    let source = source_in g.R.ReadRules in
     let target = line_target (place (g.K.Walking.at c.args.walk.now) begun) in
     let told = c.events.invariant.told text in
     let at = g.K.Walking.at c.events.walk in

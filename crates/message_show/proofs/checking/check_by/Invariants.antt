@@ -1,6 +1,6 @@
 use Rattle.std.proofs.Common.{◌≡◌, ◌≤◌, List, ℕ, length, None}
 use Rattle.translate_core.specs.Positions.{typed}
-use Rattle.translate_core.specs.Body.{whole, source_of, going}
+use Rattle.translate_core.specs.Body.{whole, source_in, going}
 use Rattle.message_show.specs.Line.{Levels, begun}
 use Rattle.message_show.specs.Shown.{place, line_target, body_from}
 use Rattle.message_show.proofs.checking.check_by.Given as goal
@@ -8,7 +8,7 @@ use Rattle.message_show.proofs.checking.check_by.Given as goal
 -- from here on the body is read as from its beginning, whatever was told
 abbrev pub invariant-events : goal.invariant-events
 invariant-events g l =
-    let source = source_of g.R.ReadRules.begun g.R.ReadRules.reads_head g.R.ReadRules.reads g.R.ReadRules.reads_end g.R.ReadRules.value_place g.R.ReadRules.ahead in
+    let source = source_in g.R.ReadRules in
     let first = g.K.Walking.at l.fn.walk in
     let at = g.K.Walking.at l.walk in
     record {

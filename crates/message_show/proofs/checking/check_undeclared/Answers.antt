@@ -1,7 +1,7 @@
 use Rattle.std.proofs.Common.{refl}
 use Rattle.protocol_traits.specs.Heads.{header_of}
 use Rattle.protocol_traits.specs.Steps.{step_ok, step_err}
-use Rattle.translate_core.specs.Body.{source_of}
+use Rattle.translate_core.specs.Body.{source_in}
 use Rattle.translate_core.specs.Routes.{start_of}
 use Rattle.translate_core.specs.declared.route.Route.TheVariants.{ByName}
 use Rattle.message_show.specs.Line.{head_text}
@@ -10,14 +10,14 @@ use Rattle.message_show.proofs.checking.check_undeclared.Goals as goal
 
 pub returns-in-Err : goal.returns-in-Err
 returns-in-Err g c =
-    let source = source_of g.R.ReadRules.begun g.R.ReadRules.reads_head g.R.ReadRules.reads g.R.ReadRules.reads_end g.R.ReadRules.value_place g.R.ReadRules.ahead in
+    let source = source_in g.R.ReadRules in
     let first = start_of c.args.schema.now (ByName c.args.service) in
     let e = rw c.over-reader.ensures at (step_err (g.R.ReadRules.reads_head c.over-reader.result) c.in-Err.fault c.in-Err.ensures.answer) in
     rw (shown_err source first c.args.frame.now c.in-Err.fault e) refl
 
 pub returns : goal.returns
 returns g c =
-    let source = source_of g.R.ReadRules.begun g.R.ReadRules.reads_head g.R.ReadRules.reads g.R.ReadRules.reads_end g.R.ReadRules.value_place g.R.ReadRules.ahead in
+    let source = source_in g.R.ReadRules in
     let first = start_of c.args.schema.now (ByName c.args.service) in
     let new = c.head.follows.lender-at-none in
     let header = header_of c.in-Ok.field-0 in

@@ -1,6 +1,6 @@
 use Rattle.std.proofs.Common.{◌≡◌, suc, [], ◌∷◌, ◌++◌, length, true, false, arith, refl, ◌∙◌}
 use Rattle.type_walk.specs.Positions.{standing as open_at}
-use Rattle.translate_core.specs.Body.{source_of}
+use Rattle.translate_core.specs.Body.{source_in}
 use Rattle.message_show.specs.Inside.{at}
 use Rattle.message_show.specs.Pieces.{output}
 use Rattle.message_show.specs.Turns.{standing}
@@ -12,7 +12,7 @@ pub turns-init : goal.turns-init
 turns-init g t c =
     let reading = g.R.ReadRules in
     let sink = g.O.Sink in
-    let source = source_of reading.begun reading.reads_head reading.reads reading.reads_end reading.value_place reading.ahead in
+    let source = source_in reading in
     rw c.inside-here.ensures.begun (record {
       told = λ up deep. (
         [],
@@ -28,7 +28,7 @@ pub turns-preserved-in-Open : goal.turns-preserved-in-Open
 turns-preserved-in-Open g t c =
     let reading = g.R.ReadRules in
     let sink = g.O.Sink in
-    let source = source_of reading.begun reading.reads_head reading.reads reading.reads_end reading.value_place reading.ahead in
+    let source = source_in reading in
     let d = c.args.schema.now in
     let inv = c.turns.invariant in
     let turned = rw (c.in-Ok.is, c.in-Open.is) at c.event-told.ensures.turned in
@@ -53,7 +53,7 @@ pub returns-in-Closed-clause-turned : goal.returns-in-Closed-clause-turned
 returns-in-Closed-clause-turned g t c up deep =
     let reading = g.R.ReadRules in
     let sink = g.O.Sink in
-    let source = source_of reading.begun reading.reads_head reading.reads reading.reads_end reading.value_place reading.ahead in
+    let source = source_in reading in
     let d = c.args.schema.now in
     let inv = c.turns.invariant in
     let turned = rw (c.in-Ok.is, c.in-Closed.is) at c.event-told.ensures.turned in
@@ -78,7 +78,7 @@ pub turns-preserved : goal.turns-preserved
 turns-preserved g t c =
     let reading = g.R.ReadRules in
     let sink = g.O.Sink in
-    let source = source_of reading.begun reading.reads_head reading.reads reading.reads_end reading.value_place reading.ahead in
+    let source = source_in reading in
     let d = c.args.schema.now in
     let here = c.event-told.new.here in
     let inner = c.in-Opened.inner in

@@ -1,7 +1,7 @@
 use Rattle.std.proofs.Common.{◌≡◌, ◌≤◌, List, ℕ, suc, length, ◌∷◌, true}
 use Rattle.type_walk.specs.declared.levels.Level.{Level}
 use Rattle.type_walk.specs.Positions.{standing as open_at}
-use Rattle.translate_core.specs.Body.{source_of}
+use Rattle.translate_core.specs.Body.{source_in}
 use Rattle.message_show.specs.Inside.{IsSound, at}
 use Rattle.message_show.specs.Pieces.{Tells, output}
 use Rattle.message_show.specs.Turns.{standing, Leads}
@@ -10,7 +10,7 @@ use Rattle.message_show.proofs.telling.+tell_level.Given as goal
 -- what was told is the text of the items so far
 abbrev pub invariant-turns : goal.invariant-turns
 invariant-turns g l =
-    let source = source_of g.R.ReadRules.begun g.R.ReadRules.reads_head g.R.ReadRules.reads g.R.ReadRules.reads_end g.R.ReadRules.value_place g.R.ReadRules.ahead in
+    let source = source_in g.R.ReadRules in
     let sink = g.O.Sink in
     record {
       told : (up : List Level) → g.R.ReadRules.depth l.fn.reader ≡ suc (length up)

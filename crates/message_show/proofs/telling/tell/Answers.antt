@@ -3,7 +3,7 @@ use Rattle.std.proofs.lemmas.List.{append-nil}
 use Rattle.protocol_traits.specs.Heads.{header_of}
 use Rattle.protocol_traits.specs.Steps.{step_ok, step_err}
 use Rattle.type_walk.specs.Positions.{Position, start}
-use Rattle.translate_core.specs.Body.{source_of}
+use Rattle.translate_core.specs.Body.{source_in}
 use Rattle.translate_core.specs.Routes.{start_of}
 use Rattle.translate_core.specs.declared.route.Route.TheVariants.{ByName}
 use Rattle.message_show.specs.Line.{head_text, line_end}
@@ -20,14 +20,14 @@ ended bytes = rw (append-nil bytes) refl
 
 pub returns-in-Err-clause-found : goal.returns-in-Err-clause-found
 returns-in-Err-clause-found g c =
-    let source = source_of g.R.ReadRules.begun g.R.ReadRules.reads_head g.R.ReadRules.reads g.R.ReadRules.reads_end g.R.ReadRules.value_place g.R.ReadRules.ahead in
+    let source = source_in g.R.ReadRules in
     let first = start_of c.args.schema.now (ByName c.args.service) in
     let e = rw c.over-reader.ensures at (step_err (g.R.ReadRules.reads_head c.over-reader.result) c.in-Err.fault c.in-Err.ensures.answer) in
     rw (shown_err source first c.args.frame.now c.in-Err.fault e) refl
 
 pub returns-in-Err-clause-told : goal.returns-in-Err-clause-told
 returns-in-Err-clause-told g c from text is h =
-    let source = source_of g.R.ReadRules.begun g.R.ReadRules.reads_head g.R.ReadRules.reads g.R.ReadRules.reads_end g.R.ReadRules.value_place g.R.ReadRules.ahead in
+    let source = source_in g.R.ReadRules in
     let first = start_of c.args.schema.now (ByName c.args.service) in
     let e = rw c.over-reader.ensures at (step_err (g.R.ReadRules.reads_head c.over-reader.result) c.in-Err.fault c.in-Err.ensures.answer) in
     absurd (cc (is, shown_err source first c.args.frame.now c.in-Err.fault e))
@@ -35,7 +35,7 @@ returns-in-Err-clause-told g c from text is h =
 pub returns-clause-found : goal.returns-clause-found
 unfolding start_of
 returns-clause-found g c =
-    let source = source_of g.R.ReadRules.begun g.R.ReadRules.reads_head g.R.ReadRules.reads g.R.ReadRules.reads_end g.R.ReadRules.value_place g.R.ReadRules.ahead in
+    let source = source_in g.R.ReadRules in
     let first = start_of c.args.schema.now (ByName c.args.service) in
     let new = c.head.follows.lender-at-none in
     let header = header_of c.in-Ok.head in
@@ -47,7 +47,7 @@ returns-clause-found g c =
 pub returns-clause-told : goal.returns-clause-told
 unfolding start_of
 returns-clause-told g c from text is h =
-    let source = source_of g.R.ReadRules.begun g.R.ReadRules.reads_head g.R.ReadRules.reads g.R.ReadRules.reads_end g.R.ReadRules.value_place g.R.ReadRules.ahead in
+    let source = source_in g.R.ReadRules in
     let first = start_of c.args.schema.now (ByName c.args.service) in
     let new = c.head.follows.lender-at-none in
     let header = header_of c.in-Ok.head in

@@ -1,7 +1,7 @@
 use Rattle.std.proofs.Common.{◌≡◌, ◌++◌, [], length, false, refl, ap, subst, ◌∙◌, None}
 use Rattle.type_walk.specs.Positions.{start, standing as open_at}
 use Rattle.translate_core.specs.Positions.{typed}
-use Rattle.translate_core.specs.Body.{Going, source_of, going}
+use Rattle.translate_core.specs.Body.{Going, source_in, going}
 use Rattle.translate_core.proofs.Whole.{whole_end}
 use Rattle.message_show.specs.Line.{Levels, begun}
 use Rattle.message_show.specs.Pieces.{Told, output}
@@ -28,7 +28,7 @@ returns-in-Err-clause-told g c from text end whole h =
 pub returns-in-Ok-finish-clause-found : goal.returns-in-Ok-finish-clause-found
 returns-in-Ok-finish-clause-found g c text =
     let reading = g.R.ReadRules in
-    let source = source_of reading.begun reading.reads_head reading.reads reading.reads_end reading.value_place reading.ahead in
+    let source = source_in reading in
     let d = c.args.schema.now in
     let body = place (start d c.args.body) begun in
     let alone = reading.counts c.args.reader.now ∙ ap length c.requires.begins in
@@ -43,7 +43,7 @@ pub returns-in-Ok-finish-clause-told : goal.returns-in-Ok-finish-clause-told
 returns-in-Ok-finish-clause-told g c from text end whole h =
     let reading = g.R.ReadRules in
     let sink = g.O.Sink in
-    let source = source_of reading.begun reading.reads_head reading.reads reading.reads_end reading.value_place reading.ahead in
+    let source = source_in reading in
     let d = c.args.schema.now in
     let body = place (start d c.args.body) begun in
     let alone = reading.counts c.args.reader.now ∙ ap length c.requires.begins in
@@ -57,7 +57,7 @@ returns-in-Ok-finish-clause-told g c from text end whole h =
 pub returns-in-Err-finish-clause-found : goal.returns-in-Err-finish-clause-found
 returns-in-Err-finish-clause-found g c text =
     let reading = g.R.ReadRules in
-    let source = source_of reading.begun reading.reads_head reading.reads reading.reads_end reading.value_place reading.ahead in
+    let source = source_in reading in
     let d = c.args.schema.now in
     let body = place (start d c.args.body) begun in
     let alone = reading.counts c.args.reader.now ∙ ap length c.requires.begins in
@@ -72,7 +72,7 @@ pub returns-in-Err-finish-clause-told : goal.returns-in-Err-finish-clause-told
 returns-in-Err-finish-clause-told g c from text end whole h =
     let reading = g.R.ReadRules in
     let sink = g.O.Sink in
-    let source = source_of reading.begun reading.reads_head reading.reads reading.reads_end reading.value_place reading.ahead in
+    let source = source_in reading in
     let d = c.args.schema.now in
     let body = place (start d c.args.body) begun in
     let alone = reading.counts c.args.reader.now ∙ ap length c.requires.begins in

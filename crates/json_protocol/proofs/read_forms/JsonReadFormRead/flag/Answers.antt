@@ -1,4 +1,4 @@
-use Rattle.std.proofs.Common.{refl, arith, rules, FitsSigned}
+use Rattle.std.proofs.Common.{refl, rules, FitsSigned}
 use Rattle.std.specs.Int.{w64}
 use Rattle.std.proofs.lemmas.Int.{to_z-of_z}
 use Rattle.protocol_traits.specs.declared.fault.Reason.TheVariants as reasons

@@ -1,4 +1,4 @@
-use Rattle.std.proofs.Common.{arith, refl, rules, FitsSigned}
+use Rattle.std.proofs.Common.{refl, rules, FitsSigned}
 use Rattle.std.specs.Int.{w8, w64}
 use Rattle.std.proofs.lemmas.Int.{to_z-of_z}
 use Rattle.thrift_value.specs.declared.kind.Kind.TheVariants as kinds
