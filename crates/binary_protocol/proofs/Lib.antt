@@ -1,2 +1,3 @@
 -- Lemmas.
 pub mod Doubles
+pub mod Filled

@@ -1,4 +1,5 @@
 -- What holds of each item that is read and of each that is written, whatever the bytes.
+-- Nothing here has to be believed: these are lemmas on the definitions of Reading, Scan and Plain, each with its proof.
 use Rattle.std.proofs.Common.{◌≡◌, ℕ, ℤ, pos, ◌+◌, ◌*◌, ◌<◌, ◌≤◌, ◌^◌, Bool, true, false, List, [], ◌∷◌, length, take, drop, Option, Some, None, Ok, Err, refl, sym, subst, arith, length-take, length-drop, add-zero, length-append}
 use Rattle.std.specs.Prelude.{IfOk, nat_lt, nat_le, ◌==◌, ◌&&◌, ◌||◌, if◌then◌else◌, slice_index}
 use Rattle.std.proofs.lemmas.Int.{ints}

@@ -5,8 +5,8 @@ ghost use Rattle.binary_protocol.specs.Scan.{string_scan, string_at, shifted, Is
 ghost use Rattle.binary_protocol.specs.Heads.{header_scan, type_at, seq_at, version_at, strict_at, old_at, head_at, name_place};
 
 use crate::codes::type_of_code;
-use crate::scan::{cut, fault, string_at};
-use protocol_traits::{Fault, Head, Reason};
+use crate::scan::{cut, string_at};
+use protocol_traits::{Fault, Head, Reason, fault_at};
 use thrift_value::MessageType;
 
 /// A header of either form: the first byte tells which.
@@ -68,13 +68,13 @@ fn version_at(bytes: &[u8]) -> Result<(MessageType, usize), Fault>
     ensures exact { result ≡ version_at bytes.now }
 {
     if bytes[0] != 0x80 {
-        return Err(fault(0, Reason::BadVersion));
+        return Err(fault_at(0, Reason::BadVersion));
     }
     if bytes.len() < 2 {
         return Err(cut(bytes));
     }
     if bytes[1] != 1 {
-        return Err(fault(0, Reason::BadVersion));
+        return Err(fault_at(0, Reason::BadVersion));
     }
     if bytes.len() < 4 {
         return Err(cut(bytes));
@@ -91,7 +91,7 @@ fn type_behind(bytes: &[u8], at: usize) -> Result<(MessageType, usize), Fault>
 {
     match type_at(&bytes[at..]) {
         Ok((mtype, taken)) => Ok((mtype, at + taken)),
-        Err(f) => Err(fault(at + f.place, f.reason)),
+        Err(f) => Err(fault_at(at + f.place, f.reason)),
     }
 }
 
@@ -107,7 +107,7 @@ fn type_at(bytes: &[u8]) -> Result<(MessageType, usize), Fault>
     }
     match type_of_code(bytes[0]) {
         Some(mtype) => Ok((mtype, 1)),
-        None => Err(fault(0, Reason::BadType)),
+        None => Err(fault_at(0, Reason::BadType)),
     }
 }
 
@@ -119,7 +119,7 @@ fn string_behind(bytes: &[u8], at: usize) -> Result<(&[u8], usize), Fault>
 {
     match string_at(&bytes[at..]) {
         Ok((text, taken)) => Ok((text, at + taken)),
-        Err(f) => Err(fault(at + f.place, f.reason)),
+        Err(f) => Err(fault_at(at + f.place, f.reason)),
     }
 }
 
@@ -131,7 +131,7 @@ fn seq_behind(bytes: &[u8], at: usize) -> Result<(i32, usize), Fault>
 {
     match seq_at(&bytes[at..]) {
         Ok((seq, taken)) => Ok((seq, at + taken)),
-        Err(f) => Err(fault(at + f.place, f.reason)),
+        Err(f) => Err(fault_at(at + f.place, f.reason)),
     }
 }
 

@@ -4,6 +4,8 @@ ghost use Rattle.thrift_value.specs.Items.{item_of};
 ghost use Rattle.protocol_traits.specs.Heads.{header_of};
 ghost use Rattle.protocol_traits.specs.Follow.{depth_after};
 ghost use Rattle.binary_protocol.specs.Reading.{begun, reads, reads_head, reads_end, ahead};
+ghost use Rattle.binary_protocol.specs.Forms.{stands_at as reader_at};
+ghost use Rattle.binary_protocol.specs.WriteForms.{stands_at as writer_at};
 ghost use Rattle.binary_protocol.specs.Plain.{bar, plain, plain_head};
 ghost use Rattle.binary_protocol.specs.Laws.{reads_pays, reads_nests, reads_follows, reads_head_pays, reads_head_opens, begins, light, light_head};
 
@@ -27,6 +29,8 @@ impl<'f> ReadRules for BinaryRead<'f> {
     ghost nest = { λ s. s.nest };
 
     ghost depth = { λ s. length s.nest };
+
+    ghost stands_at = { reader_at };
 
     ghost ahead = { ahead };
 
@@ -117,6 +121,8 @@ impl WireWrite for BinaryWrite {
     ghost after = { λ s item mark. record { depth = depth_after item s.depth } };
 
     ghost depth = { λ s. s.depth };
+
+    ghost stands_at = { writer_at };
 
     ghost starts = { refl };
 

@@ -1,17 +1,14 @@
 //! The reader's quick forms: one item at a place of a frame, by value.
-ghost use Rattle.std.specs.Prelude.{◌≡◌, ℕ, ℤ, pos, ◌+◌, ◌≤◌, ◌<◌, ◌^◌, List, [], ◌∷◌, length, take, false, true, Ok, IfSome};
-ghost use Rattle.std.specs.Int.{w64, to_be_bytes};
+ghost use Rattle.std.specs.Prelude.{◌≡◌, ◌+◌, ◌≤◌, ◌<◌, ◌^◌, length, take, false, IfSome};
 ghost use Rattle.thrift_value.specs.declared.kind.Kind.{Kind};
-ghost use Rattle.thrift_value.specs.Items.{field, bool_value, i8_value, i16_value, i32_value, i64_value, double_value, text, struct_begin, end, uuid_value};
+ghost use Rattle.thrift_value.specs.Items.{bool_value, i8_value, i16_value, i32_value, i64_value, text, struct_begin, end, uuid_value};
 ghost use Rattle.protocol_traits.specs.declared.forms.Container.{Container};
 ghost use Rattle.protocol_traits.specs.declared.forms.Lead.{Lead};
 ghost use Rattle.protocol_traits.specs.declared.forms.Opening.{Opening};
-ghost use Rattle.protocol_traits.specs.declared.nest.Slot.{Slot};
-ghost use Rattle.protocol_traits.specs.declared.nest.Slot.TheVariants.{Fields};
 ghost use Rattle.protocol_traits.specs.declared.proto.Hint.{Hint};
-ghost use Rattle.protocol_traits.specs.Forms.{lead_item, elements_item, container_kind, pairs_item, part, Calls, IsDone, IsPast, Steps, StepsTwice, StepsValue, StepsInto};
+ghost use Rattle.protocol_traits.specs.Forms.{elements_item, container_kind, pairs_item, part, double_item, IsPast, StepsLead, StepsFlag, StepsValue, StepsText, StepsInto, StepsEnd, ReadsHead};
 ghost use Rattle.protocol_traits.specs.Heads.{header_of};
-ghost use Rattle.binary_protocol.specs.Reading.{State, begun, reads_head};
+ghost use Rattle.binary_protocol.specs.Reading.{begun, reads_head};
 ghost use Rattle.binary_protocol.specs.Forms.{stands_at, next_read, whole_ends};
 
 use crate::forms::{
@@ -28,8 +25,6 @@ use thrift_value::Kind;
 const STOP: u8 = 0;
 
 impl<'f> FormRead for BinaryRead<'f> {
-    ghost stands_at = { stands_at };
-
     ghost hinted = { false };
 
     ghost ended = { whole_ends };
@@ -44,7 +39,7 @@ impl<'f> FormRead for BinaryRead<'f> {
     #[inline(always)]
     fn front(frame: &[u8]) -> Option<(Head<'_>, usize)>
         requires { length frame.now < 2 ^ 31 }
-        ensures reads { IfSome result (λ x. (new : State) × (reads_head (begun frame.now) ≡ Ok (header_of x.0, new)) × stands_at new frame.now x.1 Opening.Body (Fields (pos 0) ∷ [])) }
+        ensures reads { IfSome result (λ x. ReadsHead stands_at (reads_head (begun frame.now)) frame.now (header_of x.0) x.1) }
         ensures sized { IfSome result (λ x. length x.0.name.now < 2 ^ 31) }
         ensures place { IfSome result (λ x. (length x.0.name.now ≤ x.1) × (x.1 ≤ length frame.now)) }
     {
@@ -64,7 +59,7 @@ impl<'f> FormRead for BinaryRead<'f> {
     ) -> Option<(Lead, i16, usize)>
         requires { at ≤ length frame.now }
         ensures past { IfSome result (λ x. (x.0 ≡ Lead.Bad → ⊥) → IsPast at frame.now x.2) }
-        ensures steps { IfSome result (λ x. (up : List Slot) (hint : Hint) → (x.0 ≡ Lead.Bad → ⊥) → Steps next_read stands_at frame.now at opening (Fields last ∷ up) hint (lead_item x.0 x.1) x.2) }
+        ensures steps { IfSome result (λ x. StepsLead next_read stands_at frame.now at opening last x.0 x.1 x.2) }
     {
         let (lead, id, taken) = lead_front(&frame[at..])?;
         Some((lead, id, at + taken))
@@ -74,9 +69,7 @@ impl<'f> FormRead for BinaryRead<'f> {
     fn flag(frame: &[u8], at: usize, behind: usize, opening: Opening) -> Option<(bool, usize)>
         requires { IsPast at frame.now behind }
         ensures past { IfSome result (λ x. IsPast at frame.now x.1) }
-        ensures steps { IfSome result (λ x. (id : ℤ) (last : ℤ) (up : List Slot)
-            → ((hint : Hint) → Steps next_read stands_at frame.now at opening (Fields last ∷ up) hint (field id Kind.Bool) behind)
-            → StepsTwice next_read stands_at frame.now at opening (Fields last ∷ up) (field id Kind.Bool) (bool_value x.0) x.1) }
+        ensures steps { IfSome result (λ x. StepsFlag next_read stands_at frame.now at opening behind x.0 x.1) }
     {
         let value = bool_front(&frame[behind..])?;
         Some((value, behind + 1))
@@ -137,7 +130,7 @@ impl<'f> FormRead for BinaryRead<'f> {
     fn double(frame: &[u8], at: usize, stand: Stand) -> Option<(u64, usize)>
         requires { at ≤ length frame.now }
         ensures past { IfSome result (λ x. IsPast at frame.now x.1) }
-        ensures steps { IfSome result (λ x. StepsValue next_read stands_at frame.now at stand Kind.Double (double_value (to_be_bytes w64 x.0)) x.1) }
+        ensures steps { IfSome result (λ x. StepsValue next_read stands_at frame.now at stand Kind.Double (double_item x.0) x.1) }
     {
         let value = double_front(&frame[at..])?;
         Some((value, at + 8))
@@ -166,8 +159,7 @@ impl<'f> FormRead for BinaryRead<'f> {
         requires { at ≤ length frame.now }
         ensures past { IfSome result (λ x. IsPast at frame.now x.behind) }
         ensures part { IfSome result (λ x. (at < x.begin) × (x.begin ≤ x.end) × (x.end ≤ x.behind)) }
-        ensures steps { IfSome result (λ x. (opening : Opening) (nest : List Slot) (known : Hint) → (false ≡ true → known ≡ hint)
-            → Calls stand Kind.Str opening nest → Steps next_read stands_at frame.now at opening nest known (text (part frame.now x.begin x.end)) x.behind) }
+        ensures steps { IfSome result (λ x. StepsText next_read stands_at false hint frame.now at stand (part frame.now x.begin x.end) x.behind) }
     {
         let size = length_front(&frame[at..])?;
         let begin = at + 4;
@@ -193,8 +185,7 @@ impl<'f> FormRead for BinaryRead<'f> {
         ensures kept { length room.new ≡ length room.old }
         ensures past { IfSome result (λ x. IsPast at frame.now x.behind) }
         ensures shorter { IfSome result (λ x. at + x.size + 1 ≤ x.behind) }
-        ensures steps { IfSome result (λ x. (opening : Opening) (nest : List Slot) (known : Hint) → (false ≡ true → known ≡ hint)
-            → Calls stand Kind.Str opening nest → Steps next_read stands_at frame.now at opening nest known (text (take x.size room.new)) x.behind) }
+        ensures steps { IfSome result (λ x. StepsText next_read stands_at false hint frame.now at stand (take x.size room.new) x.behind) }
     {
         None
     }
@@ -244,7 +235,7 @@ impl<'f> FormRead for BinaryRead<'f> {
     fn end(frame: &[u8], at: usize, container: Container) -> Option<usize>
         requires { at ≤ length frame.now }
         ensures within { IfSome result (λ x. (at ≤ x) × (x ≤ length frame.now)) }
-        ensures steps { IfSome result (λ x. (opening : Opening) (nest : List Slot) (hint : Hint) → IsDone container nest → Steps next_read stands_at frame.now at opening nest hint end x) }
+        ensures steps { IfSome result (λ x. StepsEnd next_read stands_at frame.now at container x) }
     {
         Some(at)
     }

@@ -1,16 +1,16 @@
 //! The reader: a frame, a place in it and the open levels.
-ghost use Rattle.std.specs.Prelude.{◌≡◌, ◌<◌, ◌≤◌, ◌+◌, ◌^◌, [], ◌∷◌, Some, length, IfOk};
+ghost use Rattle.std.specs.Prelude.{◌≡◌, ◌<◌, ◌≤◌, ◌+◌, ◌^◌, Some, length, IfOk};
 ghost use Rattle.thrift_value.specs.Items.{item_of};
+ghost use Rattle.protocol_traits.specs.declared.nest.TheConstants.{DEPTH};
 ghost use Rattle.protocol_traits.specs.Heads.{header_of};
 ghost use Rattle.protocol_traits.specs.Stack.{first_of};
 ghost use Rattle.protocol_traits.specs.Follow.{depth_after};
 ghost use Rattle.protocol_traits.specs.Room.{IsSized};
 ghost use Rattle.protocol_traits.specs.Steps.{Answers};
-ghost use Rattle.binary_protocol.specs.Reading.{body_open};
 
 use crate::head::{head_at, name_place};
-use crate::scan::{fault, item_in};
-use protocol_traits::{Fault, Head, Nest, Reason, Slot, follow_in};
+use crate::scan::item_in;
+use protocol_traits::{Fault, Head, Nest, Reason, Slot, fault_at, follow_in};
 use std::marker::Model;
 use thrift_value::Event;
 
@@ -64,10 +64,10 @@ impl<'f> BinaryRead<'f> {
             Ok((head, taken)) => {
                 self.value = self.place + name_place(rest);
                 self.place += taken;
-                begin(&mut self.nest);
+                self.nest.restart(Slot::Fields(0));
                 Ok(head)
             }
-            Err(f) => Err(fault(self.place + f.place, f.reason)),
+            Err(f) => Err(fault_at(self.place + f.place, f.reason)),
         }
     }
 
@@ -76,10 +76,10 @@ impl<'f> BinaryRead<'f> {
     pub fn read(&mut self) -> Result<Event<'f>, Fault>
         ensures exact { Answers item_of result self.new (reads self.old) }
         ensures sized { IfOk result (λ e. IsSized (item_of e)) }
-        ensures shallow { IfOk result (λ e. depth_after (item_of e) (length self.old.nest) ≤ 256) }
+        ensures shallow { IfOk result (λ e. depth_after (item_of e) (length self.old.nest) ≤ DEPTH) }
     {
         let Some(level) = self.nest.top() else {
-            return Err(fault(self.place, Reason::Trailing));
+            return Err(fault_at(self.place, Reason::Trailing));
         };
         self.read_in(level)
     }
@@ -90,7 +90,7 @@ impl<'f> BinaryRead<'f> {
         requires level { first_of self.old.nest ≡ Some level }
         ensures exact { Answers item_of result self.new (reads self.old) }
         ensures sized { IfOk result (λ e. IsSized (item_of e)) }
-        ensures shallow { IfOk result (λ e. depth_after (item_of e) (length self.old.nest) ≤ 256) }
+        ensures shallow { IfOk result (λ e. depth_after (item_of e) (length self.old.nest) ≤ DEPTH) }
     {
         let frame = self.frame;
         let rest = &frame[self.place..];
@@ -101,7 +101,7 @@ impl<'f> BinaryRead<'f> {
                 self.place += taken;
                 Ok(event)
             }
-            Err(f) => Err(fault(self.place + f.place, f.reason)),
+            Err(f) => Err(fault_at(self.place + f.place, f.reason)),
         }
     }
 
@@ -128,23 +128,11 @@ impl<'f> BinaryRead<'f> {
         ensures { Answers (λ u. u) result self.new (reads_end self.old) }
     {
         if self.nest.depth() != 0 {
-            return Err(fault(self.frame.len(), Reason::Truncated));
+            return Err(fault_at(self.frame.len(), Reason::Truncated));
         }
         if self.place != self.frame.len() {
-            return Err(fault(self.place, Reason::Trailing));
+            return Err(fault_at(self.place, Reason::Trailing));
         }
         Ok(())
-    }
-}
-
-/// Leaves the body's struct open alone. No header is read with other levels open, so no place is made ready anew.
-#[inline(always)]
-fn begin(nest: &mut Nest)
-    ensures { nest.new ≡ body_open }
-{
-    if nest.depth() == 1 {
-        nest.set_top(Slot::Fields(0));
-    } else {
-        *nest = Nest::new(Slot::Fields(0));
     }
 }

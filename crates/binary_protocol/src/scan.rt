@@ -5,7 +5,7 @@ ghost use Rattle.protocol_traits.specs.Steps.{seen};
 ghost use Rattle.binary_protocol.specs.Scan.{scan_of, string_scan, shifted, IsWithin, field_at, bool_at, i8_at, i16_at, i32_at, i64_at, double_at, uuid_at, size_begun, size_at, is_zero_at, zero_at, string_at, text_at, elements_at, set_at, list_at, map_item, map_of, is_bad_kind, map_at, value_at, nests, value_in, called_for, item_called, item_in};
 
 use crate::codes::kind_of_code;
-use protocol_traits::{DEPTH, Fault, Reason, Slot};
+use protocol_traits::{DEPTH, Fault, Reason, Slot, fault_at};
 use thrift_value::{Event, Kind};
 
 /// What a level calls for.
@@ -45,20 +45,12 @@ fn called_for(slot: Slot) -> Called
     }
 }
 
-/// A fault at a place.
-#[inline(always)]
-pub fn fault(place: usize, reason: Reason) -> Fault
-    ensures { result ≡ record { place = place; reason = reason } }
-{
-    Fault { place, reason }
-}
-
 /// The bytes end inside an item that more bytes could still make good.
 #[inline(always)]
 pub fn cut(bytes: &[u8]) -> Fault
     ensures { result ≡ record { place = length bytes.now; reason = Reason.Truncated } }
 {
-    fault(bytes.len(), Reason::Truncated)
+    fault_at(bytes.len(), Reason::Truncated)
 }
 
 /// A field's kind and id, or the end of the struct.
@@ -75,7 +67,7 @@ fn field_at(bytes: &[u8]) -> Result<(Event<'_>, usize), Fault>
         return Ok((Event::Stop, 1));
     }
     let Some(kind) = kind_of_code(bytes[0]) else {
-        return Err(fault(0, Reason::BadKind));
+        return Err(fault_at(0, Reason::BadKind));
     };
     if bytes.len() < 3 {
         return Err(cut(bytes));
@@ -92,7 +84,7 @@ fn value_in(depth: usize, kind: Kind, bytes: &[u8]) -> Result<(Event<'_>, usize)
     ensures exact { seen scan_of result ≡ value_in depth kind bytes.now }
 {
     if nests(kind) && depth >= DEPTH {
-        return Err(fault(0, Reason::TooDeep));
+        return Err(fault_at(0, Reason::TooDeep));
     }
     value_at(kind, bytes)
 }
@@ -140,7 +132,7 @@ fn bool_at(bytes: &[u8]) -> Result<(Event<'_>, usize), Fault>
     match bytes[0] {
         0 => Ok((Event::Bool(false), 1)),
         1 => Ok((Event::Bool(true), 1)),
-        _ => Err(fault(0, Reason::BadBool)),
+        _ => Err(fault_at(0, Reason::BadBool)),
     }
 }
 
@@ -233,7 +225,7 @@ fn size_at(bytes: &[u8]) -> Result<(u32, usize), Fault>
     }
     let size = u32::from_be_bytes([bytes[0], bytes[1], bytes[2], bytes[3]]);
     if size >= 0x8000_0000 {
-        return Err(fault(0, Reason::BadSize));
+        return Err(fault_at(0, Reason::BadSize));
     }
     Ok((size, 4))
 }
@@ -244,7 +236,7 @@ fn size_begun(bytes: &[u8]) -> Fault
     ensures { Err result ≡ size_begun bytes.now }
 {
     if !bytes.is_empty() && bytes[0] >= 0x80 {
-        return fault(0, Reason::BadSize);
+        return fault_at(0, Reason::BadSize);
     }
     cut(bytes)
 }
@@ -258,7 +250,7 @@ fn zero_at(bytes: &[u8]) -> Result<(u32, usize), Fault>
     let front = is_zero_at(bytes, 0) & is_zero_at(bytes, 1);
     let back = is_zero_at(bytes, 2) & is_zero_at(bytes, 3);
     if !(front & back) {
-        return Err(fault(0, Reason::BadSize));
+        return Err(fault_at(0, Reason::BadSize));
     }
     if bytes.len() < 4 {
         return Err(cut(bytes));
@@ -330,11 +322,11 @@ fn elements_at(bytes: &[u8]) -> Result<((Kind, u32), usize), Fault>
         return Err(cut(bytes));
     }
     let Some(kind) = kind_of_code(bytes[0]) else {
-        return Err(fault(0, Reason::BadKind));
+        return Err(fault_at(0, Reason::BadKind));
     };
     match size_at(&bytes[1..]) {
         Ok((size, taken)) => Ok(((kind, size), 1 + taken)),
-        Err(f) => Err(fault(1 + f.place, f.reason)),
+        Err(f) => Err(fault_at(1 + f.place, f.reason)),
     }
 }
 
@@ -349,17 +341,17 @@ fn map_at(bytes: &[u8]) -> Result<(Event<'_>, usize), Fault>
         return Err(cut(bytes));
     }
     if is_bad_kind(bytes[0]) {
-        return Err(fault(0, Reason::BadKind));
+        return Err(fault_at(0, Reason::BadKind));
     }
     if bytes.len() < 2 {
         return Err(cut(bytes));
     }
     if is_bad_kind(bytes[1]) {
-        return Err(fault(1, Reason::BadKind));
+        return Err(fault_at(1, Reason::BadKind));
     }
     match map_of(kind_of_code(bytes[0]), kind_of_code(bytes[1]), &bytes[2..]) {
         Ok((event, taken)) => Ok((event, 2 + taken)),
-        Err(f) => Err(fault(2 + f.place, f.reason)),
+        Err(f) => Err(fault_at(2 + f.place, f.reason)),
     }
 }
 

@@ -2,7 +2,7 @@
 ghost use Rattle.std.specs.Prelude.{◌≡◌, ◌≤◌, ◌+◌, ◌∷◌, ◌++◌, false, true, length, take};
 ghost use Rattle.binary_protocol.specs.Codes.{code_of_kind};
 ghost use Rattle.binary_protocol.specs.Grammar.{size as size_of};
-ghost use Rattle.binary_protocol.specs.WriteForms.{stands_at, goes_on, starts_at};
+ghost use Rattle.binary_protocol.specs.WriteForms.{goes_on, starts_at};
 
 use crate::codes::code_of_kind;
 use crate::writer::{BinaryWrite, put_head};
@@ -12,8 +12,6 @@ use protocol_traits::{Container, FormWrite, Head, Hint, Mark, Opening, Stand, UU
 use thrift_value::Kind;
 
 impl FormWrite for BinaryWrite {
-    ghost stands_at = { stands_at };
-
     ghost hinted = { false };
 
     ghost marked = { true };
@@ -32,6 +30,7 @@ impl FormWrite for BinaryWrite {
         true
     }
 
+    #[inline(always)]
     fn front(head: &Head<'_>, out: &mut Out) {
         put_head(head, out)
     }

@@ -1,6 +1,7 @@
 //! The writer. What it writes rests on no earlier event; it only counts the open levels.
-ghost use Rattle.std.specs.Prelude.{◌≡◌, ◌+◌, ◌≤◌, ◌<◌, ◌^◌, ◌∷◌, ◌++◌, length};
+ghost use Rattle.std.specs.Prelude.{◌≡◌, ◌+◌, ◌≤◌, ◌<◌, ◌^◌, ◌∷◌, ◌++◌, length, take};
 ghost use Rattle.thrift_value.specs.Items.{item_of};
+ghost use Rattle.protocol_traits.specs.declared.nest.TheConstants.{DEPTH};
 ghost use Rattle.protocol_traits.specs.Heads.{header_of};
 ghost use Rattle.protocol_traits.specs.Follow.{depth_after};
 ghost use Rattle.protocol_traits.specs.Room.{IsSized};
@@ -9,9 +10,13 @@ ghost use Rattle.binary_protocol.specs.Codes.{code_of_kind};
 ghost use Rattle.binary_protocol.specs.Plain.{plain, plain_head};
 
 use crate::codes::{code_of_kind, code_of_type};
+use cell_writes::lay;
 use gate_io::Out;
 use protocol_traits::{Head, Mark};
 use thrift_value::{Event, Kind};
+
+/// The bytes of a strict header but for its name's.
+const AROUND_NAME: usize = 12;
 
 /// A writer of the Binary protocol, of one message.
 #[derive(Drop)]
@@ -32,7 +37,7 @@ impl BinaryWrite {
     #[inline(always)]
     pub fn count(&mut self, event: &Event<'_>)
         requires open { 0 < self.old.depth }
-        requires shallow { depth_after (item_of event.now) self.old.depth ≤ 256 }
+        requires shallow { depth_after (item_of event.now) self.old.depth ≤ DEPTH }
         ensures { self.new ≡ record { depth = depth_after (item_of event.now) self.old.depth } }
     {
         match *event {
@@ -106,13 +111,27 @@ fn put_map(key: Kind, value: Kind, size: u32, out: &mut Out)
 }
 
 /// Appends the strict header.
+#[inline(always)]
 pub fn put_head(head: &Head<'_>, out: &mut Out)
     requires size { length head.now.name.now < 2 ^ 31 }
     requires room { length out.old.bytes + length (plain_head (header_of head.now)) ≤ out.old.room }
     ensures { out.new ≡ record out.old { bytes = out.old.bytes ++ plain_head (header_of head.now) } }
 {
+    let cells = out.tail(head.name.len() + AROUND_NAME);
+    lay_head(cells, head);
+}
+
+/// Lays the strict header into cells, and gives how many it took.
+#[inline(always)]
+fn lay_head(cells: &mut [u8], head: &Head<'_>) -> usize
+    requires size { length head.now.name.now < 2 ^ 31 }
+    requires room { length head.now.name.now + AROUND_NAME ≤ length cells.old }
+    ensures laid { take result cells.new ≡ plain_head (header_of head.now) }
+    ensures place { result ≡ length head.now.name.now + AROUND_NAME }
+{
     let [a, b, c, d] = (head.name.len() as u32).to_be_bytes();
-    out.push(&[0x80, 1, 0, code_of_type(head.mtype), a, b, c, d]);
-    out.push(head.name);
-    out.push(&head.seq.to_be_bytes());
+    let code = code_of_type(head.mtype);
+    let to = lay(cells, 0, &[0x80, 1, 0, code, a, b, c, d]);
+    let to = lay(cells, to, head.name);
+    lay(cells, to, &head.seq.to_be_bytes())
 }

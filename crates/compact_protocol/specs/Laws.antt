@@ -1,4 +1,5 @@
 -- What holds of each item that is read, whatever the bytes, and of each that is written.
+-- Nothing here has to be believed: these are lemmas on the definitions of Reading, Scan and Plain, each with its proof.
 use Rattle.std.proofs.Common.{◌≡◌, ℕ, ℤ, pos, negsuc, ◌+◌, ◌-◌, ◌*◌, ◌/◌, ◌%◌, ◌<◌, ◌≤◌, ◌^◌, Bool, true, false, nat_lt, List, [], ◌∷◌, length, take, drop, Option, Some, None, Ok, Err, refl, ◌∙◌, sym, subst, arith, length-take, length-drop, length-append, add-zero}
 use Rattle.std.specs.Prelude.{⊤, ◌+ℤ◌, if◌then◌else◌, ◌&&◌, ◌==◌, nat_le, int_lt, slice_index, IfOk, Result, FitsSigned}
 use Rattle.std.specs.Int.{w8, w16, w32, w64, cast_signed, cast_unsigned}

@@ -6,14 +6,53 @@ ghost use Rattle.thrift_value.specs.declared.kind.Kind.{Kind};
 ghost use Rattle.thrift_value.specs.Items.{bool_value, i8_value, i16_value, i32_value, i64_value, double_value};
 ghost use Rattle.protocol_traits.specs.Forms.{lead_item, pairs_item};
 ghost use Rattle.compact_protocol.specs.Codes.{kind_of};
-ghost use Rattle.compact_protocol.specs.Scan.{field_at, bool_at, i8_at, id_at, double_at, size_at, elements_at, value_at};
+ghost use Rattle.compact_protocol.specs.Scan.{field_at, bool_at, i8_at, id_at, double_at, size_at, string_at, elements_at, value_at, type_at, front_at, shifted};
 ghost use Rattle.compact_protocol.specs.Forms.{Finds, IsGood, lead_of_kind};
 
-use crate::scan::next_id;
+use crate::scan::{next_id, type_of};
 use crate::values::kind_of;
 use protocol_traits::{Lead, Pairs};
-use thrift_value::Kind;
+use thrift_value::{Kind, MessageType};
 use varint_zigzag::{read_size_at, read_u16_at, read_u32_at, read_u64_at, unzigzag32, unzigzag64};
+
+/// A header's type and sequence number, and the place behind them.
+#[inline(always)]
+pub fn front_from(frame: &[u8]) -> Option<(MessageType, i32, usize)>
+    ensures found { IfSome result (λ x. front_at frame.now ≡ Ok ((x.0, x.1), x.2)) }
+    ensures within { IfSome result (λ x. x.2 ≤ length frame.now) }
+{
+    let mtype = type_front(frame)?;
+    let (number, behind) = read_u32_at(frame, 2)?;
+    Some((mtype, number.cast_signed(), behind))
+}
+
+/// The protocol's byte, the version and the type, in two bytes.
+#[inline(always)]
+#[tactic(auto, unfolding(crate::specs::Scan::type_at))]
+fn type_front(frame: &[u8]) -> Option<MessageType>
+    ensures found { IfSome result (λ t. type_at frame.now ≡ Ok (t, 2)) }
+    ensures long { IfSome result (λ t. 2 ≤ length frame.now) }
+{
+    if frame.len() < 2 || frame[0] != 0x82 || frame[1] % 32 != 1 {
+        return None;
+    }
+    let mtype = type_of(frame[1] / 32)?;
+    Some(mtype)
+}
+
+/// A header's name at a place, and the place behind it.
+#[inline(always)]
+pub fn name_from(frame: &[u8], at: usize) -> Option<(&[u8], usize)>
+    requires { at ≤ length frame.now }
+    ensures { IfSome result (λ x. shifted at (string_at (drop at frame.now)) ≡ Ok (x.0.now, x.1)) }
+{
+    let (size, begin) = size_from(frame, at)?;
+    if frame.len() - begin < size as usize {
+        return None;
+    }
+    let behind = begin + size as usize;
+    Some((&frame[begin..behind], behind))
+}
 
 /// A field's kind and id or the end of the struct, behind a field with this id.
 #[inline(always)]

@@ -4,16 +4,8 @@ ghost use Rattle.varint_zigzag.specs.Zigzag.{unfolded};
 ghost use Rattle.protocol_traits.specs.Steps.{seen};
 ghost use Rattle.compact_protocol.specs.Scan.{IsWithin, string_scan, shifted, varint16_at, varint32_at, varint64_at, id_at, size_at, string_at};
 
-use protocol_traits::{Fault, Reason};
+use protocol_traits::{Fault, Reason, fault_at};
 use varint_zigzag::{VarFault, read_u16, read_u32, read_u64};
-
-/// A fault at a place.
-#[inline(always)]
-pub fn fault(place: usize, reason: Reason) -> Fault
-    ensures { result ≡ record { place = place; reason = reason } }
-{
-    Fault { place, reason }
-}
 
 /// A varint of 16 bits, in at most five bytes: `Truncated` where the bytes end inside it, `BadVarint` where they begin none.
 #[tactic(auto, unfolding(crate::specs::Scan::varint16_at))]
@@ -24,8 +16,8 @@ pub fn varint16_at(bytes: &[u8]) -> Result<(u16, usize), Fault>
 {
     match read_u16(bytes) {
         Ok(found) => Ok(found),
-        Err(VarFault::Short) => Err(fault(bytes.len(), Reason::Truncated)),
-        Err(VarFault::Bad) => Err(fault(0, Reason::BadVarint)),
+        Err(VarFault::Short) => Err(fault_at(bytes.len(), Reason::Truncated)),
+        Err(VarFault::Bad) => Err(fault_at(0, Reason::BadVarint)),
     }
 }
 
@@ -38,8 +30,8 @@ pub fn varint32_at(bytes: &[u8]) -> Result<(u32, usize), Fault>
 {
     match read_u32(bytes) {
         Ok(found) => Ok(found),
-        Err(VarFault::Short) => Err(fault(bytes.len(), Reason::Truncated)),
-        Err(VarFault::Bad) => Err(fault(0, Reason::BadVarint)),
+        Err(VarFault::Short) => Err(fault_at(bytes.len(), Reason::Truncated)),
+        Err(VarFault::Bad) => Err(fault_at(0, Reason::BadVarint)),
     }
 }
 
@@ -52,8 +44,8 @@ pub fn varint64_at(bytes: &[u8]) -> Result<(u64, usize), Fault>
 {
     match read_u64(bytes) {
         Ok(found) => Ok(found),
-        Err(VarFault::Short) => Err(fault(bytes.len(), Reason::Truncated)),
-        Err(VarFault::Bad) => Err(fault(0, Reason::BadVarint)),
+        Err(VarFault::Short) => Err(fault_at(bytes.len(), Reason::Truncated)),
+        Err(VarFault::Bad) => Err(fault_at(0, Reason::BadVarint)),
     }
 }
 
@@ -88,7 +80,7 @@ pub fn size_at(bytes: &[u8]) -> Result<(u32, usize), Fault>
     if size < 1 << 31 {
         Ok((size, taken))
     } else {
-        Err(fault(0, Reason::BadSize))
+        Err(fault_at(0, Reason::BadSize))
     }
 }
 
@@ -102,7 +94,7 @@ pub fn string_at(bytes: &[u8]) -> Result<(&[u8], usize), Fault>
     let (size, taken) = size_at(bytes)?;
     let end = taken + size as usize;
     if bytes.len() < end {
-        return Err(fault(bytes.len(), Reason::Truncated));
+        return Err(fault_at(bytes.len(), Reason::Truncated));
     }
     Ok((&bytes[taken..end], end))
 }
@@ -116,7 +108,7 @@ pub fn id_behind(bytes: &[u8], at: usize) -> Result<(i16, usize), Fault>
 {
     match id_at(&bytes[at..]) {
         Ok((id, taken)) => Ok((id, at + taken)),
-        Err(f) => Err(fault(at + f.place, f.reason)),
+        Err(f) => Err(fault_at(at + f.place, f.reason)),
     }
 }
 
@@ -129,7 +121,7 @@ pub fn size_behind(bytes: &[u8], at: usize) -> Result<(u32, usize), Fault>
 {
     match size_at(&bytes[at..]) {
         Ok((size, taken)) => Ok((size, at + taken)),
-        Err(f) => Err(fault(at + f.place, f.reason)),
+        Err(f) => Err(fault_at(at + f.place, f.reason)),
     }
 }
 
@@ -141,7 +133,7 @@ pub fn varint32_behind(bytes: &[u8], at: usize) -> Result<(u32, usize), Fault>
 {
     match varint32_at(&bytes[at..]) {
         Ok((number, taken)) => Ok((number, at + taken)),
-        Err(f) => Err(fault(at + f.place, f.reason)),
+        Err(f) => Err(fault_at(at + f.place, f.reason)),
     }
 }
 
@@ -153,6 +145,6 @@ pub fn string_behind(bytes: &[u8], at: usize) -> Result<(&[u8], usize), Fault>
 {
     match string_at(&bytes[at..]) {
         Ok((text, taken)) => Ok((text, at + taken)),
-        Err(f) => Err(fault(at + f.place, f.reason)),
+        Err(f) => Err(fault_at(at + f.place, f.reason)),
     }
 }

@@ -3,6 +3,8 @@ ghost use Rattle.std.specs.Prelude.{◌≡◌, None, length, refl};
 ghost use Rattle.thrift_value.specs.Items.{item_of};
 ghost use Rattle.protocol_traits.specs.Heads.{header_of};
 ghost use Rattle.compact_protocol.specs.Reading.{begun, reads, reads_head, reads_end, ahead};
+ghost use Rattle.compact_protocol.specs.Forms.{stands_at as reader_at};
+ghost use Rattle.compact_protocol.specs.WriteForms.{stands_at as writer_at};
 ghost use Rattle.compact_protocol.specs.Laws.{reads_pays, reads_nests, reads_follows, reads_head_pays, reads_head_opens, begins, light, light_head, follows_nests};
 ghost use Rattle.compact_protocol.specs.Plain.{spelling, head_spelling, follows, bar, begun as begun_writing};
 
@@ -44,6 +46,8 @@ impl<'f> ReadRules for CompactRead<'f> {
     ghost nest = { λ s. s.nest };
 
     ghost depth = { λ s. length s.nest };
+
+    ghost stands_at = { reader_at };
 
     ghost ahead = { ahead };
 
@@ -114,6 +118,8 @@ impl WireWrite for CompactWrite {
     ghost after = { λ w item mark. follows w item };
 
     ghost depth = { λ w. length w.nest };
+
+    ghost stands_at = { writer_at };
 
     ghost starts = { refl };
 

@@ -1,15 +1,16 @@
 //! The reader: a frame, a place in it and the open levels.
-ghost use Rattle.std.specs.Prelude.{◌≡◌, ◌≤◌, ◌<◌, ◌^◌, [], ◌∷◌, length, IfOk, pos, false};
+ghost use Rattle.std.specs.Prelude.{◌≡◌, ◌≤◌, ◌<◌, ◌^◌, length, IfOk, false};
 ghost use Rattle.thrift_value.specs.Items.{item_of};
+ghost use Rattle.protocol_traits.specs.declared.nest.TheConstants.{DEPTH};
 ghost use Rattle.protocol_traits.specs.Heads.{header_of};
 ghost use Rattle.protocol_traits.specs.Stack.{first_of};
 ghost use Rattle.protocol_traits.specs.Follow.{depth_after};
 ghost use Rattle.protocol_traits.specs.Room.{IsSized};
 ghost use Rattle.protocol_traits.specs.Steps.{Answers};
 
-use crate::numbers::{fault, string_behind};
+use crate::numbers::string_behind;
 use crate::scan::{flag_of, front_at, item_in};
-use protocol_traits::{Fault, Head, Nest, Reason, Slot, follow};
+use protocol_traits::{Fault, Head, Nest, Reason, Slot, fault_at, follow};
 use std::marker::Model;
 use thrift_value::Event;
 
@@ -27,13 +28,14 @@ pub struct CompactRead<'f> {
 /// Clauses see the frame, the places, the flag and the open levels.
 impl<'f> Model for CompactRead<'f> {
     ghost use Rattle.std.specs.Prelude.{◌<◌, ◌≤◌, ◌^◌, length};
+    ghost use Rattle.protocol_traits.specs.declared.nest.TheConstants.{DEPTH};
     ghost use Rattle.compact_protocol.specs.Reading.{State};
 
     ghost Value = { State };
 
     ghost view = { λ r. record { frame = r.frame.now; place = r.place; value = r.value; flag = r.flag; nest = r.nest } };
 
-    ghost invariant = { λ r. (r.place ≤ length r.frame.now) × (length r.frame.now < 2 ^ 31) × (length r.nest ≤ 256) };
+    ghost invariant = { λ r. (r.place ≤ length r.frame.now) × (length r.frame.now < 2 ^ 31) × (length r.nest ≤ DEPTH) };
 }
 
 impl<'f> CompactRead<'f> {
@@ -63,17 +65,17 @@ impl<'f> CompactRead<'f> {
         let rest = &frame[self.place..];
         let ((mtype, seq), at) = match front_at(rest) {
             Ok(found) => found,
-            Err(f) => return Err(fault(self.place + f.place, f.reason)),
+            Err(f) => return Err(fault_at(self.place + f.place, f.reason)),
         };
         match string_behind(rest, at) {
             Ok((name, taken)) => {
                 self.value = self.place + at;
                 self.place += taken;
                 self.flag = false;
-                begin(&mut self.nest);
+                self.nest.restart(Slot::Fields(0));
                 Ok(Head { name, mtype, seq })
             }
-            Err(f) => Err(fault(self.place + f.place, f.reason)),
+            Err(f) => Err(fault_at(self.place + f.place, f.reason)),
         }
     }
 
@@ -82,13 +84,13 @@ impl<'f> CompactRead<'f> {
     pub fn read(&mut self) -> Result<Event<'f>, Fault>
         ensures exact { Answers item_of result self.new (reads self.old) }
         ensures sized { IfOk result (λ e. IsSized (item_of e)) }
-        ensures shallow { IfOk result (λ e. depth_after (item_of e) (length self.old.nest) ≤ 256) }
+        ensures shallow { IfOk result (λ e. depth_after (item_of e) (length self.old.nest) ≤ DEPTH) }
     {
         let frame = self.frame;
         let rest = &frame[self.place..];
         let slot = match self.nest.top() {
             Some(slot) => slot,
-            None => return Err(fault(self.place, Reason::Trailing)),
+            None => return Err(fault_at(self.place, Reason::Trailing)),
         };
         match item_in(self.nest.depth(), slot, self.flag, rest) {
             Ok((event, taken)) => {
@@ -98,7 +100,7 @@ impl<'f> CompactRead<'f> {
                 self.place += taken;
                 Ok(event)
             }
-            Err(f) => Err(fault(self.place + f.place, f.reason)),
+            Err(f) => Err(fault_at(self.place + f.place, f.reason)),
         }
     }
 
@@ -125,23 +127,11 @@ impl<'f> CompactRead<'f> {
         ensures { Answers (λ u. u) result self.new (reads_end self.old) }
     {
         if self.nest.depth() != 0 {
-            return Err(fault(self.frame.len(), Reason::Truncated));
+            return Err(fault_at(self.frame.len(), Reason::Truncated));
         }
         if self.place != self.frame.len() {
-            return Err(fault(self.place, Reason::Trailing));
+            return Err(fault_at(self.place, Reason::Trailing));
         }
         Ok(())
-    }
-}
-
-/// Leaves the body's struct open alone. No header is read with other levels open, so no place is made ready anew.
-#[inline(always)]
-fn begin(nest: &mut Nest)
-    ensures { nest.new ≡ Slot.Fields (pos 0) ∷ [] }
-{
-    if nest.depth() == 1 {
-        nest.set_top(Slot::Fields(0));
-    } else {
-        *nest = Nest::new(Slot::Fields(0));
     }
 }

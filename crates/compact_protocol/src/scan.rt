@@ -6,9 +6,9 @@ ghost use Rattle.protocol_traits.specs.Steps.{seen};
 ghost use Rattle.compact_protocol.specs.Codes.{type_of};
 ghost use Rattle.compact_protocol.specs.Scan.{scan_of, IsWithin, next_id, field_at, long_field, flag_of, field_value, next_of, item_in, type_at, front_at};
 
-use crate::numbers::{fault, id_behind, varint32_behind};
+use crate::numbers::{id_behind, varint32_behind};
 use crate::values::{kind_of, value_in};
-use protocol_traits::{Fault, Reason, Slot};
+use protocol_traits::{Fault, Reason, Slot, fault_at};
 use thrift_value::{Event, Kind, MessageType};
 
 /// The item that the innermost of so many levels calls for, where the last field's byte told this flag.
@@ -53,13 +53,13 @@ fn field_at(last: i16, bytes: &[u8]) -> Result<(Event<'_>, usize), Fault>
     ensures sized { length bytes.now < 2 ^ 31 → IfOk result (λ x. IsSized (item_of x.0)) }
 {
     if bytes.is_empty() {
-        return Err(fault(0, Reason::Truncated));
+        return Err(fault_at(0, Reason::Truncated));
     }
     if bytes[0] == 0 {
         return Ok((Event::Stop, 1));
     }
     let Some(kind) = kind_of(bytes[0] % 16) else {
-        return Err(fault(0, Reason::BadKind));
+        return Err(fault_at(0, Reason::BadKind));
     };
     let step = bytes[0] / 16;
     if step == 0 {
@@ -67,7 +67,7 @@ fn field_at(last: i16, bytes: &[u8]) -> Result<(Event<'_>, usize), Fault>
     }
     match next_id(last, step) {
         Some(id) => Ok((Event::Field(id, kind), 1)),
-        None => Err(fault(0, Reason::BadId)),
+        None => Err(fault_at(0, Reason::BadId)),
     }
 }
 
@@ -140,24 +140,26 @@ fn type_at(bytes: &[u8]) -> Result<(MessageType, usize), Fault>
     ensures exact { result ≡ type_at bytes.now }
 {
     if bytes.is_empty() {
-        return Err(fault(0, Reason::Truncated));
+        return Err(fault_at(0, Reason::Truncated));
     }
     if bytes[0] != 0x82 {
-        return Err(fault(0, Reason::BadVersion));
+        return Err(fault_at(0, Reason::BadVersion));
     }
     if bytes.len() < 2 {
-        return Err(fault(1, Reason::Truncated));
+        return Err(fault_at(1, Reason::Truncated));
     }
     if bytes[1] % 32 != 1 {
-        return Err(fault(1, Reason::BadVersion));
+        return Err(fault_at(1, Reason::BadVersion));
     }
     match type_of(bytes[1] / 32) {
         Some(mtype) => Ok((mtype, 2)),
-        None => Err(fault(1, Reason::BadType)),
+        None => Err(fault_at(1, Reason::BadType)),
     }
 }
 
-fn type_of(code: u8) -> Option<MessageType>
+/// The type with this number.
+#[inline(always)]
+pub fn type_of(code: u8) -> Option<MessageType>
     ensures { result ≡ type_of code }
 {
     match code {

@@ -4,8 +4,8 @@ ghost use Rattle.protocol_traits.specs.Steps.{seen};
 ghost use Rattle.compact_protocol.specs.Codes.{kind_of};
 ghost use Rattle.compact_protocol.specs.Scan.{scan_of, IsWithin, shifted, bool_at, i8_at, i16_at, i32_at, i64_at, double_at, text_at, uuid_at, elements_at, set_at, list_at, kinds_at, map_at, value_at, value_in, opens};
 
-use crate::numbers::{fault, id_at, size_at, size_behind, string_at, varint32_at, varint64_at};
-use protocol_traits::{DEPTH, Fault, Reason};
+use crate::numbers::{id_at, size_at, size_behind, string_at, varint32_at, varint64_at};
+use protocol_traits::{DEPTH, Fault, Reason, fault_at};
 use thrift_value::{Event, Kind};
 use varint_zigzag::{unzigzag32, unzigzag64};
 
@@ -39,7 +39,7 @@ pub fn value_in(depth: usize, kind: Kind, bytes: &[u8]) -> Result<(Event<'_>, us
     ensures exact { seen scan_of result ≡ value_in depth kind bytes.now }
 {
     if opens(kind) && depth >= DEPTH {
-        return Err(fault(0, Reason::TooDeep));
+        return Err(fault_at(0, Reason::TooDeep));
     }
     value_at(kind, bytes)
 }
@@ -83,13 +83,13 @@ fn bool_at(bytes: &[u8]) -> Result<(Event<'_>, usize), Fault>
     ensures exact { seen scan_of result ≡ bool_at bytes.now }
 {
     if bytes.is_empty() {
-        return Err(fault(0, Reason::Truncated));
+        return Err(fault_at(0, Reason::Truncated));
     }
     match bytes[0] {
         1 => Ok((Event::Bool(true), 1)),
         2 => Ok((Event::Bool(false), 1)),
         0 => Ok((Event::Bool(false), 1)),
-        _ => Err(fault(0, Reason::BadBool)),
+        _ => Err(fault_at(0, Reason::BadBool)),
     }
 }
 
@@ -100,7 +100,7 @@ fn i8_at(bytes: &[u8]) -> Result<(Event<'_>, usize), Fault>
     ensures exact { seen scan_of result ≡ i8_at bytes.now }
 {
     if bytes.is_empty() {
-        return Err(fault(0, Reason::Truncated));
+        return Err(fault_at(0, Reason::Truncated));
     }
     Ok((Event::I8(i8::from_be_bytes([bytes[0]])), 1))
 }
@@ -143,7 +143,7 @@ fn double_at(bytes: &[u8]) -> Result<(Event<'_>, usize), Fault>
     ensures exact { seen scan_of result ≡ double_at bytes.now }
 {
     let Some((little, _)) = bytes.split_first_chunk::<8>() else {
-        return Err(fault(bytes.len(), Reason::Truncated));
+        return Err(fault_at(bytes.len(), Reason::Truncated));
     };
     let mut big = *little;
     big.reverse();
@@ -168,7 +168,7 @@ fn uuid_at(bytes: &[u8]) -> Result<(Event<'_>, usize), Fault>
 {
     match bytes.split_first_chunk::<16>() {
         Some((uuid, _)) => Ok((Event::Uuid(*uuid), 16)),
-        None => Err(fault(bytes.len(), Reason::Truncated)),
+        None => Err(fault_at(bytes.len(), Reason::Truncated)),
     }
 }
 
@@ -180,10 +180,10 @@ fn elements_at(bytes: &[u8]) -> Result<((Kind, u32), usize), Fault>
     ensures exact { result ≡ elements_at bytes.now }
 {
     if bytes.is_empty() {
-        return Err(fault(0, Reason::Truncated));
+        return Err(fault_at(0, Reason::Truncated));
     }
     let Some(kind) = kind_of(bytes[0] % 16) else {
-        return Err(fault(0, Reason::BadKind));
+        return Err(fault_at(0, Reason::BadKind));
     };
     let short = bytes[0] / 16;
     if short < 15 {
@@ -221,13 +221,13 @@ fn kinds_at(bytes: &[u8]) -> Result<((Kind, Kind), usize), Fault>
     ensures exact { result ≡ kinds_at bytes.now }
 {
     if bytes.is_empty() {
-        return Err(fault(0, Reason::Truncated));
+        return Err(fault_at(0, Reason::Truncated));
     }
     let Some(key) = kind_of(bytes[0] / 16) else {
-        return Err(fault(0, Reason::BadKind));
+        return Err(fault_at(0, Reason::BadKind));
     };
     let Some(value) = kind_of(bytes[0] % 16) else {
-        return Err(fault(0, Reason::BadKind));
+        return Err(fault_at(0, Reason::BadKind));
     };
     Ok(((key, value), 1))
 }
@@ -240,7 +240,7 @@ fn kinds_behind(bytes: &[u8], at: usize) -> Result<((Kind, Kind), usize), Fault>
 {
     match kinds_at(&bytes[at..]) {
         Ok((kinds, taken)) => Ok((kinds, at + taken)),
-        Err(f) => Err(fault(at + f.place, f.reason)),
+        Err(f) => Err(fault_at(at + f.place, f.reason)),
     }
 }
 

@@ -1,6 +1,7 @@
 //! The writer: the open levels, and what is kept of a bool field until its value comes.
 ghost use Rattle.std.specs.Prelude.{◌≡◌, ◌+◌, ◌*◌, ◌≤◌, ◌<◌, ◌^◌, ◌++◌, length, reverse, IfSome};
 ghost use Rattle.thrift_value.specs.Items.{item_of};
+ghost use Rattle.protocol_traits.specs.declared.nest.TheConstants.{DEPTH};
 ghost use Rattle.protocol_traits.specs.Follow.{depth_after};
 ghost use Rattle.protocol_traits.specs.Heads.{header_of};
 ghost use Rattle.protocol_traits.specs.Room.{IsSized};
@@ -24,13 +25,14 @@ pub struct CompactWrite {
 /// Clauses see the open levels and the id before the last.
 impl Model for CompactWrite {
     ghost use Rattle.std.specs.Prelude.{◌≤◌, length};
+    ghost use Rattle.protocol_traits.specs.declared.nest.TheConstants.{DEPTH};
     ghost use Rattle.compact_protocol.specs.Plain.{Writer};
 
     ghost Value = { Writer };
 
     ghost view = { λ w. record { nest = w.nest; before = w.before } };
 
-    ghost invariant = { λ w. length w.nest ≤ 256 };
+    ghost invariant = { λ w. length w.nest ≤ DEPTH };
 }
 
 impl CompactWrite {
@@ -51,7 +53,7 @@ impl CompactWrite {
     pub fn put_event(&mut self, event: &Event<'_>, out: &mut Out)
         requires sized { IsSized (item_of event.now) }
         requires begun { 0 < length self.old.nest }
-        requires shallow { depth_after (item_of event.now) (length self.old.nest) ≤ 256 }
+        requires shallow { depth_after (item_of event.now) (length self.old.nest) ≤ DEPTH }
         requires room { length out.old.bytes + length (spelling self.old (item_of event.now)) ≤ out.old.room }
         ensures out { out.new ≡ record out.old { bytes = out.old.bytes ++ spelling self.old (item_of event.now) } }
         ensures state { self.new ≡ follows self.old (item_of event.now) }
@@ -232,7 +234,7 @@ pub fn flag_code(value: bool) -> u8
     if value { 1 } else { 2 }
 }
 
-fn type_code(mtype: MessageType) -> u8
+pub fn type_code(mtype: MessageType) -> u8
     ensures code { result ≡ type_code mtype }
     ensures bound { result < 5 }
 {

@@ -10,7 +10,7 @@ use Rattle.translate_core.specs.declared.route.Route.{Route}
 use Rattle.translate_core.specs.declared.verdict.Cause.{Cause}
 use Rattle.translate_core.specs.Positions.{typed}
 use Rattle.translate_core.specs.Routes.{start_of, info_of}
-use Rattle.translate_core.specs.Body.{Source, Target, source_of, target_of}
+use Rattle.translate_core.specs.Body.{Source, TargetRules, source_of, target_of}
 use Rattle.translate_core.specs.Judged.{Judged, judge, type_of}
 use Rattle.translate_core.specs.Answers.{answer_of}
 use Rattle.binary_protocol.specs.Reading as binary_reading
@@ -33,13 +33,13 @@ abbrev pub json_source : Source json_reading.State
 json_source = source_of json_reading.begun json_head.reads_head json_reading.reads json_head.reads_end (λ s. s.value) json_reading.ahead
 
 -- the writers
-abbrev pub binary_target : Target BinaryWrite
+abbrev pub binary_target : TargetRules BinaryWrite
 binary_target = target_of (record { depth = 1 }) (λ name. None) binary_plain.plain_head binary_plain.bar (λ s item mark. binary_plain.plain item mark) (λ s item mark. record { depth = depth_after item s.depth })
 
-abbrev pub compact_target : Target compact_plain.Writer
+abbrev pub compact_target : TargetRules compact_plain.Writer
 compact_target = target_of compact_plain.begun (λ name. None) compact_plain.head_spelling (λ item mark. compact_plain.bar item) (λ w item mark. compact_plain.spelling w item) (λ w item mark. compact_plain.follows w item)
 
-abbrev pub json_target : Target json_plain.Writer
+abbrev pub json_target : TargetRules json_plain.Writer
 json_target = target_of json_plain.begun json_plain.name_bar json_plain.plain_head json_plain.bar json_plain.plain json_plain.after
 
 module _ {S : Type 0} (source : Source S) where

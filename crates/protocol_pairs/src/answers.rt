@@ -1,6 +1,7 @@
 //! What is said of one frame beside its translation: the type in its header, and the answer to it.
-ghost use Rattle.std.specs.Prelude.{◌≡◌, ◌+◌, ◌*◌, ◌≤◌, ◌^◌, ◌<◌, ◌++◌, length};
-ghost use Rattle.translate_core.specs.Body.{source_of};
+ghost use Rattle.std.specs.Prelude.{◌≡◌, ◌+◌, ◌≤◌, ◌^◌, ◌<◌, ◌++◌, length};
+ghost use Rattle.protocol_traits.specs.Room.{room_for};
+ghost use Rattle.translate_core.specs.Body.{source_in};
 ghost use Rattle.protocol_pairs.specs.Pairs.{answered, answered_to, headed};
 
 use binary_protocol::{BinaryRead, BinaryWrite};
@@ -35,9 +36,9 @@ pub fn head_type(from: Proto, frame: &[u8], room: &mut [u8]) -> Result<MessageTy
 pub fn answer(from: Proto, to: Proto, frame: &[u8], room: &mut [u8], cause: &Cause, out: &mut Out)
     requires room { length frame.now ≤ length room.old }
     requires size { length frame.now < 2 ^ 31 }
-    requires fits { length out.old.bytes + (24 * length frame.now + 256) ≤ out.old.room }
+    requires fits { length out.old.bytes + room_for (length frame.now) ≤ out.old.room }
     ensures out { out.new ≡ record out.old { bytes = out.old.bytes ++ answered from to frame.now cause.now } }
-    ensures short { length out.new.bytes ≤ length out.old.bytes + (24 * length frame.now + 256) }
+    ensures short { length out.new.bytes ≤ length out.old.bytes + room_for (length frame.now) }
 {
     match from {
         Proto::Binary => answer_to::<BinaryRead>(to, frame, room, cause, out),
@@ -57,9 +58,9 @@ fn answer_to<'f, R: WireRead<'f>>(
 )
     requires room { length frame.now ≤ length room.old }
     requires size { length frame.now < 2 ^ 31 }
-    requires fits { length out.old.bytes + (24 * length frame.now + 256) ≤ out.old.room }
-    ensures out { out.new ≡ record out.old { bytes = out.old.bytes ++ answered_to (source_of R.begun R.reads_head R.reads R.reads_end R.value_place R.ahead) to frame.now cause.now } }
-    ensures short { length out.new.bytes ≤ length out.old.bytes + (24 * length frame.now + 256) }
+    requires fits { length out.old.bytes + room_for (length frame.now) ≤ out.old.room }
+    ensures out { out.new ≡ record out.old { bytes = out.old.bytes ++ answered_to (source_in R.ReadRules) to frame.now cause.now } }
+    ensures short { length out.new.bytes ≤ length out.old.bytes + room_for (length frame.now) }
 {
     match to {
         Proto::Binary => translate_core::answer::<R, BinaryWrite>(frame, room, cause, out),

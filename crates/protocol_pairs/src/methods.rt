@@ -1,6 +1,7 @@
 //! One frame for one that serves a single service.
-ghost use Rattle.std.specs.Prelude.{◌≡◌, ◌+◌, ◌*◌, ◌≤◌, ◌^◌, ◌<◌, length};
-ghost use Rattle.translate_core.specs.Body.{source_of};
+ghost use Rattle.std.specs.Prelude.{◌≡◌, ◌+◌, ◌≤◌, ◌^◌, ◌<◌, length};
+ghost use Rattle.protocol_traits.specs.Room.{room_for};
+ghost use Rattle.translate_core.specs.Body.{source_in};
 ghost use Rattle.translate_core.specs.Judged.{IsJudged, IsLeft};
 ghost use Rattle.translate_core.specs.Methods.{target_of_name};
 ghost use Rattle.translate_core.specs.Routes.{IsKnownRoute};
@@ -53,11 +54,11 @@ pub fn translate_method(
     requires known { IsKnownRoute schema.now route }
     requires room { length frame.now ≤ length room.old }
     requires size { length frame.now < 2 ^ 31 }
-    requires fits { length out.old.bytes + (24 * length frame.now + 256) ≤ out.old.room }
+    requires fits { length out.old.bytes + room_for (length frame.now) ≤ out.old.room }
     ensures exact { IsJudged result out.old.bytes out.new.bytes (method_judged schema.now route from to frame.now) }
     ensures left { IsLeft result out.old.bytes out.new.bytes }
     ensures room { out.new.room ≡ out.old.room }
-    ensures short { length out.new.bytes ≤ length out.old.bytes + (24 * length frame.now + 256) }
+    ensures short { length out.new.bytes ≤ length out.old.bytes + room_for (length frame.now) }
 {
     match from {
         Proto::Binary => method_forms::<BinaryRead>(schema, route, to, frame, room, out),
@@ -79,12 +80,11 @@ fn method_forms<'f, R: WireRead<'f> + FormRead>(
     requires known { IsKnownRoute schema.now route }
     requires room { length frame.now ≤ length room.old }
     requires size { length frame.now < 2 ^ 31 }
-    requires fits { length out.old.bytes + (24 * length frame.now + 256) ≤ out.old.room }
-    ensures exact { IsJudged result out.old.bytes out.new.bytes
-        (method_judged_to (source_of R.begun R.reads_head R.reads R.reads_end R.value_place R.ahead) schema.now route to frame.now) }
+    requires fits { length out.old.bytes + room_for (length frame.now) ≤ out.old.room }
+    ensures exact { IsJudged result out.old.bytes out.new.bytes (method_judged_to (source_in R.ReadRules) schema.now route to frame.now) }
     ensures left { IsLeft result out.old.bytes out.new.bytes }
     ensures room { out.new.room ≡ out.old.room }
-    ensures short { length out.new.bytes ≤ length out.old.bytes + (24 * length frame.now + 256) }
+    ensures short { length out.new.bytes ≤ length out.old.bytes + room_for (length frame.now) }
 {
     match to {
         Proto::Binary => translate_core::translate_method_quickly::<R, BinaryWrite>(
@@ -112,12 +112,11 @@ fn method_to<'f, R: WireRead<'f>>(
     requires known { IsKnownRoute schema.now route }
     requires room { length frame.now ≤ length room.old }
     requires size { length frame.now < 2 ^ 31 }
-    requires fits { length out.old.bytes + (24 * length frame.now + 256) ≤ out.old.room }
-    ensures exact { IsJudged result out.old.bytes out.new.bytes
-        (method_judged_to (source_of R.begun R.reads_head R.reads R.reads_end R.value_place R.ahead) schema.now route to frame.now) }
+    requires fits { length out.old.bytes + room_for (length frame.now) ≤ out.old.room }
+    ensures exact { IsJudged result out.old.bytes out.new.bytes (method_judged_to (source_in R.ReadRules) schema.now route to frame.now) }
     ensures left { IsLeft result out.old.bytes out.new.bytes }
     ensures room { out.new.room ≡ out.old.room }
-    ensures short { length out.new.bytes ≤ length out.old.bytes + (24 * length frame.now + 256) }
+    ensures short { length out.new.bytes ≤ length out.old.bytes + room_for (length frame.now) }
 {
     match to {
         Proto::Binary => {

@@ -1,5 +1,5 @@
 -- A text that was decoded behind the cells that are written.
-use Rattle.std.proofs.Common.{◌≡◌, ◌-◌, ◌≤◌, ℕ, List, ◌++◌, length, take, drop, Option, arith, ap, subst, ◌∙◌}
+use Rattle.std.proofs.Common.{◌≡◌, ◌≤◌, ℕ, List, ◌++◌, length, take, Option, arith, ap, subst, ◌∙◌}
 use Rattle.std.proofs.lemmas.List.{take-append-le, take-take}
 use Rattle.thrift_value.specs.Items.{Item, text}
 use Rattle.protocol_traits.specs.declared.fault.Bar.{Bar}

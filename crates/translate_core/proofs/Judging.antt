@@ -8,12 +8,12 @@ use Rattle.translate_core.specs.declared.verdict.Verdict.{Verdict}
 use Rattle.translate_core.specs.declared.verdict.Verdict.TheVariants.{Passed, Refused, Unread}
 use Rattle.translate_core.specs.Positions.{Positions}
 use Rattle.protocol_traits.specs.Steps.{Step, told}
-use Rattle.translate_core.specs.Body.{Source, Target, going, whole}
+use Rattle.translate_core.specs.Body.{Source, TargetRules, going, whole}
 use Rattle.translate_core.specs.Judged.{judge, judged, after_head, at_end, body_of, kept, IsJudged, IsLeft}
 use Rattle.std.proofs.lemmas.List.{append-nil}
 use Rattle.std.proofs.Math.Seq.{take-append_seam, drop-append_seam}
 
-module _ {S P T : Type 0} (source : Source S) (positions : Positions P) (start : Header → P) (info : Header → HeadInfo) (target : Target T) (frame : List ℕ) where
+module _ {S P T : Type 0} (source : Source S) (positions : Positions P) (start : Header → P) (info : Header → HeadInfo) (target : TargetRules T) (frame : List ℕ) where
   pub judge_err : (f : Fault) → source.reads_head (source.begun frame) ≡ Err f → judge source positions start info target frame ≡ judged (Unread f) []
   unfolding judge
   judge_err f e = rw e refl
@@ -49,7 +49,7 @@ passes_at_end info (Ok x) e = refl
 passes_at_end info (Err f) e = absurd (cc)
 
 -- a header that is free, and a body that passes whole
-module _ {S P T : Type 0} (source : Source S) (positions : Positions P) (start : Header → P) (info : Header → HeadInfo) (target : Target T) (frame : List ℕ) where
+module _ {S P T : Type 0} (source : Source S) (positions : Positions P) (start : Header → P) (info : Header → HeadInfo) (target : TargetRules T) (frame : List ℕ) where
   pub passed_whole : (header : Header) (new read : S) (first behind : P) (wrote : T) (told_info : HeadInfo) (old mid out added : List ℕ)
       → source.reads_head (source.begun frame) ≡ Ok (header, new) → target.name_bar header.name ≡ None → first ≡ start header → told_info ≡ info header
       → whole source positions target (going new first target.begun 1 None []) ≡ Ok (going read behind wrote 0 None added) → told (source.reads_end read) ≡ Ok tt

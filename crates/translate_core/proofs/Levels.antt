@@ -1,8 +1,7 @@
 -- Fields, structs and containers that were taken part by part.
-use Rattle.std.proofs.Common.{◌≡◌, ◌+◌, ◌<◌, ◌≤◌, Bool, ℕ, ℤ, zero, suc, List, ◌∷◌, length, take, Option, Some, None, arith, refl, subst}
+use Rattle.std.proofs.Common.{◌≡◌, ◌+◌, ◌<◌, ◌≤◌, Bool, ℕ, ℤ, zero, suc, List, ◌∷◌, length, Option, Some, None, arith, refl, subst}
 use Rattle.std.specs.Prelude.{IfOk, IfSome}
 use Rattle.std.proofs.lemmas.Bool.{ne_eqb}
-use Rattle.std.proofs.lemmas.List.{length-take}
 use Rattle.thrift_value.specs.declared.kind.Kind.{Kind}
 use Rattle.thrift_value.specs.declared.kind.Kind.TheVariants as kinds
 use Rattle.thrift_value.specs.Items.{Item, field, bool_value, map_begin}
@@ -25,7 +24,7 @@ use Rattle.type_tables.specs.declared.declared.Ty.TheVariants as types
 use Rattle.type_tables.specs.Declarations.{Declarations}
 use Rattle.type_walk.specs.declared.levels.Level.{Level}
 use Rattle.type_walk.specs.Positions.{Position, after, field_type, hint_of, in_list, in_map, in_set, in_struct, mark_of, passed, standing, struct_level}
-use Rattle.translate_core.specs.Body.{Source, Target}
+use Rattle.translate_core.specs.Body.{Source, TargetRules}
 use Rattle.translate_core.specs.Quick.{IsFlat, Spot, Takes, TakesField, TakesValue, Turns, body_type, called, in_elements, spot}
 use Rattle.translate_core.proofs.Taking.{calls_some, spent_length, takes_item, takes_then, takes_twice}
 
@@ -128,7 +127,7 @@ elements_done containers.Map kind up no_map = absurd (no_map refl)
 elements_done containers.Set kind up no_map = refl
 elements_done containers.List kind up no_map = refl
 
-module _ {S T : Type 0} (source : Source S) (target : Target T) (reader_at : S → List ℕ → ℕ → Opening → List Slot → Type 0) (writer_at : T → Opening → List Slot → Type 0) (frame : List ℕ)
+module _ {S T : Type 0} (source : Source S) (target : TargetRules T) (reader_at : S → List ℕ → ℕ → Opening → List Slot → Type 0) (writer_at : T → Opening → List Slot → Type 0) (frame : List ℕ)
     (pays : (s : S) (hint : Hint) → IfOk (source.reads s hint) (λ x. weight x.0 + source.ahead x.1 ≤ source.ahead s))
     (goes_on : (t : T) (opening : Opening) (nest : List Slot) (item : Item) (mark : Mark) → 0 < length nest → writer_at t opening nest → writer_at (target.after t item mark) (opening_after item) (levels_after item nest)) where
   -- a bool field
@@ -194,7 +193,3 @@ elements_weight containers.List kind size = refl
 pub body_level : (body : Option StructId) → struct_level body ≡ in_struct (body_type body)
 body_level None = refl
 body_level (Some s) = refl
-
--- what is cut is no longer than that
-pub cut_short : (bytes : List ℕ) (n : ℕ) → length (take n bytes) ≤ n
-cut_short bytes n = omega (arith, length-take n bytes)

@@ -1,18 +1,17 @@
 -- The verdict on a message whose header is written with the method's name alone, from its parts.
 use Rattle.std.proofs.Common.{◌≡◌, ℕ, List, [], ◌++◌, None, Ok, Err, refl, sym, ap, ◌∙◌, append_assoc}
-use Rattle.std.specs.Prelude.{if◌then◌else◌}
 use Rattle.protocol_traits.specs.declared.fault.Fault.{Fault}
 use Rattle.protocol_traits.specs.Heads.{Header}
-use Rattle.protocol_traits.specs.Steps.{Step, told}
+use Rattle.protocol_traits.specs.Steps.{told}
 use Rattle.translate_core.specs.declared.verdict.HeadInfo.{HeadInfo}
 use Rattle.translate_core.specs.declared.verdict.Verdict.TheVariants.{Passed, Unread}
 use Rattle.translate_core.specs.Positions.{Positions}
-use Rattle.translate_core.specs.Body.{Source, Target, going, whole}
+use Rattle.translate_core.specs.Body.{Source, TargetRules, going, whole}
 use Rattle.translate_core.specs.Judged.{judged, at_end, body_of, IsJudged}
 use Rattle.translate_core.specs.Methods.{judge_method, after_method, method_header}
 use Rattle.translate_core.proofs.Judging.{passes_at_end}
 
-module _ {S P T : Type 0} (source : Source S) (positions : Positions P) (start : Header → P) (info : Header → HeadInfo) (target : Target T) (frame : List ℕ) where
+module _ {S P T : Type 0} (source : Source S) (positions : Positions P) (start : Header → P) (info : Header → HeadInfo) (target : TargetRules T) (frame : List ℕ) where
   pub method_err : (f : Fault) → source.reads_head (source.begun frame) ≡ Err f → judge_method source positions start info target frame ≡ judged (Unread f) []
   unfolding judge_method
   method_err f e = rw e refl
@@ -22,7 +21,7 @@ module _ {S P T : Type 0} (source : Source S) (positions : Positions P) (start :
   method_ok header new e = rw e refl
 
 -- a header that is free, and a body that passes whole
-module _ {S P T : Type 0} (source : Source S) (positions : Positions P) (start : Header → P) (info : Header → HeadInfo) (target : Target T) (frame : List ℕ) where
+module _ {S P T : Type 0} (source : Source S) (positions : Positions P) (start : Header → P) (info : Header → HeadInfo) (target : TargetRules T) (frame : List ℕ) where
   pub passed_method : (header : Header) (new read : S) (first behind : P) (wrote : T) (told_info : HeadInfo) (old mid out added : List ℕ)
       → source.reads_head (source.begun frame) ≡ Ok (header, new) → target.name_bar header.name ≡ None → first ≡ start header → told_info ≡ info header
       → whole source positions target (going new first target.begun 1 None []) ≡ Ok (going read behind wrote 0 None added) → told (source.reads_end read) ≡ Ok tt

@@ -1,5 +1,5 @@
 -- Items that were read and written lead a body on.
-use Rattle.std.proofs.Common.{◌≡◌, ◌+◌, ◌-◌, ◌<◌, ◌≤◌, ℕ, ℤ, List, [], ◌∷◌, ◌++◌, length, None, Ok, arith, refl, sym, ap, ◌∙◌, append_assoc}
+use Rattle.std.proofs.Common.{◌≡◌, ◌+◌, ◌-◌, ◌<◌, ◌≤◌, ℕ, List, [], ◌∷◌, ◌++◌, length, None, Ok, arith, refl, sym, ap, ◌∙◌, append_assoc}
 use Rattle.std.specs.Prelude.{IfOk}
 use Rattle.std.proofs.lemmas.List.{append-nil}
 use Rattle.thrift_value.specs.declared.kind.Kind.{Kind}
@@ -20,7 +20,7 @@ use Rattle.type_tables.specs.declared.declared.Ty.TheVariants as types
 use Rattle.type_tables.specs.Declarations.{Declarations}
 use Rattle.type_walk.specs.Positions.{Position, after, hint_at, hint_of, mark_at, mark_of}
 use Rattle.translate_core.specs.Positions.{typed}
-use Rattle.translate_core.specs.Body.{Source, Target, going, moved, whole}
+use Rattle.translate_core.specs.Body.{Source, TargetRules, going, whole}
 use Rattle.translate_core.specs.Quick.{Spot, spot, Takes, rest_from}
 use Rattle.translate_core.proofs.Whole.{whole_step}
 
@@ -60,7 +60,7 @@ levels_length (uuid_value bytes) nest some = spent_length nest
 appends_then : (old mid new : List ℕ) (to next behind : ℕ) (p q : List ℕ) → Appends old to mid next p → Appends mid next new behind q → Appends old to new behind (p ++ q)
 appends_then old mid new to next behind p q f g = g ∙ (ap (λ (front : List ℕ). front ++ q) f ∙ append_assoc _ p q)
 
-module _ {S T : Type 0} (source : Source S) (target : Target T) (reader_at : S → List ℕ → ℕ → Opening → List Slot → Type 0) (writer_at : T → Opening → List Slot → Type 0) (frame : List ℕ) where
+module _ {S T : Type 0} (source : Source S) (target : TargetRules T) (reader_at : S → List ℕ → ℕ → Opening → List Slot → Type 0) (writer_at : T → Opening → List Slot → Type 0) (frame : List ℕ) where
   pub takes_none : (a : Spot) (cells : List ℕ) (to : ℕ) → Takes source target reader_at writer_at frame a a cells to cells to
   takes_none a cells to s t hs ht = (s, t, [], hs, ht, sym (append-nil _), λ written. ap (rest_from source target reader_at writer_at a s t) (sym (append-nil written)))
 

@@ -10,10 +10,10 @@ use Rattle.protocol_traits.specs.Steps.{Step}
 use Rattle.protocol_traits.specs.Room.{weight}
 use Rattle.translate_core.specs.declared.verdict.Cause.{Cause}
 use Rattle.translate_core.specs.Positions.{Positions}
-use Rattle.translate_core.specs.Body.{Going, Ended, Source, Target, moved, next, within, whole, tried, goes_out, first_cause}
+use Rattle.translate_core.specs.Body.{Going, Ended, Source, TargetRules, moved, next, within, whole, tried, goes_out, first_cause}
 
 -- each item weighs something
-weight_some : (item : Item) → 0 < weight item
+pub weight_some : (item : Item) → 0 < weight item
 weight_some (field id kind) = omega arith
 weight_some stop = omega arith
 weight_some (bool_value b) = omega arith
@@ -33,7 +33,7 @@ weight_some (list_begin kind size) = omega arith
 weight_some end = omega arith
 weight_some (uuid_value bytes) = omega arith
 
-module _ {S P T : Type 0} (source : Source S) (positions : Positions P) (target : Target T)
+module _ {S P T : Type 0} (source : Source S) (positions : Positions P) (target : TargetRules T)
     (pays : (s : S) (hint : Hint) → IfOk (source.reads s hint) (λ x. weight x.0 + source.ahead x.1 ≤ source.ahead s)) where
   next_same : (f h : Going S P T → Ended S P T) (g : Going S P T) (step : Step S Item) (limit : ℕ)
       → ((g' : Going S P T) → source.ahead g'.reader < limit → f g' ≡ h g')

@@ -1,6 +1,6 @@
 -- The answer to a message that is refused: an Exception message whose body is a TApplicationException (Thrift remote
 -- procedure call specification, "Response struct").
-use Rattle.std.specs.Prelude.{◌≡◌, ℕ, ℤ, pos, List, [], ◌∷◌, ◌++◌, Option, None, is_some, Ok, Err, if◌then◌else◌}
+use Rattle.std.specs.Prelude.{◌≡◌, ℕ, ℤ, pos, List, [], ◌∷◌, ◌++◌, Option, Some, None, is_some, Ok, Err, if◌then◌else◌}
 use Rattle.thrift_value.specs.declared.kind.Kind.TheVariants as kinds
 use Rattle.thrift_value.specs.declared.kind.MessageType.{MessageType}
 use Rattle.thrift_value.specs.declared.kind.MessageType.TheVariants as types
@@ -11,10 +11,14 @@ use Rattle.protocol_traits.specs.declared.proto.Hint.TheVariants as hints
 use Rattle.protocol_traits.specs.declared.proto.Mark.{Mark}
 use Rattle.protocol_traits.specs.Heads.{Header}
 use Rattle.protocol_traits.specs.Steps.{Step}
-use Rattle.type_walk.specs.Positions.{Position, mark_of, after}
+use Rattle.type_walk.specs.Positions.{Position, mark_of, after, start}
 use Rattle.multiplex_names.specs.Names.{split_of}
 use Rattle.translate_core.specs.declared.verdict.Cause.{Cause}
-use Rattle.translate_core.specs.Body.{Source, Target}
+use Rattle.protocol_traits.specs.declared.traits.ReadRules.{Ghosts as ReadRules}
+use Rattle.protocol_traits.specs.declared.traits.WireWrite.{Ghosts as WriteRules}
+use Rattle.type_tables.specs.Declarations.{Declarations}
+use Rattle.translate_core.specs.Routes.{failure}
+use Rattle.translate_core.specs.Body.{Source, TargetRules, source_in, target_in}
 use Rattle.translate_core.specs.Texts.{cause_text, failure_type}
 
 abbrev pub mark : Hint → Mark
@@ -35,6 +39,10 @@ marked position (item ∷ items) = (item, mark_of position item) ∷ marked (aft
 
 abbrev pub plain_items : List ℕ → ℤ → List Item
 plain_items message kind = field (pos 1) kinds.Str ∷ text message ∷ field (pos 2) kinds.I32 ∷ i32_value kind ∷ stop ∷ []
+
+-- what is known of the items of an answer is what these declarations tell of a TApplicationException
+abbrev pub DeclaresAnswers : Declarations → Type 0
+DeclaresAnswers d = (message : List ℕ) (kind : ℤ) → failure_items message kind ≡ marked (start d (Some failure)) (plain_items message kind)
 
 -- a writer can spell each of these items
 abbrev pub TakesAll : (Item → Mark → Option Bar) → List (Item × Mark) → Type 0
@@ -62,7 +70,7 @@ spellable name_bar name = if is_some (name_bar name) then [] else name
 abbrev pub answer_header : (List ℕ → Option Bar) → Header → Header
 answer_header name_bar h = record { name = spellable name_bar (method_name h.mtype h.name); mtype = types.Exception; seq = h.seq }
 
-module _ {S T : Type 0} (source : Source S) (target : Target T) where
+module _ {S T : Type 0} (source : Source S) (target : TargetRules T) where
   abbrev pub answer_to : List ℕ → ℤ → Step S Header → List ℕ
   answer_to message kind (Ok x) = target.plain_head (answer_header target.name_bar x.0) ++ spelled target.plain target.after target.begun (failure_items message kind)
   answer_to message kind (Err f) = []
@@ -70,3 +78,7 @@ module _ {S T : Type 0} (source : Source S) (target : Target T) where
   -- what answers a frame for this cause, or nothing where its header isn't whole
   unfoldable pub answer_of : List ℕ → Cause → List ℕ
   answer_of frame cause = answer_to (cause_text cause) (failure_type cause) (source.reads_head (source.begun frame))
+
+-- the same, by the rules of any reader and any writer
+abbrev pub answer_in : {S T : Type 0} → ReadRules S → WriteRules T → List ℕ → Cause → List ℕ
+answer_in reads writes frame cause = answer_of (source_in reads) (target_in writes) frame cause

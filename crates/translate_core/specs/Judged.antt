@@ -9,8 +9,14 @@ use Rattle.translate_core.specs.declared.verdict.Cause.TheVariants.{Grammar}
 use Rattle.translate_core.specs.declared.verdict.HeadInfo.{HeadInfo}
 use Rattle.translate_core.specs.declared.verdict.Verdict.{Verdict}
 use Rattle.translate_core.specs.declared.verdict.Verdict.TheVariants.{Passed, Refused, Unread}
-use Rattle.translate_core.specs.Positions.{Positions}
-use Rattle.translate_core.specs.Body.{Source, Target, Ended, going, whole, first_cause}
+use Rattle.protocol_traits.specs.declared.traits.ReadRules.{Ghosts as ReadRules}
+use Rattle.protocol_traits.specs.declared.traits.WireWrite.{Ghosts as WriteRules}
+use Rattle.type_tables.specs.Declarations.{Declarations}
+use Rattle.type_walk.specs.Positions.{Position}
+use Rattle.translate_core.specs.declared.route.Route.{Route}
+use Rattle.translate_core.specs.Positions.{Positions, typed}
+use Rattle.translate_core.specs.Routes.{start_of, info_of}
+use Rattle.translate_core.specs.Body.{Source, TargetRules, Ended, going, whole, first_cause, source_in, target_in, ended_from}
 
 -- the verdict and the bytes that are written
 pub record Judged : Type 0 where
@@ -44,7 +50,7 @@ abbrev pub body_bytes : {S P T : Type 0} → Ended S P T → List ℕ
 body_bytes (Ok g) = g.bytes
 body_bytes (Err f) = []
 
-module _ {S P T : Type 0} (source : Source S) (positions : Positions P) (start : Header → P) (info : Header → HeadInfo) (target : Target T) where
+module _ {S P T : Type 0} (source : Source S) (positions : Positions P) (start : Header → P) (info : Header → HeadInfo) (target : TargetRules T) where
   abbrev pub head_cause : Header → S → Option Cause
   head_cause h s = first_cause None (target.name_bar h.name) (source.place s)
 
@@ -82,3 +88,22 @@ Grows verdict old new bytes = (added : List ℕ) × (new ≡ old ++ added) × (k
 abbrev pub type_of : {S : Type 0} → Step S Header → Result MessageType Fault
 type_of (Ok x) = Ok x.0.mtype
 type_of (Err f) = Err f
+
+-- ---- by the rules of any reader and any writer
+
+-- these bytes, and behind them a header, unless its name is barred
+abbrev pub with_head : {T : Type 0} → WriteRules T → Header → List ℕ → List ℕ
+with_head rules h bytes = if is_some (rules.name_bar h.name) then bytes else bytes ++ rules.plain_head h
+
+module _ {S T : Type 0} (reads : ReadRules S) (writes : WriteRules T) where
+  -- the verdict on a frame by what is declared and by the route
+  abbrev pub judged_frame : Declarations → Route → List ℕ → Judged
+  judged_frame d route frame = judge (source_in reads) typed (start_of d route) (info_of d route) (target_in writes) frame
+
+  -- the verdict behind a header that tells this, on a body whose first item stands next
+  abbrev pub verdict_from : HeadInfo → S → Position → T → Option Cause → Verdict
+  verdict_from info reader position writer cause = after_body (source_in reads) info (ended_from reads writes reader position writer cause)
+
+  -- what is written of that body
+  abbrev pub bytes_from : S → Position → T → Option Cause → List ℕ
+  bytes_from reader position writer cause = body_bytes (ended_from reads writes reader position writer cause)

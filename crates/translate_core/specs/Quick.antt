@@ -1,27 +1,33 @@
 -- The quick way through a body: what is taken from one place of a frame to another, and how the cells grow by it.
-use Rattle.std.specs.Prelude.{◌≡◌, ℕ, ℤ, ◌+◌, ◌*◌, ◌≤◌, List, [], Bool, true, ◌∷◌, ◌++◌, length, pos, Option, Some, None, Ok}
+use Rattle.std.specs.Prelude.{◌≡◌, ℕ, ℤ, ◌+◌, ◌*◌, ◌≤◌, List, [], Bool, true, ◌∷◌, ◌++◌, length, pos, Option, Some, None, IfSome, Ok}
 use Rattle.thrift_value.specs.declared.kind.Kind.{Kind}
+use Rattle.thrift_value.specs.declared.kind.Kind.TheVariants as kinds
 use Rattle.protocol_traits.specs.declared.forms.Container.{Container}
 use Rattle.protocol_traits.specs.declared.forms.Container.TheVariants as containers
+use Rattle.protocol_traits.specs.declared.traits.ReadRules.{Ghosts as ReadRules}
+use Rattle.protocol_traits.specs.declared.traits.WireWrite.{Ghosts as WriteRules}
+use Rattle.protocol_traits.specs.declared.forms.Lead.{Lead}
 use Rattle.protocol_traits.specs.declared.forms.Opening.{Opening}
 use Rattle.protocol_traits.specs.declared.forms.Opening.TheVariants as openings
+use Rattle.protocol_traits.specs.declared.forms.Pairs.{Pairs}
 use Rattle.protocol_traits.specs.declared.forms.Stand.{Stand}
 use Rattle.protocol_traits.specs.declared.nest.Slot.{Slot}
 use Rattle.protocol_traits.specs.declared.nest.Slot.TheVariants as slots
 use Rattle.protocol_traits.specs.Follow.{spent}
 use Rattle.protocol_traits.specs.Steps.{told}
 use Rattle.protocol_traits.specs.declared.proto.Hint.{Hint}
-use Rattle.protocol_traits.specs.Forms.{Appends, Calls, Steps}
-use Rattle.thrift_value.specs.Items.{Item}
+use Rattle.protocol_traits.specs.Forms.{Appends, Calls, Steps, lead_item}
+use Rattle.thrift_value.specs.Items.{Item, field}
 use Rattle.type_tables.specs.declared.declared.StructId.{StructId}
 use Rattle.type_tables.specs.declared.declared.Ty.{Ty}
 use Rattle.type_tables.specs.declared.declared.Ty.TheVariants as types
 use Rattle.type_tables.specs.Declarations.{Declarations}
 use Rattle.type_walk.specs.declared.levels.Level.{Level}
 use Rattle.type_walk.specs.declared.levels.Level.TheVariants as levels
-use Rattle.type_walk.specs.Positions.{Position, in_list, in_set, in_struct, passed, standing}
+use Rattle.type_walk.specs.Positions.{Position, called_for, hint_at, in_list, in_set, in_struct, passed, standing, start}
+use Rattle.translate_core.specs.declared.leaves.Reach.{Reach}
 use Rattle.translate_core.specs.Positions.{typed}
-use Rattle.translate_core.specs.Body.{Source, Target, Ended, going, whole}
+use Rattle.translate_core.specs.Body.{Source, TargetRules, Ended, going, whole, source_in, target_in}
 
 -- where a body stands: the place in the frame, what was read of the innermost level, the open levels, and the position
 pub record Spot : Type 0 where
@@ -72,7 +78,7 @@ HasRoom more frame at cells to = to + (24 * length frame + more) ≤ length cell
 abbrev pub Grows : ℕ → ℕ → ℕ → ℕ → Type 0
 Grows from into read written = written + 24 * from ≤ into + 24 * read
 
-module _ {S T : Type 0} (source : Source S) (target : Target T) (reader_at : S → List ℕ → ℕ → Opening → List Slot → Type 0) (writer_at : T → Opening → List Slot → Type 0) where
+module _ {S T : Type 0} (source : Source S) (target : TargetRules T) (reader_at : S → List ℕ → ℕ → Opening → List Slot → Type 0) (writer_at : T → Opening → List Slot → Type 0) where
   -- what becomes of the rest of a body from here on, behind what was written
   abbrev pub rest_from : Spot → S → T → List ℕ → Ended S Position T
   rest_from here s t written = whole source typed target (going s here.position t (length here.nest) None written)
@@ -122,9 +128,104 @@ module _ {S T : Type 0} (source : Source S) (target : Target T) (reader_at : S �
       (up : List Slot) (outer : List Level) → length up + 1 ≡ depth
       → Takes frame (spot at opening (slots.Fields (pos 0) ∷ up) (standing d (in_struct ty ∷ outer))) (spot read openings.Old up (standing d outer)) old to new written
 
-module _ {S T : Type 0} (source : Source S) (target : Target T) where
+module _ {S T : Type 0} (source : Source S) (target : TargetRules T) where
   -- The body from here on passes whole, with the end of the message behind it, and these are its bytes.
   abbrev pub Passes : S → Position → List ℕ → List ℕ → Type 0
   Passes s position old new =
       (read : S) × (wrote : T) × (behind : Position) × (added : List ℕ) × (whole source typed target (going s position target.begun 1 None []) ≡ Ok (going read behind wrote 0 None added))
       × (told (source.reads_end read) ≡ Ok tt) × (new ≡ old ++ added)
+
+-- ---- What the code took, if it took anything, by the rules of any reader and any writer. Each word has first what is known, then
+-- where that stood in the frame, then the cells before, the place in them, and the cells after.
+
+-- the places that were reached, where the one in the cells is told apart
+abbrev pub reached : Option ℕ → ℕ → Option Reach
+reached None written = None
+reached (Some read) written = Some (record { read = read; written = written })
+
+module _ {S T : Type 0} (reads : ReadRules S) (writes : WriteRules T) where
+  -- a value that is no level and no string was taken: whatever is declared, and in however many levels
+  abbrev pub TookLeaf : List ℕ → ℕ → Stand → Kind → List ℕ → ℕ → List ℕ → Option Reach → Type 0
+  TookLeaf frame at stand kind old to new taken = IfSome taken (λ x. (d : Declarations) (ty : Ty) (depth : ℕ)
+      → TakesValue (source_in reads) (target_in writes) reads.stands_at writes.stands_at d ty depth frame at stand kind old to new x.read x.written)
+
+  -- a string was taken, of each type that tells this hint where reading or writing depends on that
+  abbrev pub TookText : Bool → Bool → Hint → List ℕ → ℕ → Stand → List ℕ → ℕ → List ℕ → Option Reach → Type 0
+  TookText reads_hinted writes_hinted hint frame at stand old to new taken = IfSome taken (λ x. (d : Declarations) (ty : Ty) (depth : ℕ)
+      → (reads_hinted ≡ true → hint_at ty ≡ hint) → (writes_hinted ≡ true → hint_at ty ≡ hint)
+      → TakesValue (source_in reads) (target_in writes) reads.stands_at writes.stands_at d ty depth frame at stand kinds.Str old to new x.read x.written)
+
+  -- a field was taken whose value is no level and no string
+  abbrev pub TookLeafField : List ℕ → ℕ → Opening → ℤ → Kind → ℤ → ℕ → List ℕ → ℕ → List ℕ → Option Reach → Type 0
+  TookLeafField frame at opening last kind id behind old to new taken = IfSome taken (λ x. (d : Declarations) (ty : Ty) (depth : ℕ)
+      → TakesField (source_in reads) (target_in writes) reads.stands_at writes.stands_at d ty depth frame at opening last (field id kind) id behind old to new x.read x.written)
+
+  -- so many elements that are no levels and no strings were taken, and the end was not: whatever is declared, and in
+  -- however many levels
+  abbrev pub TookLeaves : List ℕ → ℕ → Kind → ℕ → List ℕ → ℕ → List ℕ → Option Reach → Type 0
+  TookLeaves frame at kind size old to new taken = IfSome taken (λ x. (d : Declarations) (level : Level) (depth : ℕ) → IsFlat level
+      → TakesRun (source_in reads) (target_in writes) reads.stands_at writes.stands_at d level depth frame at kind size old to new x.read x.written)
+
+  -- so many strings were taken, in each level whose elements' type tells this hint where reading or writing depends on that
+  abbrev pub TookTexts : Bool → Bool → Hint → List ℕ → ℕ → ℕ → List ℕ → ℕ → List ℕ → Option Reach → Type 0
+  TookTexts reads_hinted writes_hinted hint frame at size old to new taken = IfSome taken (λ x. (d : Declarations) (level : Level) (depth : ℕ) → IsFlat level
+      → (reads_hinted ≡ true → hint_at (called_for (Some level)) ≡ hint) → (writes_hinted ≡ true → hint_at (called_for (Some level)) ≡ hint)
+      → TakesRun (source_in reads) (target_in writes) reads.stands_at writes.stands_at d level depth frame at kinds.Str size old to new x.read x.written)
+
+  -- In each word from here on what is known of the value or of the struct means some types, of which it has one.
+  module _ (means : Ty → Type 0) (d : Declarations) where
+    -- a string field was taken
+    abbrev pub TookTextField : List ℕ → ℕ → Opening → ℤ → ℤ → ℕ → List ℕ → ℕ → List ℕ → Option Reach → Type 0
+    TookTextField frame at opening last id behind old to new taken = IfSome taken (λ x. (ty : Ty) (depth : ℕ) → means ty
+        → TakesField (source_in reads) (target_in writes) reads.stands_at writes.stands_at d ty depth frame at opening last (field id kinds.Str) id behind old to new x.read x.written)
+
+    -- a value was taken, inside so many levels
+    abbrev pub TookValue : ℕ → List ℕ → ℕ → Stand → Kind → List ℕ → ℕ → List ℕ → Option Reach → Type 0
+    TookValue depth frame at stand kind old to new taken = IfSome taken (λ x. (ty : Ty) → means ty
+        → TakesValue (source_in reads) (target_in writes) reads.stands_at writes.stands_at d ty depth frame at stand kind old to new x.read x.written)
+
+    -- a field was taken whose value has this kind
+    abbrev pub TookField : ℕ → List ℕ → ℕ → Opening → ℤ → Kind → ℤ → ℕ → List ℕ → ℕ → List ℕ → Option Reach → Type 0
+    TookField depth frame at opening last kind id behind old to new taken = IfSome taken (λ x. (ty : Ty) → means ty
+        → TakesField (source_in reads) (target_in writes) reads.stands_at writes.stands_at d ty depth frame at opening last (field id kind) id behind old to new x.read x.written)
+
+    -- a field was taken that this lead tells
+    abbrev pub TookLead : ℕ → List ℕ → ℕ → Opening → ℤ → Lead → ℤ → ℕ → List ℕ → ℕ → List ℕ → Option Reach → Type 0
+    TookLead depth frame at opening last lead id behind old to new taken = IfSome taken (λ x. (ty : Ty) → means ty
+        → TakesField (source_in reads) (target_in writes) reads.stands_at writes.stands_at d ty depth frame at opening last (lead_item lead id) id behind old to new x.read x.written)
+
+    -- the fields of a struct were taken to its end
+    abbrev pub TookFields : ℕ → List ℕ → ℕ → Opening → List ℕ → ℕ → List ℕ → Option ℕ → ℕ → Type 0
+    TookFields depth frame at opening old to new taken written = IfSome taken (λ read. (ty : Ty) → means ty
+        → TakesFields (source_in reads) (target_in writes) reads.stands_at writes.stands_at d ty depth frame at opening old to new read written)
+
+    -- the fields of a body were taken to its end, into the front of the cells
+    abbrev pub TookBody : List ℕ → ℕ → List ℕ → List ℕ → Option Reach → Type 0
+    TookBody frame at old new taken = IfSome taken (λ x. (ty : Ty) → means ty
+        → TakesFields (source_in reads) (target_in writes) reads.stands_at writes.stands_at d ty 1 frame at openings.Body old 0 new x.read x.written)
+
+    -- so many elements of a list or set were taken, and its end was not
+    abbrev pub TookRun : ℕ → List ℕ → ℕ → Kind → ℕ → List ℕ → ℕ → List ℕ → Option Reach → Type 0
+    TookRun depth frame at kind size old to new taken = IfSome taken (λ x. (level : Level) → IsFlat level → means (called_for (Some level))
+        → TakesRun (source_in reads) (target_in writes) reads.stands_at writes.stands_at d level depth frame at kind size old to new x.read x.written)
+
+    -- the elements of a list or set were taken to its end
+    abbrev pub TookElements : ℕ → List ℕ → ℕ → Kind → ℕ → List ℕ → ℕ → List ℕ → Option Reach → Type 0
+    TookElements depth frame at kind size old to new taken = IfSome taken (λ x. (level : Level) → IsFlat level → means (called_for (Some level))
+        → TakesElements (source_in reads) (target_in writes) reads.stands_at writes.stands_at d level depth frame at kind size old to new x.read x.written)
+
+  -- the pairs of a map were taken to its end, whose keys and values may have these types
+  abbrev pub TookPairs : (Ty → Type 0) → (Ty → Type 0) → Declarations → ℕ → List ℕ → Pairs → List ℕ → ℕ → List ℕ → Option Reach → Type 0
+  TookPairs keys values d depth frame pairs old to new taken =
+      IfSome taken (λ x. (level : Level) → Turns level → keys (called_for (Some level)) → values (called_for (Some (turned level)))
+      → TakesPairs (source_in reads) (target_in writes) reads.stands_at writes.stands_at d level depth frame pairs.behind pairs.key pairs.value pairs.size old to new x.read x.written)
+
+  -- a whole body of this struct, if any, was taken from a place of the frame into the front of the cells
+  abbrev pub TakesBody : Declarations → Option StructId → List ℕ → ℕ → List ℕ → List ℕ → ℕ → ℕ → Type 0
+  TakesBody d body frame at old new read written =
+      TakesFields (source_in reads) (target_in writes) reads.stands_at writes.stands_at d (body_type body) 1 frame at openings.Body old 0 new read written
+
+  -- From each reader that stands at the beginning of the body, at this place of the frame, the body passes whole.
+  abbrev pub PassesBody : Declarations → Option StructId → List ℕ → ℕ → List ℕ → List ℕ → Type 0
+  PassesBody d body frame at old new =
+      (s : S) → reads.stands_at s frame at openings.Body (slots.Fields (pos 0) ∷ []) → Passes (source_in reads) (target_in writes) s (start d body) old new

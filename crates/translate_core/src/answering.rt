@@ -1,12 +1,12 @@
 //! The answer to a message that is refused.
-ghost use Rattle.std.specs.Prelude.{◌≡◌, ℕ, ℤ, ◌+◌, ◌*◌, ◌≤◌, ◌^◌, ◌<◌, List, ◌++◌, [], length, None};
+ghost use Rattle.std.specs.Prelude.{◌≡◌, ◌+◌, ◌≤◌, ◌^◌, ◌<◌, ◌++◌, [], length, None};
 ghost use Rattle.thrift_value.specs.Items.{item_of, i32_value};
+ghost use Rattle.protocol_traits.specs.declared.nest.TheConstants.{DEPTH};
 ghost use Rattle.protocol_traits.specs.Follow.{depth_after};
 ghost use Rattle.protocol_traits.specs.Heads.{header_of};
-ghost use Rattle.protocol_traits.specs.Room.{head_weight, weight, IsSized};
-ghost use Rattle.translate_core.specs.Body.{source_of, target_of};
+ghost use Rattle.protocol_traits.specs.Room.{head_weight, room_for, weight, IsSized};
 ghost use Rattle.translate_core.specs.Texts.{cause_text, failure_type};
-ghost use Rattle.translate_core.specs.Answers.{mark, failure_items, TakesAll, method_name, spellable, spelled, answer_header, answer_of};
+ghost use Rattle.translate_core.specs.Answers.{mark, failure_items, TakesAll, method_name, spellable, spelled, answer_header, answer_in};
 
 use crate::verdict::Cause;
 use gate_io::Out;
@@ -32,14 +32,11 @@ pub fn answer<'f, R: WireRead<'f>, W: WireWrite>(
 )
     requires room { length frame.now ≤ length room.old }
     requires size { length frame.now < 2 ^ 31 }
-    requires fits { length out.old.bytes + (24 * length frame.now + 256) ≤ out.old.room }
+    requires fits { length out.old.bytes + room_for (length frame.now) ≤ out.old.room }
     requires nameless { W.name_bar [] ≡ None }
     requires spellable { TakesAll W.bar (failure_items (cause_text cause.now) (failure_type cause.now)) }
-    ensures out { out.new ≡ record out.old {
-      bytes = out.old.bytes ++ answer_of (source_of R.begun R.reads_head R.reads R.reads_end R.value_place R.ahead)
-          (target_of W.begun W.name_bar W.plain_head W.bar W.plain W.after) frame.now cause.now;
-    } }
-    ensures short { length out.new.bytes ≤ length out.old.bytes + (24 * length frame.now + 256) }
+    ensures out { out.new ≡ record out.old { bytes = out.old.bytes ++ answer_in R.ReadRules W.WireWrite frame.now cause.now } }
+    ensures short { length out.new.bytes ≤ length out.old.bytes + room_for (length frame.now) }
 {
     let mut reader = R::over(frame, room);
     match reader.head() {
@@ -119,7 +116,7 @@ fn put_failure<W: WireWrite>(writer: &mut W, message: &[u8], cause: &Cause, out:
 fn put_type<W: WireWrite>(writer: &mut W, cause: &Cause, out: &mut Out)
     requires taken { W.bar (i32_value (failure_type cause.now)) (mark Hint.Unknown) ≡ None }
     requires open { 0 < W.depth writer.old }
-    requires shallow { W.depth writer.old ≤ 256 }
+    requires shallow { W.depth writer.old ≤ DEPTH }
     requires room { length out.old.bytes + 15 ≤ out.old.room }
     ensures state { writer.new ≡ W.after writer.old (i32_value (failure_type cause.now)) (mark Hint.Unknown) }
     ensures depth { W.depth writer.new ≡ W.depth writer.old }
@@ -140,7 +137,7 @@ fn put_known<W: WireWrite>(writer: &mut W, event: &Event<'_>, hint: Hint, out: &
     requires sized { IsSized (item_of event.now) }
     requires taken { W.bar (item_of event.now) (mark hint) ≡ None }
     requires open { 0 < W.depth writer.old }
-    requires shallow { depth_after (item_of event.now) (W.depth writer.old) ≤ 256 }
+    requires shallow { depth_after (item_of event.now) (W.depth writer.old) ≤ DEPTH }
     requires room { length out.old.bytes + weight (item_of event.now) ≤ out.old.room }
     ensures state { writer.new ≡ W.after writer.old (item_of event.now) (mark hint) }
     ensures depth { W.depth writer.new ≡ depth_after (item_of event.now) (W.depth writer.old) }

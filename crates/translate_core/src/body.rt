@@ -1,10 +1,10 @@
 //! The events of a body, from the reader to the writer.
-ghost use Rattle.std.specs.Prelude.{◌≡◌, ℕ, ◌+◌, ◌*◌, ◌≤◌, ◌^◌, ◌<◌, List, ◌++◌, [], length, is_some, false, Some, None, if◌then◌else◌};
+ghost use Rattle.std.specs.Prelude.{◌≡◌, ◌+◌, ◌≤◌, ◌<◌, length, false, Some, None, if◌then◌else◌};
 ghost use Rattle.thrift_value.specs.Items.{item_of};
+ghost use Rattle.protocol_traits.specs.declared.nest.TheConstants.{DEPTH};
 ghost use Rattle.protocol_traits.specs.Follow.{depth_after};
 ghost use Rattle.protocol_traits.specs.Room.{weight, IsSized};
-ghost use Rattle.translate_core.specs.Positions.{typed};
-ghost use Rattle.translate_core.specs.Body.{tried, goes_out, first_cause, whole, source_of, target_of, going, IsEnd};
+ghost use Rattle.translate_core.specs.Body.{EndsBody, first_cause, goes_out, tried, with_item};
 
 use crate::verdict::Cause;
 use gate_io::Out;
@@ -26,10 +26,7 @@ pub fn body<'f, R: WireRead<'f>, W: WireWrite, K: Walking>(
     requires walks { length (K.at walk.old).levels ≡ 1 }
     requires opens { W.depth writer.old ≡ 1 }
     requires room { length out.old.bytes + R.ahead reader.old ≤ out.old.room }
-    ensures exact { IsEnd result reader.new (K.at walk.new) writer.new out.old.bytes out.new.bytes
-        (whole (source_of R.begun R.reads_head R.reads R.reads_end R.value_place R.ahead) typed
-        (target_of W.begun W.name_bar W.plain_head W.bar W.plain W.after)
-        (going reader.old (K.at walk.old) writer.old 1 barred [])) }
+    ensures exact { EndsBody R.ReadRules W.WireWrite barred (reader.old, K.at walk.old, writer.old) (reader.new, K.at walk.new, writer.new) result out.old out.new }
     ensures room { out.new.room ≡ out.old.room }
     ensures short { length out.new.bytes ≤ length out.old.bytes + R.ahead reader.old }
 {
@@ -70,11 +67,11 @@ fn pass<W: WireWrite>(
 ) -> Option<Bar>
     requires sized { IsSized (item_of event.now) }
     requires open { barred ≡ false → 0 < W.depth writer.old }
-    requires shallow { barred ≡ false → depth_after (item_of event.now) (W.depth writer.old) ≤ 256 }
+    requires shallow { barred ≡ false → depth_after (item_of event.now) (W.depth writer.old) ≤ DEPTH }
     requires room { length out.old.bytes + weight (item_of event.now) ≤ out.old.room }
     ensures found { result ≡ tried barred (W.bar (item_of event.now) mark) }
     ensures state { writer.new ≡ (if goes_out barred (W.bar (item_of event.now) mark) then W.after writer.old (item_of event.now) mark else writer.old) }
-    ensures out { out.new ≡ record out.old { bytes = if goes_out barred (W.bar (item_of event.now) mark) then out.old.bytes ++ W.plain writer.old (item_of event.now) mark else out.old.bytes } }
+    ensures out { out.new ≡ record out.old { bytes = with_item W.WireWrite barred writer.old (item_of event.now) mark out.old.bytes } }
 {
     if barred {
         return None;

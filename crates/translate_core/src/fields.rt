@@ -1,16 +1,14 @@
 //! Fields whose values are no levels: what announces a value, and the value.
-ghost use Rattle.std.specs.Prelude.{◌≡◌, ℕ, ◌+◌, ◌*◌, ◌≤◌, ◌<◌, ◌^◌, length, true, Some, IfSome};
+ghost use Rattle.std.specs.Prelude.{◌≡◌, ◌<◌, ◌^◌, length, true, Some, IfSome};
 ghost use Rattle.thrift_value.specs.declared.kind.Kind.{Kind};
 ghost use Rattle.thrift_value.specs.Items.{field};
 ghost use Rattle.protocol_traits.specs.Forms.{IsPast};
 ghost use Rattle.type_tables.specs.declared.declared.Ty.{Ty};
-ghost use Rattle.type_tables.specs.Declarations.{Declarations};
 ghost use Rattle.type_walk.specs.Positions.{field_type, hint_at, in_struct};
-ghost use Rattle.translate_core.specs.Body.{source_of, target_of};
-ghost use Rattle.translate_core.specs.Quick.{Grows, HasRoom, Informs, TakesField};
+ghost use Rattle.translate_core.specs.Quick.{Grows, HasRoom, Informs, TookLeafField, TookTextField};
 
 use crate::known::Known;
-use crate::leaves::{Reach, take_leaf, take_text};
+use crate::leaves::{Leaf, Reach, take_text};
 use protocol_traits::{FormRead, FormWrite, Hint, Opening, Stand};
 use thrift_value::Kind;
 use type_tables::Schema;
@@ -36,8 +34,7 @@ pub fn take_flag<R: FormRead, W: FormWrite>(
     ensures kept { length cells.new ≡ length cells.old }
     ensures past { IfSome result (λ x. IsPast at frame.now x.read) }
     ensures grows { IfSome result (λ x. Grows at to x.read x.written) }
-    ensures takes { IfSome result (λ x. (d : Declarations) (ty : Ty) (depth : ℕ) → TakesField (source_of R.begun R.reads_head R.reads R.reads_end R.value_place R.ahead) (target_of W.begun W.name_bar W.plain_head W.bar W.plain W.after) R.stands_at W.stands_at
-        d ty depth frame.now at opening last (field id Kind.Bool) id behind cells.old to cells.new x.read x.written) }
+    ensures takes { TookLeafField R.ReadRules W.WireWrite frame.now at opening last Kind.Bool id behind cells.old to cells.new result }
 {
     let (value, read) = R::flag(frame, at, behind, opening)?;
     let written = W::flag(cells, to, opening, last, id, value);
@@ -46,7 +43,7 @@ pub fn take_flag<R: FormRead, W: FormWrite>(
 
 /// Takes a field of a kind that is neither a bool nor a string nor a level.
 #[inline(always)]
-pub fn take_leaf_field<R: FormRead, W: FormWrite>(
+pub fn take_leaf_field<R: FormRead, W: FormWrite, L: Leaf>(
     frame: &[u8],
     at: usize,
     cells: &mut [u8],
@@ -54,20 +51,18 @@ pub fn take_leaf_field<R: FormRead, W: FormWrite>(
     opening: Opening,
     last: i16,
     id: i16,
-    kind: Kind,
     behind: usize,
 ) -> Option<Reach>
     requires place { IsPast at frame.now behind }
     requires room { HasRoom BEFORE_FIELD frame.now at cells.old to }
-    requires apart { kind ≡ Kind.Bool → ⊥ }
+    requires apart { L.kind ≡ Kind.Bool → ⊥ }
     ensures kept { length cells.new ≡ length cells.old }
     ensures past { IfSome result (λ x. IsPast at frame.now x.read) }
     ensures grows { IfSome result (λ x. Grows at to x.read x.written) }
-    ensures takes { IfSome result (λ x. (d : Declarations) (ty : Ty) (depth : ℕ) → TakesField (source_of R.begun R.reads_head R.reads R.reads_end R.value_place R.ahead) (target_of W.begun W.name_bar W.plain_head W.bar W.plain W.after) R.stands_at W.stands_at
-        d ty depth frame.now at opening last (field id kind) id behind cells.old to cells.new x.read x.written) }
+    ensures takes { TookLeafField R.ReadRules W.WireWrite frame.now at opening last L.kind id behind cells.old to cells.new result }
 {
-    let value = W::field(cells, to, opening, last, id, kind);
-    take_leaf::<R, W>(frame, behind, cells, value, Stand::Field, kind)
+    let value = W::field(cells, to, opening, last, id, L::own_kind());
+    L::take::<R, W>(frame, behind, cells, value, Stand::Field)
 }
 
 /// Takes a string field.
@@ -92,8 +87,7 @@ pub fn take_text_field<R: FormRead, W: FormWrite, K: Known>(
     ensures kept { length cells.new ≡ length cells.old }
     ensures past { IfSome result (λ x. IsPast at frame.now x.read) }
     ensures grows { IfSome result (λ x. Grows at to x.read x.written) }
-    ensures takes { IfSome result (λ x. (ty : Ty) (depth : ℕ) → K.means known ty → TakesField (source_of R.begun R.reads_head R.reads R.reads_end R.value_place R.ahead) (target_of W.begun W.name_bar W.plain_head W.bar W.plain W.after) R.stands_at W.stands_at
-        schema.now ty depth frame.now at opening last (field id Kind.Str) id behind cells.old to cells.new x.read x.written) }
+    ensures takes { TookTextField R.ReadRules W.WireWrite (K.means known) schema.now frame.now at opening last id behind cells.old to cells.new result }
 {
     let hint = text_hint::<R, W, K>(known, schema, id);
     let value = W::field(cells, to, opening, last, id, Kind::Str);

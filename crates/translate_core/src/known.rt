@@ -1,6 +1,7 @@
 //! What the quick way knows of the type of a value.
 ghost use Rattle.std.specs.Prelude.{◌≡◌, ⊤, Bool, true, false, Some, refl};
 ghost use Rattle.type_tables.specs.declared.declared.Ty.{Ty};
+ghost use Rattle.type_tables.specs.declared.declared.Ty.TheVariants.{Unknown};
 ghost use Rattle.type_tables.specs.Declarations.{Declarations};
 ghost use Rattle.type_tables.specs.Known.{IsKnown};
 ghost use Rattle.type_walk.specs.Known.{IsKnownLevel};
@@ -98,11 +99,61 @@ impl Known for Nothing {
 
     #[inline(always)]
     fn mark(self, _schema: &Schema) -> Mark {
-        Mark {
-            hint: Hint::Unknown,
-            key: Kind::I8,
-            value: Kind::I8,
-        }
+        unknown_mark()
+    }
+}
+
+/// That no type is declared. So nothing is declared of what stands in it either.
+#[derive(Clone, Copy)]
+pub struct Undeclared;
+
+impl Known for Undeclared {
+    ghost means = { λ known ty. ty ≡ Unknown };
+
+    ghost sound = { λ known d. ⊤ };
+
+    ghost tells = { true };
+
+    #[inline(always)]
+    fn field(self, _schema: &Schema, _id: i16, _kind: Kind) -> Self {
+        self
+    }
+
+    #[inline(always)]
+    fn element(self, _schema: &Schema, _container: Container, _kind: Kind) -> Self {
+        self
+    }
+
+    #[inline(always)]
+    fn key(self, _schema: &Schema, _key: Kind, _value: Kind) -> Self {
+        self
+    }
+
+    #[inline(always)]
+    fn value(self, _schema: &Schema, _key: Kind, _value: Kind) -> Self {
+        self
+    }
+
+    #[inline(always)]
+    fn hint(self) -> Hint {
+        Hint::Unknown
+    }
+
+    #[inline(always)]
+    fn mark(self, _schema: &Schema) -> Mark {
+        unknown_mark()
+    }
+}
+
+/// What is known of an empty map of which nothing is declared.
+#[inline(always)]
+fn unknown_mark() -> Mark
+    ensures { (d : Declarations) → result ≡ mark_at d Unknown }
+{
+    Mark {
+        hint: Hint::Unknown,
+        key: Kind::I8,
+        value: Kind::I8,
     }
 }
 

@@ -16,13 +16,15 @@ mod methods;
 mod passing;
 mod quick;
 mod route;
+mod runs;
 mod texts;
 mod verdict;
 
 pub use answering::answer;
 pub use laws::an_answer_is_a_declared_failure;
-pub use message::{head_type, translate, translate_quickly};
+pub use message::{head_type, translate};
 pub use methods::{Services, served, translate_method, translate_method_quickly};
+pub use passing::pass_quickly;
 pub use route::{Route, body_struct};
 pub use texts::{bar_text, reason_text};
 pub use verdict::{Cause, HeadInfo, Verdict};

@@ -1,21 +1,17 @@
 //! A whole message.
-ghost use Rattle.std.specs.Prelude.{◌≡◌, ℕ, ◌+◌, ◌*◌, ◌≤◌, ◌^◌, ◌<◌, List, ◌++◌, [], length, take, drop, is_some, if◌then◌else◌, IfSome, FitsSigned};
-ghost use Rattle.std.specs.Int.{w32};
+ghost use Rattle.std.specs.Prelude.{◌≡◌, ◌+◌, ◌≤◌, ◌^◌, ◌<◌, ◌++◌, length, take, drop, IfSome};
 ghost use Rattle.protocol_traits.specs.Heads.{header_of};
-ghost use Rattle.protocol_traits.specs.Room.{head_weight};
-ghost use Rattle.protocol_traits.specs.Steps.{seen};
+ghost use Rattle.protocol_traits.specs.Room.{head_weight, room_for};
 ghost use Rattle.type_walk.specs.Positions.{start};
-ghost use Rattle.translate_core.specs.Positions.{typed};
-ghost use Rattle.translate_core.specs.Routes.{IsKnownRoute, info_of, start_of};
-ghost use Rattle.translate_core.specs.Body.{first_cause, source_of, target_of, going, whole};
-ghost use Rattle.translate_core.specs.Judged.{judge, IsJudged, after_body, body_bytes, kept, Grows, IsLeft, type_of};
+ghost use Rattle.translate_core.specs.Routes.{IsKnownRoute};
+ghost use Rattle.translate_core.specs.Body.{first_cause};
+ghost use Rattle.translate_core.specs.Judged.{IsJudged, IsLeft, Grows, bytes_from, judged_frame, kept, type_of, verdict_from, with_head};
 
 use crate::body::{body, first_cause};
-use crate::passing::pass_quickly;
 use crate::route::{Route, Told, told_of};
 use crate::verdict::{Cause, HeadInfo, Verdict};
 use gate_io::Out;
-use protocol_traits::{Bar, Fault, FormRead, FormWrite, Head, WireRead, WireWrite};
+use protocol_traits::{Bar, Fault, Head, WireRead, WireWrite};
 use thrift_value::MessageType;
 use type_tables::Schema;
 use type_walk::{Undeclared, Walk, Walking};
@@ -38,13 +34,11 @@ pub fn translate<'f, R: WireRead<'f>, W: WireWrite>(
     requires known { IsKnownRoute schema.now route }
     requires room { length frame.now ≤ length room.old }
     requires size { length frame.now < 2 ^ 31 }
-    requires fits { length out.old.bytes + (24 * length frame.now + 256) ≤ out.old.room }
-    ensures exact { IsJudged result out.old.bytes out.new.bytes
-        (judge (source_of R.begun R.reads_head R.reads R.reads_end R.value_place R.ahead) typed (start_of schema.now route) (info_of schema.now route)
-        (target_of W.begun W.name_bar W.plain_head W.bar W.plain W.after) frame.now) }
+    requires fits { length out.old.bytes + room_for (length frame.now) ≤ out.old.room }
+    ensures exact { IsJudged result out.old.bytes out.new.bytes (judged_frame R.ReadRules W.WireWrite schema.now route frame.now) }
     ensures left { IsLeft result out.old.bytes out.new.bytes }
     ensures room { out.new.room ≡ out.old.room }
-    ensures short { length out.new.bytes ≤ length out.old.bytes + (24 * length frame.now + 256) }
+    ensures short { length out.new.bytes ≤ length out.old.bytes + room_for (length frame.now) }
 {
     let start = out.bytes().len();
     let mut reader = R::over(frame, room);
@@ -60,31 +54,6 @@ pub fn translate<'f, R: WireRead<'f>, W: WireWrite>(
     let verdict = verdict_by(schema, told, &mut reader, &mut writer, barred, out);
     keep(&verdict, start, out);
     verdict
-}
-
-/// The same, by the quick way where it leads to the end, and else event by event.
-pub fn translate_quickly<'f, R: WireRead<'f> + FormRead, W: FormWrite>(
-    schema: &Schema,
-    route: Route,
-    frame: &'f [u8],
-    room: &'f mut [u8],
-    out: &mut Out,
-) -> Verdict
-    requires known { IsKnownRoute schema.now route }
-    requires room { length frame.now ≤ length room.old }
-    requires size { length frame.now < 2 ^ 31 }
-    requires fits { length out.old.bytes + (24 * length frame.now + 256) ≤ out.old.room }
-    ensures exact { IsJudged result out.old.bytes out.new.bytes
-        (judge (source_of R.begun R.reads_head R.reads R.reads_end R.value_place R.ahead) typed (start_of schema.now route) (info_of schema.now route)
-        (target_of W.begun W.name_bar W.plain_head W.bar W.plain W.after) frame.now) }
-    ensures left { IsLeft result out.old.bytes out.new.bytes }
-    ensures room { out.new.room ≡ out.old.room }
-    ensures short { length out.new.bytes ≤ length out.old.bytes + (24 * length frame.now + 256) }
-{
-    match pass_quickly::<R, W>(schema, route, frame, out) {
-        Some(info) => Verdict::Passed(info),
-        None => translate::<R, W>(schema, route, frame, room, out),
-    }
 }
 
 /// The type that a frame's header tells, or the fault that stands in the header.
@@ -109,7 +78,7 @@ fn pass_head<W: WireWrite>(writer: &mut W, head: Head<'_>, out: &mut Out) -> Opt
     requires room { length out.old.bytes + head_weight (length head.name.now) ≤ out.old.room }
     ensures found { result ≡ W.name_bar head.entry.name.now }
     ensures state { writer.new ≡ writer.old }
-    ensures out { out.new ≡ record out.old { bytes = if is_some (W.name_bar head.entry.name.now) then out.old.bytes else out.old.bytes ++ W.plain_head (header_of head.entry) } }
+    ensures out { out.new ≡ record out.old { bytes = with_head W.WireWrite (header_of head.entry) out.old.bytes } }
     ensures short { length out.new.bytes ≤ length out.old.bytes + head_weight (length head.entry.name.now) }
 {
     match W::takes_name(head.name) {
@@ -134,14 +103,8 @@ pub(crate) fn verdict_by<'f, R: WireRead<'f>, W: WireWrite>(
     requires begins { R.depth reader.old ≡ 1 }
     requires opens { W.depth writer.old ≡ 1 }
     requires room { length out.old.bytes + R.ahead reader.old ≤ out.old.room }
-    ensures verdict { result ≡ after_body (source_of R.begun R.reads_head R.reads R.reads_end R.value_place R.ahead) told.info
-        (whole (source_of R.begun R.reads_head R.reads R.reads_end R.value_place R.ahead) typed
-        (target_of W.begun W.name_bar W.plain_head W.bar W.plain W.after)
-        (going reader.old (start schema.now told.body) writer.old 1 barred [])) }
-    ensures bytes { Grows result out.old.bytes out.new.bytes (body_bytes
-        (whole (source_of R.begun R.reads_head R.reads R.reads_end R.value_place R.ahead) typed
-        (target_of W.begun W.name_bar W.plain_head W.bar W.plain W.after)
-        (going reader.old (start schema.now told.body) writer.old 1 barred []))) }
+    ensures verdict { result ≡ verdict_from R.ReadRules W.WireWrite told.info reader.old (start schema.now told.body) writer.old barred }
+    ensures bytes { Grows result out.old.bytes out.new.bytes (bytes_from R.ReadRules W.WireWrite reader.old (start schema.now told.body) writer.old barred) }
     ensures room { out.new.room ≡ out.old.room }
     ensures short { length out.new.bytes ≤ length out.old.bytes + R.ahead reader.old }
 {
@@ -166,14 +129,8 @@ fn verdict_declared<'f, R: WireRead<'f>, W: WireWrite>(
     requires begins { R.depth reader.old ≡ 1 }
     requires opens { W.depth writer.old ≡ 1 }
     requires room { length out.old.bytes + R.ahead reader.old ≤ out.old.room }
-    ensures verdict { result ≡ after_body (source_of R.begun R.reads_head R.reads R.reads_end R.value_place R.ahead) told.info
-        (whole (source_of R.begun R.reads_head R.reads R.reads_end R.value_place R.ahead) typed
-        (target_of W.begun W.name_bar W.plain_head W.bar W.plain W.after)
-        (going reader.old (start schema.now told.body) writer.old 1 barred [])) }
-    ensures bytes { Grows result out.old.bytes out.new.bytes (body_bytes
-        (whole (source_of R.begun R.reads_head R.reads R.reads_end R.value_place R.ahead) typed
-        (target_of W.begun W.name_bar W.plain_head W.bar W.plain W.after)
-        (going reader.old (start schema.now told.body) writer.old 1 barred []))) }
+    ensures verdict { result ≡ verdict_from R.ReadRules W.WireWrite told.info reader.old (start schema.now told.body) writer.old barred }
+    ensures bytes { Grows result out.old.bytes out.new.bytes (bytes_from R.ReadRules W.WireWrite reader.old (start schema.now told.body) writer.old barred) }
     ensures room { out.new.room ≡ out.old.room }
     ensures short { length out.new.bytes ≤ length out.old.bytes + R.ahead reader.old }
 {
@@ -194,14 +151,8 @@ fn verdict_on<'f, R: WireRead<'f>, W: WireWrite, K: Walking>(
     requires walks { length (K.at walk.old).levels ≡ 1 }
     requires opens { W.depth writer.old ≡ 1 }
     requires room { length out.old.bytes + R.ahead reader.old ≤ out.old.room }
-    ensures verdict { result ≡ after_body (source_of R.begun R.reads_head R.reads R.reads_end R.value_place R.ahead) info
-        (whole (source_of R.begun R.reads_head R.reads R.reads_end R.value_place R.ahead) typed
-        (target_of W.begun W.name_bar W.plain_head W.bar W.plain W.after)
-        (going reader.old (K.at walk.old) writer.old 1 barred [])) }
-    ensures bytes { Grows result out.old.bytes out.new.bytes (body_bytes
-        (whole (source_of R.begun R.reads_head R.reads R.reads_end R.value_place R.ahead) typed
-        (target_of W.begun W.name_bar W.plain_head W.bar W.plain W.after)
-        (going reader.old (K.at walk.old) writer.old 1 barred []))) }
+    ensures verdict { result ≡ verdict_from R.ReadRules W.WireWrite info reader.old (K.at walk.old) writer.old barred }
+    ensures bytes { Grows result out.old.bytes out.new.bytes (bytes_from R.ReadRules W.WireWrite reader.old (K.at walk.old) writer.old barred) }
     ensures room { out.new.room ≡ out.old.room }
     ensures short { length out.new.bytes ≤ length out.old.bytes + R.ahead reader.old }
 {

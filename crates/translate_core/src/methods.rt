@@ -1,18 +1,16 @@
 //! A message for one that serves a single service: the name before the method's tells whom it is for, and is left out.
 //!
 //! After Apache Thrift's TMultiplexedProtocol and its TMultiplexedProcessor.
-ghost use Rattle.std.specs.Prelude.{◌≡◌, ℕ, ◌+◌, ◌*◌, ◌≤◌, ◌^◌, ◌<◌, List, ◌++◌, [], length, Option, is_some, if◌then◌else◌, None, IfSome, IfOk, IfErr, FitsSigned};
-ghost use Rattle.std.specs.Int.{w32};
+ghost use Rattle.std.specs.Prelude.{◌≡◌, ℕ, ◌+◌, ◌≤◌, ◌^◌, ◌<◌, List, ◌++◌, [], length, Option, None, IfSome, IfOk, IfErr};
 ghost use Rattle.protocol_traits.specs.Heads.{header_of};
-ghost use Rattle.protocol_traits.specs.Room.{head_weight};
-ghost use Rattle.protocol_traits.specs.Steps.{seen, IsFree};
+ghost use Rattle.protocol_traits.specs.Room.{head_weight, room_for};
+ghost use Rattle.protocol_traits.specs.Steps.{IsFree};
 ghost use Rattle.type_walk.specs.Positions.{start};
 ghost use Rattle.translate_core.specs.declared.verdict.Verdict.TheVariants.{Passed};
-ghost use Rattle.translate_core.specs.Positions.{typed};
-ghost use Rattle.translate_core.specs.Routes.{IsKnownRoute, info_of, start_of};
-ghost use Rattle.translate_core.specs.Body.{first_cause, source_of, target_of, going, whole};
-ghost use Rattle.translate_core.specs.Judged.{IsJudged, IsLeft, after_body, body_bytes, kept};
-ghost use Rattle.translate_core.specs.Methods.{method_header, judge_method, name_in, target_of_name};
+ghost use Rattle.translate_core.specs.Routes.{IsKnownRoute};
+ghost use Rattle.translate_core.specs.Body.{first_cause};
+ghost use Rattle.translate_core.specs.Judged.{IsJudged, IsLeft};
+ghost use Rattle.translate_core.specs.Methods.{judged_method, method_header, name_in, target_of_name, with_method_head};
 
 use crate::answering::spellable;
 use crate::body::first_cause;
@@ -80,13 +78,11 @@ pub fn translate_method<'f, R: WireRead<'f>, W: WireWrite>(
     requires room { length frame.now ≤ length room.old }
     requires size { length frame.now < 2 ^ 31 }
     requires nameless { W.name_bar [] ≡ None }
-    requires fits { length out.old.bytes + (24 * length frame.now + 256) ≤ out.old.room }
-    ensures exact { IsJudged result out.old.bytes out.new.bytes
-        (judge_method (source_of R.begun R.reads_head R.reads R.reads_end R.value_place R.ahead) typed (start_of schema.now route) (info_of schema.now route)
-        (target_of W.begun W.name_bar W.plain_head W.bar W.plain W.after) frame.now) }
+    requires fits { length out.old.bytes + room_for (length frame.now) ≤ out.old.room }
+    ensures exact { IsJudged result out.old.bytes out.new.bytes (judged_method R.ReadRules W.WireWrite schema.now route frame.now) }
     ensures left { IsLeft result out.old.bytes out.new.bytes }
     ensures room { out.new.room ≡ out.old.room }
-    ensures short { length out.new.bytes ≤ length out.old.bytes + (24 * length frame.now + 256) }
+    ensures short { length out.new.bytes ≤ length out.old.bytes + room_for (length frame.now) }
 {
     let start = out.bytes().len();
     let mut reader = R::over(frame, room);
@@ -111,7 +107,7 @@ fn pass_method<W: WireWrite>(writer: &mut W, head: Head<'_>, out: &mut Out) -> O
     requires room { length out.old.bytes + head_weight (length head.name.now) ≤ out.old.room }
     ensures found { result ≡ W.name_bar head.entry.name.now }
     ensures state { writer.new ≡ writer.old }
-    ensures out { out.new ≡ record out.old { bytes = if is_some (W.name_bar head.entry.name.now) then out.old.bytes else out.old.bytes ++ W.plain_head (method_header W.name_bar (header_of head.entry)) } }
+    ensures out { out.new ≡ record out.old { bytes = with_method_head W.WireWrite (header_of head.entry) out.old.bytes } }
     ensures short { length out.new.bytes ≤ length out.old.bytes + head_weight (length head.entry.name.now) }
 {
     match W::takes_name(head.name) {
@@ -149,13 +145,11 @@ pub fn translate_method_quickly<'f, R: WireRead<'f> + FormRead, W: FormWrite>(
     requires room { length frame.now ≤ length room.old }
     requires size { length frame.now < 2 ^ 31 }
     requires nameless { W.name_bar [] ≡ None }
-    requires fits { length out.old.bytes + (24 * length frame.now + 256) ≤ out.old.room }
-    ensures exact { IsJudged result out.old.bytes out.new.bytes
-        (judge_method (source_of R.begun R.reads_head R.reads R.reads_end R.value_place R.ahead) typed (start_of schema.now route) (info_of schema.now route)
-        (target_of W.begun W.name_bar W.plain_head W.bar W.plain W.after) frame.now) }
+    requires fits { length out.old.bytes + room_for (length frame.now) ≤ out.old.room }
+    ensures exact { IsJudged result out.old.bytes out.new.bytes (judged_method R.ReadRules W.WireWrite schema.now route frame.now) }
     ensures left { IsLeft result out.old.bytes out.new.bytes }
     ensures room { out.new.room ≡ out.old.room }
-    ensures short { length out.new.bytes ≤ length out.old.bytes + (24 * length frame.now + 256) }
+    ensures short { length out.new.bytes ≤ length out.old.bytes + room_for (length frame.now) }
 {
     match pass_method_quickly::<R, W>(schema, route, frame, out) {
         Some(info) => Verdict::Passed(info),
@@ -174,13 +168,11 @@ fn pass_method_quickly<R: FormRead, W: FormWrite>(
     requires known { IsKnownRoute schema.now route }
     requires size { length frame.now < 2 ^ 31 }
     requires nameless { W.name_bar [] ≡ None }
-    requires fits { length out.old.bytes + (24 * length frame.now + 256) ≤ out.old.room }
+    requires fits { length out.old.bytes + room_for (length frame.now) ≤ out.old.room }
     ensures left { result ≡ None → out.new ≡ out.old }
     ensures room { out.new.room ≡ out.old.room }
-    ensures short { length out.new.bytes ≤ length out.old.bytes + (24 * length frame.now + 256) }
-    ensures passes { IfSome result (λ info. IsJudged (Passed info) out.old.bytes out.new.bytes
-        (judge_method (source_of R.begun R.reads_head R.reads R.reads_end R.value_place R.ahead) typed (start_of schema.now route) (info_of schema.now route)
-        (target_of W.begun W.name_bar W.plain_head W.bar W.plain W.after) frame.now)) }
+    ensures short { length out.new.bytes ≤ length out.old.bytes + room_for (length frame.now) }
+    ensures passes { IfSome result (λ info. IsJudged (Passed info) out.old.bytes out.new.bytes (judged_method R.ReadRules W.WireWrite schema.now route frame.now)) }
 {
     let start = out.bytes().len();
     let (head, at) = R::front(frame)?;

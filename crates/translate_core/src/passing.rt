@@ -1,22 +1,17 @@
 //! The quick way into the output.
-ghost use Rattle.std.specs.Prelude.{◌≡◌, pos, ◌+◌, ◌*◌, ◌≤◌, ◌<◌, ◌^◌, [], ◌∷◌, ◌++◌, length, true, false, None, IfErr, IfOk, IfSome};
+ghost use Rattle.std.specs.Prelude.{◌≡◌, ◌+◌, ◌*◌, ◌≤◌, ◌<◌, ◌^◌, ◌++◌, length, true, false, None, IfErr, IfOk, IfSome};
 ghost use Rattle.protocol_traits.specs.declared.forms.Opening.{Opening};
 ghost use Rattle.protocol_traits.specs.Forms.{IsPast};
 ghost use Rattle.protocol_traits.specs.Heads.{header_of};
-ghost use Rattle.protocol_traits.specs.Room.{head_weight};
+ghost use Rattle.protocol_traits.specs.Room.{head_weight, room_for};
 ghost use Rattle.protocol_traits.specs.Steps.{IsFree};
-ghost use Rattle.protocol_traits.specs.declared.nest.Slot.TheVariants.{Fields};
-ghost use Rattle.type_tables.specs.Declarations.{Declarations};
-ghost use Rattle.type_tables.specs.Known.{IsKnown};
 ghost use Rattle.type_walk.specs.Positions.{start};
 ghost use Rattle.translate_core.specs.declared.verdict.Verdict.TheVariants.{Passed};
-ghost use Rattle.translate_core.specs.Positions.{typed};
-ghost use Rattle.translate_core.specs.Routes.{IsKnownRoute, info_of, start_of};
-ghost use Rattle.translate_core.specs.Judged.{IsJudged, judge};
-ghost use Rattle.translate_core.specs.Body.{source_of, target_of};
-ghost use Rattle.translate_core.specs.Quick.{Grows, HasRoom, Passes, TakesFields, body_type};
+ghost use Rattle.translate_core.specs.Routes.{IsKnownRoute};
+ghost use Rattle.translate_core.specs.Judged.{IsJudged, judged_frame};
+ghost use Rattle.translate_core.specs.Quick.{Grows, HasRoom, Informs, PassesBody, TakesBody, TookBody};
 
-use crate::known::{Declared, Nothing};
+use crate::known::{Declared, Known, Nothing, Undeclared};
 use crate::leaves::{AROUND, Reach};
 use crate::quick::take_fields;
 use crate::route::{Route, told_of};
@@ -27,6 +22,7 @@ use type_tables::{Schema, StructId, Ty};
 
 /// Appends a message's translation, and tells what its header says; or leaves the output as it was, which says nothing of
 /// the frame.
+#[inline(always)]
 pub fn pass_quickly<R: FormRead, W: FormWrite>(
     schema: &Schema,
     route: Route,
@@ -35,13 +31,11 @@ pub fn pass_quickly<R: FormRead, W: FormWrite>(
 ) -> Option<HeadInfo>
     requires known { IsKnownRoute schema.now route }
     requires size { length frame.now < 2 ^ 31 }
-    requires fits { length out.old.bytes + (24 * length frame.now + 256) ≤ out.old.room }
+    requires fits { length out.old.bytes + room_for (length frame.now) ≤ out.old.room }
     ensures left { result ≡ None → out.new ≡ out.old }
     ensures room { out.new.room ≡ out.old.room }
-    ensures short { length out.new.bytes ≤ length out.old.bytes + (24 * length frame.now + 256) }
-    ensures passes { IfSome result (λ info. IsJudged (Passed info) out.old.bytes out.new.bytes
-        (judge (source_of R.begun R.reads_head R.reads R.reads_end R.value_place R.ahead) typed (start_of schema.now route) (info_of schema.now route)
-        (target_of W.begun W.name_bar W.plain_head W.bar W.plain W.after) frame.now)) }
+    ensures short { length out.new.bytes ≤ length out.old.bytes + room_for (length frame.now) }
+    ensures passes { IfSome result (λ info. IsJudged (Passed info) out.old.bytes out.new.bytes (judged_frame R.ReadRules W.WireWrite schema.now route frame.now)) }
 {
     let start = out.bytes().len();
     let (head, at) = R::front(frame)?;
@@ -59,6 +53,7 @@ pub fn pass_quickly<R: FormRead, W: FormWrite>(
 }
 
 /// Appends a header, unless its name is barred.
+#[inline(always)]
 fn append_front<W: FormWrite>(head: Head<'_>, out: &mut Out) -> Result<(), Bar>
     requires sized { length head.name.now < 2 ^ 31 }
     requires room { length out.old.bytes + head_weight (length head.name.now) ≤ out.old.room }
@@ -78,6 +73,7 @@ fn append_front<W: FormWrite>(head: Head<'_>, out: &mut Out) -> Result<(), Bar>
 
 /// Appends the body that begins at a place, and says that the message is whole; or leaves the output as it was, which
 /// says nothing of the frame.
+#[inline(always)]
 pub(crate) fn append_body<R: FormRead, W: FormWrite>(
     schema: &Schema,
     body: Option<StructId>,
@@ -92,9 +88,7 @@ pub(crate) fn append_body<R: FormRead, W: FormWrite>(
     ensures left { result ≡ false → out.new ≡ out.old }
     ensures room { out.new.room ≡ out.old.room }
     ensures short { length out.new.bytes + 24 * at ≤ length out.old.bytes + 24 * length frame.now }
-    ensures passes { result ≡ true → (s : R) → R.stands_at s frame.now at Opening.Body (Fields (pos 0) ∷ []) → Passes
-        (source_of R.begun R.reads_head R.reads R.reads_end R.value_place R.ahead) (target_of W.begun W.name_bar W.plain_head W.bar W.plain W.after)
-        s (start schema.now body) out.old.bytes out.new.bytes }
+    ensures passes { result ≡ true → PassesBody R.ReadRules W.WireWrite schema.now body frame.now at out.old.bytes out.new.bytes }
 {
     let before = out.bytes().len();
     let cells = out.tail(24 * (frame.len() - at) + AROUND);
@@ -111,6 +105,7 @@ pub(crate) fn append_body<R: FormRead, W: FormWrite>(
 }
 
 /// Takes a whole body into cells, and answers how many it took.
+#[inline(always)]
 fn take_body<R: FormRead, W: FormWrite>(
     schema: &Schema,
     body: Option<StructId>,
@@ -124,8 +119,7 @@ fn take_body<R: FormRead, W: FormWrite>(
     requires room { HasRoom AROUND frame.now at cells.old 0 }
     ensures kept { length cells.new ≡ length cells.old }
     ensures short { IfSome result (λ n. n + 24 * at ≤ 24 * length frame.now) }
-    ensures takes { IfSome result (λ n. TakesFields (source_of R.begun R.reads_head R.reads R.reads_end R.value_place R.ahead) (target_of W.begun W.name_bar W.plain_head W.bar W.plain W.after) R.stands_at W.stands_at
-        schema.now (body_type body) 1 frame.now at Opening.Body cells.old 0 cells.new (length frame.now) n) }
+    ensures takes { IfSome result (λ n. TakesBody R.ReadRules W.WireWrite schema.now body frame.now at cells.old cells.new (length frame.now) n) }
 {
     let reach = take_typed::<R, W>(schema, body, frame, at, cells)?;
     if reach.read < frame.len() {
@@ -151,6 +145,7 @@ fn is_blind<R: FormRead, W: FormWrite>() -> bool
 }
 
 /// Takes the fields of a body, with what is known of its struct where that matters.
+#[inline(always)]
 fn take_typed<R: FormRead, W: FormWrite>(
     schema: &Schema,
     body: Option<StructId>,
@@ -165,25 +160,41 @@ fn take_typed<R: FormRead, W: FormWrite>(
     ensures kept { length cells.new ≡ length cells.old }
     ensures past { IfSome result (λ x. IsPast at frame.now x.read) }
     ensures grows { IfSome result (λ x. Grows at 0 x.read x.written) }
-    ensures takes { IfSome result (λ x. TakesFields (source_of R.begun R.reads_head R.reads R.reads_end R.value_place R.ahead) (target_of W.begun W.name_bar W.plain_head W.bar W.plain W.after) R.stands_at W.stands_at
-        schema.now (body_type body) 1 frame.now at Opening.Body cells.old 0 cells.new x.read x.written) }
+    ensures takes { IfSome result (λ x. TakesBody R.ReadRules W.WireWrite schema.now body frame.now at cells.old cells.new x.read x.written) }
+{
+    if is_blind::<R, W>() {
+        return take_known::<R, W, Nothing>(Nothing, schema, frame, at, cells);
+    }
+    match body {
+        Some(declared) => {
+            let known = Declared(Ty::Struct(declared));
+            take_known::<R, W, Declared>(known, schema, frame, at, cells)
+        }
+        None => take_known::<R, W, Undeclared>(Undeclared, schema, frame, at, cells),
+    }
+}
+
+/// Takes the fields of a body of whose struct this is known.
+#[inline(always)]
+fn take_known<R: FormRead, W: FormWrite, K: Known>(
+    known: K,
+    schema: &Schema,
+    frame: &[u8],
+    at: usize,
+    cells: &mut [u8],
+) -> Option<Reach>
+    requires known { K.sound known schema.now }
+    requires informed { Informs K.tells R.hinted W.hinted W.marked }
+    requires size { length frame.now < 2 ^ 31 }
+    requires place { at ≤ length frame.now }
+    requires room { HasRoom AROUND frame.now at cells.old 0 }
+    ensures kept { length cells.new ≡ length cells.old }
+    ensures past { IfSome result (λ x. IsPast at frame.now x.read) }
+    ensures grows { IfSome result (λ x. Grows at 0 x.read x.written) }
+    ensures takes { TookBody R.ReadRules W.WireWrite (K.means known) schema.now frame.now at cells.old cells.new result }
 {
     let mut written = 0;
-    if is_blind::<R, W>() {
-        let read = take_fields::<R, W, Nothing>(
-            Nothing,
-            schema,
-            frame,
-            at,
-            cells,
-            &mut written,
-            Opening::Body,
-            1,
-        )?;
-        return Some(Reach { read, written });
-    }
-    let known = Declared(body_type(body));
-    let read = take_fields::<R, W, Declared>(
+    let read = take_fields::<R, W, K>(
         known,
         schema,
         frame,
@@ -194,15 +205,4 @@ fn take_typed<R: FormRead, W: FormWrite>(
         1,
     )?;
     Some(Reach { read, written })
-}
-
-/// The type of a body of this struct, if any.
-fn body_type(body: Option<StructId>) -> Ty
-    ensures value { result ≡ body_type body }
-    ensures known { (d : Declarations) → IfSome body (λ s. s.0 < length d.structs) → IsKnown d result }
-{
-    match body {
-        Some(declared) => Ty::Struct(declared),
-        None => Ty::Unknown,
-    }
 }

@@ -1,22 +1,21 @@
 //! The quick way through a body: its fields, elements and pairs from the frame into cells, by a call for each struct and
 //! container.
-ghost use Rattle.std.specs.Prelude.{◌≡◌, ℕ, ◌+◌, ◌≤◌, ◌<◌, ◌^◌, length, Some, IfSome};
+ghost use Rattle.std.specs.Prelude.{◌≡◌, ◌+◌, ◌≤◌, ◌<◌, ◌^◌, length, Some, IfSome};
 ghost use Rattle.thrift_value.specs.declared.kind.Kind.{Kind};
 ghost use Rattle.thrift_value.specs.Items.{field};
 ghost use Rattle.protocol_traits.specs.declared.forms.Container.{Container};
 ghost use Rattle.protocol_traits.specs.declared.forms.Lead.{Lead};
 ghost use Rattle.protocol_traits.specs.declared.forms.Stand.{Stand};
-ghost use Rattle.protocol_traits.specs.Forms.{IsPast, container_kind, lead_item};
-ghost use Rattle.type_tables.specs.declared.declared.Ty.{Ty};
-ghost use Rattle.type_tables.specs.Declarations.{Declarations};
-ghost use Rattle.type_walk.specs.declared.levels.Level.{Level};
-ghost use Rattle.type_walk.specs.Positions.{called_for};
-ghost use Rattle.translate_core.specs.Body.{source_of, target_of};
-ghost use Rattle.translate_core.specs.Quick.{Grows, HasRoom, Informs, IsFlat, TakesElements, TakesField, TakesFields, TakesPairs, TakesRun, TakesValue, Turns, turned};
+ghost use Rattle.protocol_traits.specs.Forms.{IsPast, container_kind};
+ghost use Rattle.translate_core.specs.Quick.{Grows, HasRoom, Informs, TookElements, TookField, TookFields, TookLead, TookPairs, TookRun, TookValue, reached};
 
 use crate::fields::{BEFORE_FIELD, take_flag, take_leaf_field, take_text_field};
 use crate::known::Known;
-use crate::leaves::{AROUND, Reach, take_leaf, take_text};
+use crate::leaves::{
+    AROUND, BoolLeaf, DoubleLeaf, I8Leaf, I16Leaf, I32Leaf, I64Leaf, Reach, UuidLeaf, take_leaf,
+    take_text,
+};
+use crate::runs::{take_leaves, take_texts};
 use protocol_traits::{Container, DEPTH, FormRead, FormWrite, Lead, Opening, Pairs, Stand};
 use thrift_value::Kind;
 use type_tables::Schema;
@@ -46,12 +45,11 @@ pub fn take_fields<R: FormRead, W: FormWrite, K: Known>(
     requires size { length frame.now < 2 ^ 31 }
     requires place { from ≤ length frame.now }
     requires room { HasRoom BEFORE_FIELD frame.now from cells.old into.old }
-    requires shallow { depth ≤ 256 }
+    requires shallow { depth ≤ DEPTH }
     ensures kept { length cells.new ≡ length cells.old }
     ensures past { IfSome result (λ read. IsPast from frame.now read) }
     ensures grows { IfSome result (λ read. Grows from into.old read (into.new + BEHIND_STOP)) }
-    ensures takes { IfSome result (λ read. (ty : Ty) → K.means known ty → TakesFields (source_of R.begun R.reads_head R.reads R.reads_end R.value_place R.ahead) (target_of W.begun W.name_bar W.plain_head W.bar W.plain W.after) R.stands_at W.stands_at
-        schema.now ty depth frame.now from opening cells.old into.old cells.new read into.new) }
+    ensures takes { TookFields R.ReadRules W.WireWrite (K.means known) schema.now depth frame.now from opening cells.old into.old cells.new result into.new }
 {
     let mut last = 0;
     let mut opening = opening;
@@ -99,80 +97,31 @@ fn take_field<R: FormRead, W: FormWrite, K: Known>(
     requires size { length frame.now < 2 ^ 31 }
     requires place { IsPast at frame.now behind }
     requires room { HasRoom BEFORE_FIELD frame.now at cells.old to }
-    requires shallow { depth ≤ 256 }
+    requires shallow { depth ≤ DEPTH }
     ensures kept { length cells.new ≡ length cells.old }
     ensures past { IfSome result (λ x. IsPast at frame.now x.read) }
     ensures grows { IfSome result (λ x. Grows at to x.read x.written) }
-    ensures takes { IfSome result (λ x. (ty : Ty) → K.means known ty → TakesField (source_of R.begun R.reads_head R.reads R.reads_end R.value_place R.ahead) (target_of W.begun W.name_bar W.plain_head W.bar W.plain W.after) R.stands_at W.stands_at
-        schema.now ty depth frame.now at opening last (lead_item lead id) id behind cells.old to cells.new x.read x.written) }
+    ensures takes { TookLead R.ReadRules W.WireWrite (K.means known) schema.now depth frame.now at opening last lead id behind cells.old to cells.new result }
 {
     match lead {
         Lead::Bool => take_flag::<R, W>(frame, at, cells, to, opening, last, id, behind),
-        Lead::I8 => take_leaf_field::<R, W>(
-            frame,
-            at,
-            cells,
-            to,
-            opening,
-            last,
-            id,
-            Kind::I8,
-            behind,
+        Lead::I8 => take_leaf_field::<R, W, I8Leaf>(
+            frame, at, cells, to, opening, last, id, behind,
         ),
-        Lead::I16 => take_leaf_field::<R, W>(
-            frame,
-            at,
-            cells,
-            to,
-            opening,
-            last,
-            id,
-            Kind::I16,
-            behind,
+        Lead::I16 => take_leaf_field::<R, W, I16Leaf>(
+            frame, at, cells, to, opening, last, id, behind,
         ),
-        Lead::I32 => take_leaf_field::<R, W>(
-            frame,
-            at,
-            cells,
-            to,
-            opening,
-            last,
-            id,
-            Kind::I32,
-            behind,
+        Lead::I32 => take_leaf_field::<R, W, I32Leaf>(
+            frame, at, cells, to, opening, last, id, behind,
         ),
-        Lead::I64 => take_leaf_field::<R, W>(
-            frame,
-            at,
-            cells,
-            to,
-            opening,
-            last,
-            id,
-            Kind::I64,
-            behind,
+        Lead::I64 => take_leaf_field::<R, W, I64Leaf>(
+            frame, at, cells, to, opening, last, id, behind,
         ),
-        Lead::Double => take_leaf_field::<R, W>(
-            frame,
-            at,
-            cells,
-            to,
-            opening,
-            last,
-            id,
-            Kind::Double,
-            behind,
+        Lead::Double => take_leaf_field::<R, W, DoubleLeaf>(
+            frame, at, cells, to, opening, last, id, behind,
         ),
-        Lead::Uuid => take_leaf_field::<R, W>(
-            frame,
-            at,
-            cells,
-            to,
-            opening,
-            last,
-            id,
-            Kind::Uuid,
-            behind,
+        Lead::Uuid => take_leaf_field::<R, W, UuidLeaf>(
+            frame, at, cells, to, opening, last, id, behind,
         ),
         Lead::Str => take_text_field::<R, W, K>(
             known, schema, frame, at, cells, to, opening, last, id, behind,
@@ -260,12 +209,11 @@ fn take_level_field<R: FormRead, W: FormWrite, K: Known>(
     requires place { IsPast at frame.now behind }
     requires room { HasRoom BEFORE_FIELD frame.now at cells.old to }
     requires apart { kind ≡ Kind.Bool → ⊥ }
-    requires shallow { depth ≤ 256 }
+    requires shallow { depth ≤ DEPTH }
     ensures kept { length cells.new ≡ length cells.old }
     ensures past { IfSome result (λ x. IsPast at frame.now x.read) }
     ensures grows { IfSome result (λ x. Grows at to x.read x.written) }
-    ensures takes { IfSome result (λ x. (ty : Ty) → K.means known ty → TakesField (source_of R.begun R.reads_head R.reads R.reads_end R.value_place R.ahead) (target_of W.begun W.name_bar W.plain_head W.bar W.plain W.after) R.stands_at W.stands_at
-        schema.now ty depth frame.now at opening last (field id kind) id behind cells.old to cells.new x.read x.written) }
+    ensures takes { TookField R.ReadRules W.WireWrite (K.means known) schema.now depth frame.now at opening last kind id behind cells.old to cells.new result }
 {
     let next = known.field(schema, id, kind);
     let value = W::field(cells, to, opening, last, id, kind);
@@ -301,12 +249,11 @@ fn take_level<R: FormRead, W: FormWrite, K: Known>(
     requires size { length frame.now < 2 ^ 31 }
     requires place { at ≤ length frame.now }
     requires room { HasRoom AROUND frame.now at cells.old to }
-    requires shallow { depth ≤ 256 }
+    requires shallow { depth ≤ DEPTH }
     ensures kept { length cells.new ≡ length cells.old }
     ensures past { IfSome result (λ x. IsPast at frame.now x.read) }
     ensures grows { IfSome result (λ x. Grows at to x.read x.written) }
-    ensures takes { IfSome result (λ x. (ty : Ty) → K.means known ty → TakesValue (source_of R.begun R.reads_head R.reads R.reads_end R.value_place R.ahead) (target_of W.begun W.name_bar W.plain_head W.bar W.plain W.after) R.stands_at W.stands_at
-        schema.now ty depth frame.now at stand kind cells.old to cells.new x.read x.written) }
+    ensures takes { TookValue R.ReadRules W.WireWrite (K.means known) schema.now depth frame.now at stand kind cells.old to cells.new result }
 {
     match kind {
         Kind::Struct => take_struct::<R, W, K>(known, schema, frame, at, cells, to, stand, depth),
@@ -356,12 +303,11 @@ fn call_level<R: FormRead, W: FormWrite, K: Known>(
     requires size { length frame.now < 2 ^ 31 }
     requires place { at ≤ length frame.now }
     requires room { HasRoom AROUND frame.now at cells.old to.old }
-    requires shallow { depth ≤ 256 }
+    requires shallow { depth ≤ DEPTH }
     ensures kept { length cells.new ≡ length cells.old }
     ensures past { IfSome result (λ read. IsPast at frame.now read) }
     ensures grows { IfSome result (λ read. Grows at to.old read to.new) }
-    ensures takes { IfSome result (λ read. (ty : Ty) → K.means known ty → TakesValue (source_of R.begun R.reads_head R.reads R.reads_end R.value_place R.ahead) (target_of W.begun W.name_bar W.plain_head W.bar W.plain W.after) R.stands_at W.stands_at
-        schema.now ty depth frame.now at stand kind cells.old to.old cells.new read to.new) }
+    ensures takes { TookValue R.ReadRules W.WireWrite (K.means known) schema.now depth frame.now at stand kind cells.old to.old cells.new (reached result to.new) }
 {
     let reach = take_level::<R, W, K>(known, schema, frame, at, cells, *to, stand, kind, depth)?;
     *to = reach.written;
@@ -388,15 +334,47 @@ fn take_value<R: FormRead, W: FormWrite, K: Known>(
     requires place { at ≤ length frame.now }
     requires room { HasRoom AROUND frame.now at cells.old to }
     requires apart { kind ≡ Kind.Bool → stand ≡ Stand.Field → ⊥ }
-    requires shallow { depth ≤ 256 }
+    requires shallow { depth ≤ DEPTH }
     ensures kept { length cells.new ≡ length cells.old }
     ensures past { IfSome result (λ x. IsPast at frame.now x.read) }
     ensures grows { IfSome result (λ x. Grows at to x.read x.written) }
-    ensures takes { IfSome result (λ x. (ty : Ty) → K.means known ty → TakesValue (source_of R.begun R.reads_head R.reads R.reads_end R.value_place R.ahead) (target_of W.begun W.name_bar W.plain_head W.bar W.plain W.after) R.stands_at W.stands_at
-        schema.now ty depth frame.now at stand kind cells.old to cells.new x.read x.written) }
+    ensures takes { TookValue R.ReadRules W.WireWrite (K.means known) schema.now depth frame.now at stand kind cells.old to cells.new result }
 {
     match kind {
         Kind::Str => take_text::<R, W>(frame, at, cells, to, stand, known.hint()),
+        Kind::Struct | Kind::Map | Kind::Set | Kind::List => take_inner::<R, W, K>(
+            known, schema, frame, at, cells, to, stand, kind, depth,
+        ),
+        _ => take_leaf::<R, W>(frame, at, cells, to, stand, kind),
+    }
+}
+
+/// Takes a struct or container that stands in a container. Other kinds are none.
+#[cycle(body)]
+#[inline(always)]
+fn take_inner<R: FormRead, W: FormWrite, K: Known>(
+    known: K,
+    schema: &Schema,
+    frame: &[u8],
+    at: usize,
+    cells: &mut [u8],
+    to: usize,
+    stand: Stand,
+    kind: Kind,
+    depth: usize,
+) -> Option<Reach>
+    requires known { K.sound known schema.now }
+    requires informed { Informs K.tells R.hinted W.hinted W.marked }
+    requires size { length frame.now < 2 ^ 31 }
+    requires place { at ≤ length frame.now }
+    requires room { HasRoom AROUND frame.now at cells.old to }
+    requires shallow { depth ≤ DEPTH }
+    ensures kept { length cells.new ≡ length cells.old }
+    ensures past { IfSome result (λ x. IsPast at frame.now x.read) }
+    ensures grows { IfSome result (λ x. Grows at to x.read x.written) }
+    ensures takes { TookValue R.ReadRules W.WireWrite (K.means known) schema.now depth frame.now at stand kind cells.old to cells.new result }
+{
+    match kind {
         Kind::Struct => take_struct::<R, W, K>(known, schema, frame, at, cells, to, stand, depth),
         Kind::Map | Kind::Set | Kind::List => {
             let mut written = to;
@@ -413,7 +391,7 @@ fn take_value<R: FormRead, W: FormWrite, K: Known>(
             )?;
             Some(Reach { read, written })
         }
-        _ => take_leaf::<R, W>(frame, at, cells, to, stand, kind),
+        _ => None,
     }
 }
 
@@ -435,12 +413,11 @@ fn take_struct<R: FormRead, W: FormWrite, K: Known>(
     requires size { length frame.now < 2 ^ 31 }
     requires place { at ≤ length frame.now }
     requires room { HasRoom AROUND frame.now at cells.old to }
-    requires shallow { depth ≤ 256 }
+    requires shallow { depth ≤ DEPTH }
     ensures kept { length cells.new ≡ length cells.old }
     ensures past { IfSome result (λ x. IsPast at frame.now x.read) }
     ensures grows { IfSome result (λ x. Grows at to x.read x.written) }
-    ensures takes { IfSome result (λ x. (ty : Ty) → K.means known ty → TakesValue (source_of R.begun R.reads_head R.reads R.reads_end R.value_place R.ahead) (target_of W.begun W.name_bar W.plain_head W.bar W.plain W.after) R.stands_at W.stands_at
-        schema.now ty depth frame.now at stand Kind.Struct cells.old to cells.new x.read x.written) }
+    ensures takes { TookValue R.ReadRules W.WireWrite (K.means known) schema.now depth frame.now at stand Kind.Struct cells.old to cells.new result }
 {
     if depth >= DEPTH {
         return None;
@@ -480,12 +457,11 @@ fn take_list<R: FormRead, W: FormWrite, K: Known>(
     requires place { at ≤ length frame.now }
     requires room { HasRoom AROUND frame.now at cells.old to }
     requires no_map { container ≡ Container.Map → ⊥ }
-    requires shallow { depth ≤ 256 }
+    requires shallow { depth ≤ DEPTH }
     ensures kept { length cells.new ≡ length cells.old }
     ensures past { IfSome result (λ x. IsPast at frame.now x.read) }
     ensures grows { IfSome result (λ x. Grows at to x.read x.written) }
-    ensures takes { IfSome result (λ x. (ty : Ty) → K.means known ty → TakesValue (source_of R.begun R.reads_head R.reads R.reads_end R.value_place R.ahead) (target_of W.begun W.name_bar W.plain_head W.bar W.plain W.after) R.stands_at W.stands_at
-        schema.now ty depth frame.now at stand (container_kind container) cells.old to cells.new x.read x.written) }
+    ensures takes { TookValue R.ReadRules W.WireWrite (K.means known) schema.now depth frame.now at stand (container_kind container) cells.old to cells.new result }
 {
     if depth >= DEPTH {
         return None;
@@ -528,12 +504,11 @@ fn take_elements<R: FormRead, W: FormWrite, K: Known>(
     requires place { from ≤ length frame.now }
     requires room { HasRoom AROUND frame.now from cells.old into }
     requires no_map { container ≡ Container.Map → ⊥ }
-    requires shallow { depth ≤ 256 }
+    requires shallow { depth ≤ DEPTH }
     ensures kept { length cells.new ≡ length cells.old }
     ensures place { IfSome result (λ x. (from ≤ x.read) × (x.read ≤ length frame.now)) }
     ensures grows { IfSome result (λ x. Grows from (into + END) x.read x.written) }
-    ensures takes { IfSome result (λ x. (level : Level) → IsFlat level → K.means known (called_for (Some level)) → TakesElements (source_of R.begun R.reads_head R.reads R.reads_end R.value_place R.ahead) (target_of W.begun W.name_bar W.plain_head W.bar W.plain W.after) R.stands_at W.stands_at
-        schema.now level depth frame.now from kind size cells.old into cells.new x.read x.written) }
+    ensures takes { TookElements R.ReadRules W.WireWrite (K.means known) schema.now depth frame.now from kind size cells.old into cells.new result }
 {
     let reach = take_run::<R, W, K>(known, schema, frame, from, cells, into, kind, size, depth)?;
     let read = R::end(frame, reach.read, container)?;
@@ -560,73 +535,31 @@ fn take_run<R: FormRead, W: FormWrite, K: Known>(
     requires size { length frame.now < 2 ^ 31 }
     requires place { at ≤ length frame.now }
     requires room { HasRoom AROUND frame.now at cells.old to }
-    requires shallow { depth ≤ 256 }
+    requires shallow { depth ≤ DEPTH }
     ensures kept { length cells.new ≡ length cells.old }
     ensures place { IfSome result (λ x. (at ≤ x.read) × (x.read ≤ length frame.now)) }
     ensures grows { IfSome result (λ x. Grows at to x.read x.written) }
-    ensures takes { IfSome result (λ x. (level : Level) → IsFlat level → K.means known (called_for (Some level)) → TakesRun (source_of R.begun R.reads_head R.reads R.reads_end R.value_place R.ahead) (target_of W.begun W.name_bar W.plain_head W.bar W.plain W.after) R.stands_at W.stands_at
-        schema.now level depth frame.now at kind size cells.old to cells.new x.read x.written) }
+    ensures takes { TookRun R.ReadRules W.WireWrite (K.means known) schema.now depth frame.now at kind size cells.old to cells.new result }
 {
     match kind {
-        Kind::Bool => run_of::<R, W, K>(
-            known,
-            schema,
-            frame,
-            at,
-            cells,
-            to,
-            Kind::Bool,
-            size,
-            depth,
-        ),
-        Kind::I8 => run_of::<R, W, K>(known, schema, frame, at, cells, to, Kind::I8, size, depth),
-        Kind::I16 => run_of::<R, W, K>(known, schema, frame, at, cells, to, Kind::I16, size, depth),
-        Kind::I32 => run_of::<R, W, K>(known, schema, frame, at, cells, to, Kind::I32, size, depth),
-        Kind::I64 => run_of::<R, W, K>(known, schema, frame, at, cells, to, Kind::I64, size, depth),
-        Kind::Double => run_of::<R, W, K>(
-            known,
-            schema,
-            frame,
-            at,
-            cells,
-            to,
-            Kind::Double,
-            size,
-            depth,
-        ),
-        Kind::Uuid => run_of::<R, W, K>(
-            known,
-            schema,
-            frame,
-            at,
-            cells,
-            to,
-            Kind::Uuid,
-            size,
-            depth,
-        ),
-        Kind::Str => run_of::<R, W, K>(known, schema, frame, at, cells, to, Kind::Str, size, depth),
-        Kind::Struct => run_of::<R, W, K>(
-            known,
-            schema,
-            frame,
-            at,
-            cells,
-            to,
-            Kind::Struct,
-            size,
-            depth,
-        ),
-        Kind::Map | Kind::Set | Kind::List => run_of::<R, W, K>(
+        Kind::Bool => take_leaves::<R, W, BoolLeaf>(frame, at, cells, to, size),
+        Kind::I8 => take_leaves::<R, W, I8Leaf>(frame, at, cells, to, size),
+        Kind::I16 => take_leaves::<R, W, I16Leaf>(frame, at, cells, to, size),
+        Kind::I32 => take_leaves::<R, W, I32Leaf>(frame, at, cells, to, size),
+        Kind::I64 => take_leaves::<R, W, I64Leaf>(frame, at, cells, to, size),
+        Kind::Double => take_leaves::<R, W, DoubleLeaf>(frame, at, cells, to, size),
+        Kind::Uuid => take_leaves::<R, W, UuidLeaf>(frame, at, cells, to, size),
+        Kind::Str => take_texts::<R, W>(frame, at, cells, to, known.hint(), size),
+        Kind::Struct | Kind::Map | Kind::Set | Kind::List => take_levels::<R, W, K>(
             known, schema, frame, at, cells, to, kind, size, depth,
         ),
     }
 }
 
-/// Takes so many elements of a kind, one by one.
+/// Takes so many elements that are structs or containers. Other kinds are none.
 #[cycle(body)]
 #[inline(always)]
-fn run_of<R: FormRead, W: FormWrite, K: Known>(
+fn take_levels<R: FormRead, W: FormWrite, K: Known>(
     known: K,
     schema: &Schema,
     frame: &[u8],
@@ -642,17 +575,16 @@ fn run_of<R: FormRead, W: FormWrite, K: Known>(
     requires size { length frame.now < 2 ^ 31 }
     requires place { from ≤ length frame.now }
     requires room { HasRoom AROUND frame.now from cells.old into }
-    requires shallow { depth ≤ 256 }
+    requires shallow { depth ≤ DEPTH }
     ensures kept { length cells.new ≡ length cells.old }
     ensures place { IfSome result (λ x. (from ≤ x.read) × (x.read ≤ length frame.now)) }
     ensures grows { IfSome result (λ x. Grows from into x.read x.written) }
-    ensures takes { IfSome result (λ x. (level : Level) → IsFlat level → K.means known (called_for (Some level)) → TakesRun (source_of R.begun R.reads_head R.reads R.reads_end R.value_place R.ahead) (target_of W.begun W.name_bar W.plain_head W.bar W.plain W.after) R.stands_at W.stands_at
-        schema.now level depth frame.now from kind size cells.old into cells.new x.read x.written) }
+    ensures takes { TookRun R.ReadRules W.WireWrite (K.means known) schema.now depth frame.now from kind size cells.old into cells.new result }
 {
     let mut at = from;
     let mut to = into;
     'elements: for i in 0..size {
-        let reach = take_value::<R, W, K>(
+        let reach = take_inner::<R, W, K>(
             known,
             schema,
             frame,
@@ -690,12 +622,11 @@ fn take_map<R: FormRead, W: FormWrite, K: Known>(
     requires size { length frame.now < 2 ^ 31 }
     requires place { at ≤ length frame.now }
     requires room { HasRoom AROUND frame.now at cells.old to }
-    requires shallow { depth ≤ 256 }
+    requires shallow { depth ≤ DEPTH }
     ensures kept { length cells.new ≡ length cells.old }
     ensures past { IfSome result (λ x. IsPast at frame.now x.read) }
     ensures grows { IfSome result (λ x. Grows at to x.read x.written) }
-    ensures takes { IfSome result (λ x. (ty : Ty) → K.means known ty → TakesValue (source_of R.begun R.reads_head R.reads R.reads_end R.value_place R.ahead) (target_of W.begun W.name_bar W.plain_head W.bar W.plain W.after) R.stands_at W.stands_at
-        schema.now ty depth frame.now at stand Kind.Map cells.old to cells.new x.read x.written) }
+    ensures takes { TookValue R.ReadRules W.WireWrite (K.means known) schema.now depth frame.now at stand Kind.Map cells.old to cells.new result }
 {
     if depth >= DEPTH {
         return None;
@@ -733,12 +664,11 @@ fn take_pairs<R: FormRead, W: FormWrite, K: Known>(
     requires size { length frame.now < 2 ^ 31 }
     requires place { pairs.behind ≤ length frame.now }
     requires room { HasRoom AROUND frame.now pairs.behind cells.old into }
-    requires shallow { depth ≤ 256 }
+    requires shallow { depth ≤ DEPTH }
     ensures kept { length cells.new ≡ length cells.old }
     ensures place { IfSome result (λ x. (pairs.behind ≤ x.read) × (x.read ≤ length frame.now)) }
     ensures grows { IfSome result (λ x. Grows pairs.behind (into + END) x.read x.written) }
-    ensures takes { IfSome result (λ x. (level : Level) → Turns level → K.means key (called_for (Some level)) → K.means value (called_for (Some (turned level))) → TakesPairs (source_of R.begun R.reads_head R.reads R.reads_end R.value_place R.ahead) (target_of W.begun W.name_bar W.plain_head W.bar W.plain W.after) R.stands_at W.stands_at
-        schema.now level depth frame.now pairs.behind pairs.key pairs.value pairs.size cells.old into cells.new x.read x.written) }
+    ensures takes { TookPairs R.ReadRules W.WireWrite (K.means key) (K.means value) schema.now depth frame.now pairs cells.old into cells.new result }
 {
     let mut stand = Stand::FirstKey;
     let mut at = pairs.behind;

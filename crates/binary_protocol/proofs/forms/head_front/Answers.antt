@@ -1,4 +1,4 @@
-use Rattle.std.proofs.Common.{arith, rules, SFits, w32}
+use Rattle.std.proofs.Common.{rules, SFits, w32}
 use Rattle.std.proofs.lemmas.Int.{to_z-of_z}
 use Rattle.std.proofs.lemmas.List.{take_rest}
 use Rattle.binary_protocol.specs.Forms.{head_found}

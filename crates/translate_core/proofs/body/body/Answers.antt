@@ -6,7 +6,7 @@ use Rattle.protocol_traits.specs.Room.{weight}
 use Rattle.protocol_traits.specs.Follow.{depth_after}
 use Rattle.protocol_traits.specs.Steps.{Step, step_ok, step_err}
 use Rattle.translate_core.specs.Positions.{typed}
-use Rattle.translate_core.specs.Body.{moved, source_of, target_of, going}
+use Rattle.translate_core.specs.Body.{moved, source_in, target_in, going}
 use Rattle.translate_core.proofs.Whole.{fits_after, grows, keeps_deep, whole_step, whole_fault, whole_end}
 use Rattle.translate_core.proofs.body.body.Goals as goal
 
@@ -15,8 +15,8 @@ events-init g c = record { told = ([], sym (append-nil _), rw c.requires.walks r
 
 pub events-preserved : goal.events-preserved
 events-preserved g c =
-    let source = source_of g.R.ReadRules.begun g.R.ReadRules.reads_head g.R.ReadRules.reads g.R.ReadRules.reads_end g.R.ReadRules.value_place g.R.ReadRules.ahead in
-    let target = target_of g.W.WireWrite.begun g.W.WireWrite.name_bar g.W.WireWrite.plain_head g.W.WireWrite.bar g.W.WireWrite.plain g.W.WireWrite.after in
+    let source = source_in g.R.ReadRules in
+    let target = target_in g.W.WireWrite in
     let inv = c.events.invariant in
     let added = inv.told.0 in
     let before = going c.events.reader (g.K.Walking.at c.events.walk) c.events.writer (length (g.K.Walking.at c.events.walk).levels) c.events.cause added in
@@ -48,16 +48,16 @@ events-preserved g c =
 
 pub returns-in-Err-clause-exact : goal.returns-in-Err-clause-exact
 returns-in-Err-clause-exact g c =
-    let source = source_of g.R.ReadRules.begun g.R.ReadRules.reads_head g.R.ReadRules.reads g.R.ReadRules.reads_end g.R.ReadRules.value_place g.R.ReadRules.ahead in
-    let target = target_of g.W.WireWrite.begun g.W.WireWrite.name_bar g.W.WireWrite.plain_head g.W.WireWrite.bar g.W.WireWrite.plain g.W.WireWrite.after in
+    let source = source_in g.R.ReadRules in
+    let target = target_in g.W.WireWrite in
     let inv = c.events.invariant in
     let before = going c.events.reader (g.K.Walking.at c.events.walk) c.events.writer (length (g.K.Walking.at c.events.walk).levels) c.events.cause inv.told.0 in
     (inv.told.0, inv.told.1, sym inv.told.2 ∙ whole_fault source typed target g.R.ReadRules.pays before c.in-Err.fault (omega arith) (step_err _ _ (rw (← c.hint.ensures) c.in-Err.ensures.answer)))
 
 pub returns-clause-exact : goal.returns-clause-exact
 returns-clause-exact g c =
-    let source = source_of g.R.ReadRules.begun g.R.ReadRules.reads_head g.R.ReadRules.reads g.R.ReadRules.reads_end g.R.ReadRules.value_place g.R.ReadRules.ahead in
-    let target = target_of g.W.WireWrite.begun g.W.WireWrite.name_bar g.W.WireWrite.plain_head g.W.WireWrite.bar g.W.WireWrite.plain g.W.WireWrite.after in
+    let source = source_in g.R.ReadRules in
+    let target = target_in g.W.WireWrite in
     let inv = c.events.invariant in
     let before = going c.events.reader (g.K.Walking.at c.events.walk) c.events.writer (length (g.K.Walking.at c.events.walk).levels) c.events.cause inv.told.0 in
     let shut : 0 < length (g.K.Walking.at c.events.walk).levels → ⊥ = λ h. absurd (cc (c.is_open.ensures.1 h, c.events-test.false)) in

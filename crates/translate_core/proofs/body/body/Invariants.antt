@@ -1,13 +1,13 @@
 use Rattle.std.proofs.Common.{◌≡◌, ◌+◌, ◌≤◌, ◌++◌, List, [], ℕ, length, false}
 use Rattle.std.specs.Prelude.{is_some}
 use Rattle.translate_core.specs.Positions.{typed}
-use Rattle.translate_core.specs.Body.{whole, source_of, target_of, going}
+use Rattle.translate_core.specs.Body.{whole, source_in, target_in, going}
 use Rattle.translate_core.proofs.body.body.Given as goal
 
 abbrev pub invariant-events : goal.invariant-events
 invariant-events g l =
-    let source = source_of g.R.ReadRules.begun g.R.ReadRules.reads_head g.R.ReadRules.reads g.R.ReadRules.reads_end g.R.ReadRules.value_place g.R.ReadRules.ahead in
-    let target = target_of g.W.WireWrite.begun g.W.WireWrite.name_bar g.W.WireWrite.plain_head g.W.WireWrite.bar g.W.WireWrite.plain g.W.WireWrite.after in
+    let source = source_in g.R.ReadRules in
+    let target = target_in g.W.WireWrite in
     let at = g.K.Walking.at l.walk in
     record {
       told : (added : List ℕ) × (l.out.bytes ≡ l.fn.out.bytes ++ added) × (whole source typed target (going l.reader at l.writer (length at.levels) l.cause added) ≡ whole source typed target (going l.fn.reader (g.K.Walking.at l.fn.walk) l.fn.writer 1 l.fn.barred []));

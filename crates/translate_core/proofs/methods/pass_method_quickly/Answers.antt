@@ -1,19 +1,18 @@
-use Rattle.std.proofs.Common.{◌≡◌, ◌++◌, List, ℕ, length, take, refl, sym, ap, ◌∙◌}
-use Rattle.std.proofs.lemmas.List.{take_at}
+use Rattle.std.proofs.Common.{ap}
 use Rattle.gate_io.specs.Buffer.{Buffer}
 use Rattle.protocol_traits.specs.Heads.{header_of}
 use Rattle.type_walk.specs.Positions.{start}
 use Rattle.translate_core.specs.Positions.{typed}
 use Rattle.translate_core.specs.Routes.{info_of, start_of}
-use Rattle.translate_core.specs.Body.{source_of, target_of}
+use Rattle.translate_core.specs.Body.{source_in, target_in}
 use Rattle.translate_core.proofs.Renaming.{passed_method}
 use Rattle.translate_core.proofs.methods.pass_method_quickly.Goals as goal
 
 pub returns-then-append_body-clause-passes : goal.returns-then-append_body-clause-passes
 unfolding start_of
 returns-then-append_body-clause-passes g c =
-    let source = source_of g.R.ReadRules.begun g.R.ReadRules.reads_head g.R.ReadRules.reads g.R.ReadRules.reads_end g.R.ReadRules.value_place g.R.ReadRules.ahead in
-    let target = target_of g.W.WireWrite.begun g.W.WireWrite.name_bar g.W.WireWrite.plain_head g.W.WireWrite.bar g.W.WireWrite.plain g.W.WireWrite.after in
+    let source = source_in g.R.ReadRules in
+    let target = target_in g.W.WireWrite in
     let d = c.args.schema.now in
     let header = header_of c.in_ok-head.head in
     let read = c.in_ok-head.ensures.reads in

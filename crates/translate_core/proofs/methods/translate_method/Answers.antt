@@ -8,7 +8,7 @@ use Rattle.translate_core.specs.declared.verdict.HeadInfo.{HeadInfo}
 use Rattle.type_walk.specs.Positions.{start}
 use Rattle.translate_core.specs.Positions.{typed}
 use Rattle.translate_core.specs.Routes.{info_of, start_of}
-use Rattle.translate_core.specs.Body.{source_of, target_of, going, whole}
+use Rattle.translate_core.specs.Body.{source_in, target_in, going, whole}
 use Rattle.translate_core.specs.Judged.{head_cause, body_of, after_body, body_bytes, kept}
 use Rattle.translate_core.specs.Methods.{method_header}
 use Rattle.translate_core.proofs.Renaming.{method_err, method_ok}
@@ -17,16 +17,16 @@ use Rattle.translate_core.proofs.methods.translate_method.Goals as goal
 
 pub returns-in-Err-clause-exact : goal.returns-in-Err-clause-exact
 returns-in-Err-clause-exact g c =
-    let source = source_of g.R.ReadRules.begun g.R.ReadRules.reads_head g.R.ReadRules.reads g.R.ReadRules.reads_end g.R.ReadRules.value_place g.R.ReadRules.ahead in
-    let target = target_of g.W.WireWrite.begun g.W.WireWrite.name_bar g.W.WireWrite.plain_head g.W.WireWrite.bar g.W.WireWrite.plain g.W.WireWrite.after in
+    let source = source_in g.R.ReadRules in
+    let target = target_in g.W.WireWrite in
     let e = rw c.over-reader.ensures at (step_err _ _ c.in-Err.ensures.answer) in
     rw (method_err source typed (start_of c.args.schema.now c.args.route) (info_of c.args.schema.now c.args.route) target c.args.frame.now c.in-Err.fault e) (refl, sym (append-nil _))
 
 pub returns-clause-exact : goal.returns-clause-exact
 unfolding start_of
 returns-clause-exact g c =
-    let source = source_of g.R.ReadRules.begun g.R.ReadRules.reads_head g.R.ReadRules.reads g.R.ReadRules.reads_end g.R.ReadRules.value_place g.R.ReadRules.ahead in
-    let target = target_of g.W.WireWrite.begun g.W.WireWrite.name_bar g.W.WireWrite.plain_head g.W.WireWrite.bar g.W.WireWrite.plain g.W.WireWrite.after in
+    let source = source_in g.R.ReadRules in
+    let target = target_in g.W.WireWrite in
     let first = start_of c.args.schema.now c.args.route in
     let info = info_of c.args.schema.now c.args.route in
     let new = c.head.follows.lender-at-none in

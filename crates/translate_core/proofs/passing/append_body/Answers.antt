@@ -1,4 +1,4 @@
-use Rattle.std.proofs.Common.{◌≡◌, ◌+◌, ◌≤◌, ℕ, List, [], ◌∷◌, ◌++◌, pos, length, take, None, refl, ap, ◌∙◌, arith}
+use Rattle.std.proofs.Common.{◌+◌, ℕ, List, [], ◌∷◌, ◌++◌, length, take, None, refl, ap, ◌∙◌}
 use Rattle.gate_io.specs.Buffer.{Buffer}
 use Rattle.gate_io.specs.Tails.{written_over}
 use Rattle.gate_io.proofs.Tails.{cut_none, cut_tail}
@@ -6,15 +6,15 @@ use Rattle.protocol_traits.specs.declared.forms.Opening.TheVariants as openings
 use Rattle.type_walk.specs.declared.levels.Level.{Level}
 use Rattle.type_walk.specs.Positions.{standing}
 use Rattle.translate_core.specs.Positions.{typed}
-use Rattle.translate_core.specs.Body.{going, source_of, target_of, whole}
+use Rattle.translate_core.specs.Body.{going, source_in, target_in, whole}
 use Rattle.translate_core.proofs.Whole.{whole_end}
-use Rattle.translate_core.proofs.Levels.{body_level, cut_short}
+use Rattle.translate_core.proofs.Levels.{body_level}
 use Rattle.translate_core.proofs.passing.append_body.Goals as goal
 
 pub returns-in-Some-clause-passes : goal.returns-in-Some-clause-passes
 returns-in-Some-clause-passes g c passed s stands =
-    let source = source_of g.R.ReadRules.begun g.R.ReadRules.reads_head g.R.ReadRules.reads g.R.ReadRules.reads_end g.R.ReadRules.value_place g.R.ReadRules.ahead in
-    let target = target_of g.W.WireWrite.begun g.W.WireWrite.name_bar g.W.WireWrite.plain_head g.W.WireWrite.bar g.W.WireWrite.plain g.W.WireWrite.after in
+    let source = source_in g.R.ReadRules in
+    let target = target_in g.W.WireWrite in
     let d = c.args.schema.now in
     let x = c.in-Some.ensures.takes [] [] refl s g.W.WireWrite.begun stands g.met.W.FormWrite.starts_at in
     let ended = going x.0 (standing d []) x.1 0 None x.2 in (

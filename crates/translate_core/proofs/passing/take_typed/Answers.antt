@@ -1,15 +1,16 @@
-use Rattle.std.proofs.Common.{arith}
+use Rattle.std.proofs.Common.{refl}
+use Rattle.type_tables.specs.declared.declared.Ty.TheVariants as types
+use Rattle.translate_core.specs.declared.leaves.Reach.{Reach}
 use Rattle.translate_core.specs.Quick.{body_type}
+use Rattle.translate_core.proofs.Levels.{if_some}
 use Rattle.translate_core.proofs.passing.take_typed.Goals as goal
 
-pub returns-then-is_blind-clause-grows : goal.returns-then-is_blind-clause-grows
-returns-then-is_blind-clause-grows g c = omega (arith, c.in_ok-read.ensures.grows)
-
 pub returns-then-is_blind-clause-takes : goal.returns-then-is_blind-clause-takes
-returns-then-is_blind-clause-takes g c = c.in_ok-read.ensures.takes (body_type c.args.body) tt
+returns-then-is_blind-clause-takes g c = if_some _ _ c.take_known.result (λ (x : Reach) whole. whole (body_type c.args.body) tt) c.take_known.ensures.takes
 
-pub returns-clause-grows : goal.returns-clause-grows
-returns-clause-grows g c = omega (arith, c.in_ok-read-2.ensures.grows)
+pub returns-in-Some-clause-takes : goal.returns-in-Some-clause-takes
+returns-in-Some-clause-takes g c =
+    rw c.in-Some.is (if_some _ _ c.take_known-in-Some.result (λ (x : Reach) whole. whole (types.Struct c.in-Some.declared) refl) c.take_known-in-Some.ensures.takes)
 
-pub returns-clause-takes : goal.returns-clause-takes
-returns-clause-takes g c = c.in_ok-read-2.ensures.takes (body_type c.args.body) c.body_type.ensures.value
+pub returns-in-None-clause-takes : goal.returns-in-None-clause-takes
+returns-in-None-clause-takes g c = rw c.in-None.is (if_some _ _ c.take_known-in-None.result (λ (x : Reach) whole. whole types.Unknown refl) c.take_known-in-None.ensures.takes)

@@ -7,7 +7,7 @@ use Rattle.protocol_traits.specs.Forms.{Calls}
 use Rattle.type_tables.specs.declared.declared.Ty.{Ty}
 use Rattle.type_walk.specs.declared.levels.Level.{Level}
 use Rattle.type_walk.specs.Positions.{called_for, in_struct, standing}
-use Rattle.translate_core.specs.Body.{source_of, target_of}
+use Rattle.translate_core.specs.Body.{source_in, target_in}
 use Rattle.translate_core.specs.Quick.{Grows, IsFlat, Takes, Turns, spot, turned}
 use Rattle.translate_core.proofs.Levels.{key_opening}
 use Rattle.translate_core.proofs.quick.+body.Given as goal
@@ -22,8 +22,8 @@ decreases-take_elements g l = rank l.depth 12
 abbrev pub decreases-take_run : goal.decreases-take_run
 decreases-take_run g l = rank l.depth 11
 
-abbrev pub decreases-run_of : goal.decreases-run_of
-decreases-run_of g l = rank l.depth 10
+abbrev pub decreases-take_levels : goal.decreases-take_levels
+decreases-take_levels g l = rank l.depth 10
 
 abbrev pub decreases-take_pairs : goal.decreases-take_pairs
 decreases-take_pairs g l = rank l.depth 10
@@ -38,7 +38,10 @@ abbrev pub decreases-take_level_field : goal.decreases-take_level_field
 decreases-take_level_field g l = rank l.depth 7
 
 abbrev pub decreases-take_value : goal.decreases-take_value
-decreases-take_value g l = rank l.depth 7
+decreases-take_value g l = rank l.depth 8
+
+abbrev pub decreases-take_inner : goal.decreases-take_inner
+decreases-take_inner g l = rank l.depth 7
 
 abbrev pub decreases-call_level : goal.decreases-call_level
 decreases-call_level g l = rank l.depth 6
@@ -60,40 +63,40 @@ decreases-take_fields-fields g l = length l.frame - l.at
 
 abbrev pub invariant-take_fields-fields : goal.invariant-take_fields-fields
 invariant-take_fields-fields g l =
-    let source = source_of g.R.ReadRules.begun g.R.ReadRules.reads_head g.R.ReadRules.reads g.R.ReadRules.reads_end g.R.ReadRules.value_place g.R.ReadRules.ahead in
-    let target = target_of g.W.WireWrite.begun g.W.WireWrite.name_bar g.W.WireWrite.plain_head g.W.WireWrite.bar g.W.WireWrite.plain g.W.WireWrite.after in
+    let source = source_in g.R.ReadRules in
+    let target = target_in g.W.WireWrite in
     record {
       place : (l.fn.from ≤ l.at) × (l.at ≤ length l.frame);
       kept : length l.cells ≡ length l.fn.cells;
       grows : Grows l.fn.from l.fn.into l.at l.to;
       takes : (ty : Ty) (up : List Slot) (outer : List Level) → g.K.Known.means l.known ty → length up + 1 ≡ l.depth
-          → Takes source target g.R.FormRead.stands_at g.W.FormWrite.stands_at l.frame (spot l.fn.from l.fn.opening (slots.Fields (pos 0) ∷ up) (standing l.schema (in_struct ty ∷ outer)))
+          → Takes source target g.R.ReadRules.stands_at g.W.WireWrite.stands_at l.frame (spot l.fn.from l.fn.opening (slots.Fields (pos 0) ∷ up) (standing l.schema (in_struct ty ∷ outer)))
           (spot l.at l.opening (slots.Fields l.last ∷ up) (standing l.schema (in_struct ty ∷ outer))) l.fn.cells l.fn.into l.cells l.to;
     }
 
-abbrev pub invariant-run_of-elements : goal.invariant-run_of-elements
-invariant-run_of-elements g l =
-    let source = source_of g.R.ReadRules.begun g.R.ReadRules.reads_head g.R.ReadRules.reads g.R.ReadRules.reads_end g.R.ReadRules.value_place g.R.ReadRules.ahead in
-    let target = target_of g.W.WireWrite.begun g.W.WireWrite.name_bar g.W.WireWrite.plain_head g.W.WireWrite.bar g.W.WireWrite.plain g.W.WireWrite.after in
+abbrev pub invariant-take_levels-elements : goal.invariant-take_levels-elements
+invariant-take_levels-elements g l =
+    let source = source_in g.R.ReadRules in
+    let target = target_in g.W.WireWrite in
     record {
       place : (l.fn.from ≤ l.at) × (l.at ≤ length l.frame);
       kept : length l.cells ≡ length l.fn.cells;
       grows : Grows l.fn.from l.fn.into l.at l.to;
       takes : (level : Level) (opening : Opening) (up : List Slot) (outer : List Level) → IsFlat level → g.K.Known.means l.known (called_for (Some level)) → length up + 1 ≡ l.depth
-          → (now : Opening) × Takes source target g.R.FormRead.stands_at g.W.FormWrite.stands_at l.frame (spot l.fn.from opening (slots.Elements l.kind l.size ∷ up) (standing l.schema (level ∷ outer)))
+          → (now : Opening) × Takes source target g.R.ReadRules.stands_at g.W.WireWrite.stands_at l.frame (spot l.fn.from opening (slots.Elements l.kind l.size ∷ up) (standing l.schema (level ∷ outer)))
           (spot l.at now (slots.Elements l.kind (l.size - l.i) ∷ up) (standing l.schema (level ∷ outer))) l.fn.cells l.fn.into l.cells l.to;
     }
 
 abbrev pub invariant-take_pairs-pairs : goal.invariant-take_pairs-pairs
 invariant-take_pairs-pairs g l =
-    let source = source_of g.R.ReadRules.begun g.R.ReadRules.reads_head g.R.ReadRules.reads g.R.ReadRules.reads_end g.R.ReadRules.value_place g.R.ReadRules.ahead in
-    let target = target_of g.W.WireWrite.begun g.W.WireWrite.name_bar g.W.WireWrite.plain_head g.W.WireWrite.bar g.W.WireWrite.plain g.W.WireWrite.after in
+    let source = source_in g.R.ReadRules in
+    let target = target_in g.W.WireWrite in
     record {
       place : (l.pairs.behind ≤ l.at) × (l.at ≤ length l.frame);
       kept : length l.cells ≡ length l.fn.cells;
       grows : Grows l.pairs.behind l.fn.into l.at l.to;
       key : (left : ℕ) (up : List Slot) → 0 < left → Calls l.stand l.pairs.key (key_opening l.stand) (slots.Keys l.pairs.key l.pairs.value left ∷ up);
       takes : (level : Level) (up : List Slot) (outer : List Level) → Turns level → g.K.Known.means l.key (called_for (Some level)) → g.K.Known.means l.value (called_for (Some (turned level))) → length up + 1 ≡ l.depth
-          → Takes source target g.R.FormRead.stands_at g.W.FormWrite.stands_at l.frame (spot l.pairs.behind openings.New (slots.Keys l.pairs.key l.pairs.value l.pairs.size ∷ up) (standing l.schema (level ∷ outer)))
+          → Takes source target g.R.ReadRules.stands_at g.W.WireWrite.stands_at l.frame (spot l.pairs.behind openings.New (slots.Keys l.pairs.key l.pairs.value l.pairs.size ∷ up) (standing l.schema (level ∷ outer)))
           (spot l.at (key_opening l.stand) (slots.Keys l.pairs.key l.pairs.value (l.pairs.size - l.i) ∷ up) (standing l.schema (level ∷ outer))) l.fn.cells l.fn.into l.cells l.to;
     }

@@ -19,4 +19,4 @@ returns-in-Ok-clause-shallow c =
     ((was_read _ _ _ _ _ _ (rw (← c.self.view_is) at c.requires.level) c.depth.ensures.depth c.in-Ok.ensures.exact).shallow (omega (arith, c.depth.ensures.depth, c.depth.ensures.bound)))
 
 pub returns-in-Err-clause-exact : goal.returns-in-Err-clause-exact
-returns-in-Err-clause-exact c = rw (← c.self.view_is, c.fault.ensures) (reads_err _ _ _ _ (rw (← c.self.view_is) at c.requires.level) c.depth.ensures.depth (rw take_rest at c.in-Err.ensures.exact))
+returns-in-Err-clause-exact c = rw (← c.self.view_is, c.fault_at.ensures) (reads_err _ _ _ _ (rw (← c.self.view_is) at c.requires.level) c.depth.ensures.depth (rw take_rest at c.in-Err.ensures.exact))

@@ -9,7 +9,7 @@ small_rest : (frame : List ℕ) (place : ℕ) → length frame < 2 ^ 31 → leng
 small_rest frame place h = omega (arith, length-drop {A = ℕ}, length-take {A = ℕ})
 
 pub returns-in-None-clause-exact : goal.returns-in-None-clause-exact
-returns-in-None-clause-exact c = rw (← c.self.view_is, c.fault.ensures) (reads_none _ (sym c.top.ensures ∙ c.in-None.is))
+returns-in-None-clause-exact c = rw (← c.self.view_is, c.fault_at.ensures) (reads_none _ (sym c.top.ensures ∙ c.in-None.is))
 
 pub follow-requires-clause-shallow : goal.follow-requires-clause-shallow
 follow-requires-clause-shallow c =
@@ -34,4 +34,4 @@ returns-in-Ok-clause-shallow c =
     rw (← c.self.view_is) (was_read _ _ _ _ _ _ _ (omega arith) (sym c.top.ensures ∙ c.in-Some.is) c.depth.ensures.depth c.in-Ok.ensures.exact).shallow
 
 pub returns-in-Err-clause-exact : goal.returns-in-Err-clause-exact
-returns-in-Err-clause-exact c = rw (← c.self.view_is, c.fault-in-Err.ensures) (reads_err _ _ _ _ (sym c.top.ensures ∙ c.in-Some.is) c.depth.ensures.depth (rw take_rest at c.in-Err.ensures.exact))
+returns-in-Err-clause-exact c = rw (← c.self.view_is, c.fault_at-in-Err.ensures) (reads_err _ _ _ _ (sym c.top.ensures ∙ c.in-Some.is) c.depth.ensures.depth (rw take_rest at c.in-Err.ensures.exact))

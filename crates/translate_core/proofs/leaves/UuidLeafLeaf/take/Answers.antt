@@ -2,17 +2,17 @@ use Rattle.thrift_value.specs.declared.kind.Kind.TheVariants as kinds
 use Rattle.thrift_value.specs.Items.{uuid_value}
 use Rattle.protocol_traits.specs.Forms.{part}
 use Rattle.type_walk.specs.Positions.{hint_of, mark_of}
-use Rattle.translate_core.specs.Body.{source_of, target_of}
+use Rattle.translate_core.specs.Body.{source_in, target_in}
 use Rattle.translate_core.specs.Quick.{called}
 use Rattle.translate_core.proofs.Taking.{calls_some, takes_item}
-use Rattle.translate_core.proofs.leaves.take_uuid.Goals as goal
+use Rattle.translate_core.proofs.leaves.UuidLeafLeaf.take.Goals as goal
 
 pub returns-clause-takes : goal.returns-clause-takes
 returns-clause-takes g c d ty depth opening nest outer calls deep =
-    let source = source_of g.R.ReadRules.begun g.R.ReadRules.reads_head g.R.ReadRules.reads g.R.ReadRules.reads_end g.R.ReadRules.value_place g.R.ReadRules.ahead in
-    let target = target_of g.W.WireWrite.begun g.W.WireWrite.name_bar g.W.WireWrite.plain_head g.W.WireWrite.bar g.W.WireWrite.plain g.W.WireWrite.after in
+    let source = source_in g.R.ReadRules in
+    let target = target_in g.W.WireWrite in
     let p = called d outer ty in
     let item = uuid_value (part c.args.frame.now c.in_ok-span.span.begin c.in_ok-span.span.end) in
-    takes_item source target g.R.FormRead.stands_at g.W.FormWrite.stands_at c.args.frame.now g.R.ReadRules.pays g.met.W.FormWrite.goes_on
+    takes_item source target g.R.ReadRules.stands_at g.W.WireWrite.stands_at c.args.frame.now g.R.ReadRules.pays g.met.W.FormWrite.goes_on
     c.args.at c.in_ok-span.span.behind opening nest p item c.args.cells.now c.uuid-2.new.cells c.args.to c.in_ok-written.written (calls_some c.args.stand kinds.Uuid opening nest calls)
     (c.in_ok-span.ensures.steps opening nest (hint_of p) calls) ((rw c.in_ok-span.ensures.part.0 at c.in_ok-written.ensures.spells) opening nest (mark_of p item) calls)

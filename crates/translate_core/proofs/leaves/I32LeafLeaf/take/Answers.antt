@@ -3,18 +3,18 @@ use Rattle.std.proofs.lemmas.Int.{to_z-of_z}
 use Rattle.thrift_value.specs.declared.kind.Kind.TheVariants as kinds
 use Rattle.thrift_value.specs.Items.{i32_value}
 use Rattle.type_walk.specs.Positions.{hint_of, mark_of}
-use Rattle.translate_core.specs.Body.{source_of, target_of}
+use Rattle.translate_core.specs.Body.{source_in, target_in}
 use Rattle.translate_core.specs.Quick.{called}
 use Rattle.translate_core.proofs.Taking.{calls_some, takes_item}
-use Rattle.translate_core.proofs.leaves.take_i32.Goals as goal
+use Rattle.translate_core.proofs.leaves.I32LeafLeaf.take.Goals as goal
 
 pub returns-clause-takes : goal.returns-clause-takes
 returns-clause-takes g c d ty depth opening nest outer calls deep =
-    let source = source_of g.R.ReadRules.begun g.R.ReadRules.reads_head g.R.ReadRules.reads g.R.ReadRules.reads_end g.R.ReadRules.value_place g.R.ReadRules.ahead in
-    let target = target_of g.W.WireWrite.begun g.W.WireWrite.name_bar g.W.WireWrite.plain_head g.W.WireWrite.bar g.W.WireWrite.plain g.W.WireWrite.after in
+    let source = source_in g.R.ReadRules in
+    let target = target_in g.W.WireWrite in
     let p = called d outer ty in
     let item = i32_value c.in_ok-value.value in
     let fits : SFits w32 c.in_ok-value.value = search rules in
-    takes_item source target g.R.FormRead.stands_at g.W.FormWrite.stands_at c.args.frame.now g.R.ReadRules.pays g.met.W.FormWrite.goes_on
+    takes_item source target g.R.ReadRules.stands_at g.W.WireWrite.stands_at c.args.frame.now g.R.ReadRules.pays g.met.W.FormWrite.goes_on
     c.args.at c.in_ok-value.read opening nest p item c.args.cells.now c.i32-written.new.cells c.args.to c.i32-written.result (calls_some c.args.stand kinds.I32 opening nest calls)
     (c.in_ok-value.ensures.steps opening nest (hint_of p) calls) ((rw (to_z-of_z w32 c.in_ok-value.value fits) at c.i32-written.ensures.spells) opening nest (mark_of p item) calls)
