@@ -3,6 +3,7 @@ pub mod Calls
 pub mod Clients
 pub mod Copied
 pub mod Counted
+pub mod Cuts
 pub mod Fitting
 pub mod Handing
 pub mod Heads

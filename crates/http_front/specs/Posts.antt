@@ -1,5 +1,5 @@
 -- What a client sends, cut into the bodies of its POSTs and a tail, and the frames that stand for it.
-use Rattle.std.specs.Prelude.{◌≡◌, ℕ, ◌<◌, ◌≤◌, List, [], ◌∷◌, ◌++◌, length, Bool, true, false, Some, None}
+use Rattle.std.specs.Prelude.{◌≡◌, ℕ, ◌<◌, ◌≤◌, List, [], ◌∷◌, ◌++◌, length, drop, Bool, true, false, Some, None}
 use Rattle.std.specs.List.{flat_map}
 use Rattle.framed_transport.specs.Frames.{framed}
 use Rattle.httparse.specs.Grammar.{RequestHead, IsRequestHead, print_request, ReadsRequest, HasNoRequest, NeverHasRequest, MayBecomeRequest}
@@ -48,6 +48,16 @@ Posts limit bytes [] tail = IsTail limit bytes tail
 Posts limit bytes (post ∷ posts) tail =
     IsPost limit post
     × ((behind : List ℕ) × (bytes ≡ post_bytes post ++ behind) × ((is_last post.head ≡ false → Posts limit behind posts tail) × (is_last post.head ≡ true → (posts ≡ []) × (tail ≡ rest []))))
+
+-- they are cut so into some POSTs and a tail
+abbrev pub IsCut : ℕ → List ℕ → Type 0
+IsCut limit bytes = (posts : List Post) × (tail : Tail) × Posts limit bytes posts tail
+
+-- a POST behind which another one may come is the first bytes, so many
+pub record IsFirstPost (limit : ℕ) (bytes : List ℕ) (size : ℕ) : Type 0 where
+  pub some : 0 < size
+  pub within : size ≤ length bytes
+  pub on : IsCut limit (drop size bytes) → IsCut limit bytes
 
 -- the length -1, behind which nothing comes
 abbrev pub mark : List ℕ

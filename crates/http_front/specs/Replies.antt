@@ -1,5 +1,6 @@
 -- Which response a body gets, and how a response is written (RFC 9112, section 4; Apache Thrift, THttpTransport).
-use Rattle.std.specs.Prelude.{ℕ, List, ◌++◌, length, decimal, codes, Option, Some, None, Ok, Err, if◌then◌else◌}
+use Rattle.std.specs.Prelude.{◌≡◌, ℕ, ◌<◌, ◌≤◌, List, ◌++◌, length, take, decimal, codes, Option, Some, None, Ok, Err, if◌then◌else◌}
+use Rattle.gate_io.specs.Buffer.{Buffer}
 use Rattle.thrift_value.specs.declared.kind.MessageType.{MessageType}
 use Rattle.thrift_value.specs.declared.kind.MessageType.TheVariants as types
 use Rattle.protocol_traits.specs.declared.proto.Proto.{Proto}
@@ -46,3 +47,8 @@ response_head size = codes "HTTP/1.1 200 OK\r\nContent-Type: application/x-thrif
 
 abbrev pub response : List ℕ → List ℕ
 response content = response_head (length content) ++ content
+
+-- the head of a response is held, and behind it the first bytes of its content, of so many as are wanted
+abbrev pub IsLaid : Buffer → Buffer → ℕ → List ℕ → ℕ → Type 0
+IsLaid old new size content wanted =
+    (count : ℕ) × (count ≤ wanted) × (new ≡ record old { bytes = response_head size ++ take count content }) × (0 < wanted → 0 < count)

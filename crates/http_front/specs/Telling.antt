@@ -2,6 +2,7 @@
 use Rattle.std.specs.Prelude.{◌≡◌, ℕ, List, [], Bool, true, false, Option, None, Some}
 use Rattle.std.specs.List.{slice_get}
 use Rattle.gate_hub.specs.Meaning.{Link, Told, Started, Meaning, IsOpen}
+use Rattle.gate_hub.specs.Hubs.{NotStarted}
 use Rattle.gate_hub.specs.declared.hub.HubNext.{HubNext}
 use Rattle.gate_hub.specs.declared.hub.HubNext.TheVariants as event
 use Rattle.http_front.specs.declared.answers.Written.{Written}
@@ -58,6 +59,10 @@ pub record Tells (r : Reading) (slots : Option Open) (stopped : Bool) (inner out
 -- it tells over each meaning that is told below
 abbrev pub TellsOver : (Meaning → Type 0) → Reading → Option Open → Bool → Meaning → Type 0
 TellsOver told r slots stopped outer = (inner : Meaning) × told inner × Tells r slots stopped inner outer
+
+-- each meaning that is told before the start, of no session, is told so
+abbrev pub TellsFresh : (Meaning → Type 0) → (Meaning → Type 0) → Type 0
+TellsFresh told told' = (m : Meaning) → told m → NotStarted m → ((k : ℕ) → (m.session k).announced ≡ false) → told' m
 
 -- ---- calls on the slots, of which there may be none yet
 

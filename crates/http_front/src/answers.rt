@@ -3,7 +3,7 @@ ghost use Rattle.std.specs.Prelude.{◌≡◌, ◌+◌, ◌-◌, ◌≤◌, ◌<
 ghost use Rattle.gate_base.specs.Causes.{Rose};
 ghost use Rattle.gate_hub.specs.Hubs.{Later, TookWithin};
 ghost use Rattle.http_front.specs.Fronts.{is_empty, is_answered, behind_length, behind_content, behind_response};
-ghost use Rattle.http_front.specs.Replies.{response_head};
+ghost use Rattle.http_front.specs.Replies.{response_head, IsLaid};
 ghost use Rattle.http_front.specs.Moving.{Goes, Writes, Turns, SendsBelow, SendsUpTo, WroteWithin, PutsOn, WritesOn};
 
 use crate::copies::LENGTH_BYTES;
@@ -300,7 +300,7 @@ fn lay_response(scratch: &mut Out, size: u32, content: &[u8], most: usize) -> us
     requires { RESPONSE_ROOM ≤ scratch.old.room }
     ensures head { result ≡ length (response_head size) }
     ensures some { 0 < result }
-    ensures laid { (count : ℕ) × (count ≤ min (length content.now) most) × (scratch.new ≡ record scratch.old { bytes = response_head size ++ take count content.now }) × (0 < min (length content.now) most → 0 < count) }
+    ensures laid { IsLaid scratch.old scratch.new size content.now (min (length content.now) most) }
 {
     scratch.clear();
     push_response_head(scratch, size);

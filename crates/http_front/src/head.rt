@@ -15,7 +15,7 @@ use httparse::spans::{HeaderSpan, RequestSpans, parse_request};
 pub(crate) const HEAD_LIMIT: usize = 8192;
 
 /// So many fields are more than a head of that length has.
-pub(crate) const MOST_FIELDS: usize = 4096;
+pub const MOST_FIELDS: usize = 4096;
 
 /// What stands at the front of the bytes.
 #[derive(Clone, Copy)]

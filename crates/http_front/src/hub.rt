@@ -9,7 +9,7 @@ ghost use Rattle.http_front.specs.Laws.{bytes_over};
 ghost use Rattle.http_front.specs.Moving.{WroteWithin};
 ghost use Rattle.http_front.specs.Serving.{GaveWithin};
 ghost use Rattle.http_front.specs.Slots.{IsMarked, IsUnmarked, HasNone};
-ghost use Rattle.http_front.specs.Telling.{open_slots, stops, Follows, Gave, Wrote, HasNoSlot, GivesBack, TellsOver};
+ghost use Rattle.http_front.specs.Telling.{open_slots, stops, Follows, Gave, Wrote, HasNoSlot, GivesBack, TellsFresh, TellsOver};
 
 use crate::answers::Written;
 use crate::replies::Rules;
@@ -51,8 +51,7 @@ impl<'h, H: Hub> HttpHub<'h, H> {
         ensures rules { result.rules ≡ record { declared = schema.now; service = service; client = client; limit = limit } }
         ensures fresh { (result.inner.now ≡ inner.old) × (result.slots ≡ None) × (result.stopped ≡ false) }
         ensures uncounted { (result.strays ≡ 0) × (result.waits ≡ 0) }
-        ensures tells { (m : Meaning) → H.tells inner.old m → NotStarted m → ((k : ℕ) → (m.session k).announced ≡ false) →
-            TellsOver (H.tells result.inner.now) result.rules result.slots result.stopped m }
+        ensures tells { TellsFresh (H.tells inner.old) (TellsOver (H.tells result.inner.now) result.rules result.slots result.stopped) }
         ensures counts { with_own (H.counts result.inner.now) result.strays result.waits ≡ with_own (H.counts inner.old) 0 0 }
     {
         HttpHub {

@@ -8,9 +8,11 @@ mod fields;
 mod front;
 mod head;
 mod hub;
+mod laws;
 mod look;
 mod replies;
 mod slots;
 mod stage;
 
 pub use hub::HttpHub;
+pub use laws::a_stream_is_cut;

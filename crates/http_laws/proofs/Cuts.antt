@@ -1,10 +1,10 @@
 -- A stream is cut into POSTs in one way, but for how its tail is told.
-use Rattle.std.proofs.Common.{◌≡◌, ℕ, suc, true≢false, ◌+◌, ◌<◌, ◌≤◌, Bool, true, false, List, [], ◌∷◌, ◌++◌, length, All, Some, None, refl, sym, ap, ◌∙◌, subst, arith, append_assoc, append-nil, length-append}
+use Rattle.std.proofs.Common.{◌≡◌, ℕ, suc, true≢false, true, false, List, [], ◌∷◌, ◌++◌, length, All, Some, None, refl, sym, ap, ◌∙◌, subst, arith, append_assoc, append-nil, length-append}
 use Rattle.std.proofs.lemmas.Option.{same_Some}
 use Rattle.httparse.specs.Grammar.{RequestHead, print_request, ReadsRequest, HasNoRequest}
 use Rattle.httparse.proofs.GrammarLemmas.{request_unique}
-use Rattle.http_front.specs.Heads.{head_limit, body_length, is_last}
-use Rattle.http_front.specs.Posts.{Post, post_bytes, IsGood, IsPost, IsBad, Refused, Hopeless, TooLong, IsRest, Nothing, InHead, InBody, Tail, rest, bad, IsTail, Posts}
+use Rattle.http_front.specs.Heads.{body_length, is_last}
+use Rattle.http_front.specs.Posts.{Post, post_bytes, IsPost, IsBad, Refused, Hopeless, TooLong, IsRest, Nothing, InHead, InBody, Tail, rest, bad, IsTail, Posts}
 use Rattle.http_front.specs.Fronts.{Reading, Exchange, IsExchange, requests}
 use Rattle.http_front.proofs.Heads.{head_some}
 use Rattle.http_laws.specs.Served.{posts_of}
@@ -20,7 +20,7 @@ same_front (x ∷ a) (y ∷ b) r t n e =
     (ap (λ (l : List ℕ). x ∷ l) s.0 ∙ ap (λ (z : ℕ). z ∷ b) h, s.1)
 
 -- the head of a POST at the front
-reads : (limit : ℕ) (p : Post) (x : List ℕ) → IsPost limit p → ReadsRequest (post_bytes p ++ x) p.head (p.body ++ x)
+pub reads : (limit : ℕ) (p : Post) (x : List ℕ) → IsPost limit p → ReadsRequest (post_bytes p ++ x) p.head (p.body ++ x)
 reads limit p x is = (is.is, append_assoc (print_request p.head) p.body x)
 
 some_none : (n : ℕ) → Some n ≡ None → ⊥
@@ -42,7 +42,7 @@ same_post limit p q x y a b e =
     let s = same_front p.body q.body x y n u.1 in
     (with_head p u.0 ∙ with_body q s.0, s.1)
 
-no_rest : (limit : ℕ) (p : Post) (x r : List ℕ) → IsPost limit p → post_bytes p ++ x ≡ r → IsRest limit r → ⊥
+pub no_rest : (limit : ℕ) (p : Post) (x r : List ℕ) → IsPost limit p → post_bytes p ++ x ≡ r → IsRest limit r → ⊥
 no_rest limit p x _ is e Nothing = absurd (omega (arith, head_some p.head, length-append (print_request p.head) p.body, length-append (post_bytes p) x, ap length e))
 no_rest limit p x _ is e (InHead bytes short none may) = none p.head (p.body ++ x) (is.is, sym e ∙ append_assoc (print_request p.head) p.body x)
 no_rest limit p x _ is e (InBody head size body good short) =
@@ -50,7 +50,7 @@ no_rest limit p x _ is e (InBody head size body good short) =
     let n : length p.body ≡ size = same_Some _ _ (sym is.length ∙ (ap (body_length limit) u.0 ∙ good.length)) in
     absurd (omega (arith, n, short, ap length u.1, length-append p.body x))
 
-no_bad : (limit : ℕ) (p : Post) (x : List ℕ) → IsPost limit p → IsBad limit (post_bytes p ++ x) → ⊥
+pub no_bad : (limit : ℕ) (p : Post) (x : List ℕ) → IsPost limit p → IsBad limit (post_bytes p ++ x) → ⊥
 no_bad limit p x is (Refused head after at short none) =
     let u = request_unique (post_bytes p ++ x) p.head head (p.body ++ x) after (reads limit p x is) at in
     some_none _ (sym is.length ∙ (ap (body_length limit) u.0 ∙ none))
@@ -77,10 +77,10 @@ first limit p x (q ∷ posts) tail is h =
       cut = λ goes_on. subst (λ (y : List ℕ). Posts limit y posts tail) (sym s.1) (h.1.2.0 (ap (λ (y : Post). is_last y.head) (sym s.0) ∙ goes_on));
     }
 
-first_of : (P : Exchange → Type 0) (e : Exchange) (done : List Exchange) → All P (e ∷ done) → P e
+pub first_of : (P : Exchange → Type 0) (e : Exchange) (done : List Exchange) → All P (e ∷ done) → P e
 first_of P e done all = all 0 e (omega arith)
 
-others_of : (P : Exchange → Type 0) (e : Exchange) (done : List Exchange) → All P (e ∷ done) → All P done
+pub others_of : (P : Exchange → Type 0) (e : Exchange) (done : List Exchange) → All P (e ∷ done) → All P done
 others_of P e done all = λ k d inside. all (suc k) d (omega (arith, inside))
 
 abbrev GoesOn : Exchange → Type 0

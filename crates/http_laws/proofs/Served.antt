@@ -1,15 +1,16 @@
 -- What a front stands for, by the POSTs that were received.
-use Rattle.std.proofs.Common.{◌≡◌, ◌≢◌, ℕ, zero, suc, ◌<◌, ◌≤◌, Bool, true, false, List, [], ◌∷◌, ◌++◌, length, take, drop, All, Some, None, refl, sym, ap, ◌∙◌, subst, arith, append_assoc, append-nil, length-take}
+use Rattle.std.proofs.Common.{◌≡◌, ◌≢◌, ℕ, zero, suc, ◌+◌, ◌<◌, ◌≤◌, Bool, true, List, [], ◌∷◌, ◌++◌, length, take, drop, Option, Some, None, refl, sym, ap, ◌∙◌, subst, arith, append_assoc, append-nil, length-take}
+use Rattle.std.specs.Int.{to_be_bytes, w32}
 use Rattle.std.proofs.lemmas.List.{take-append-drop}
 use Rattle.framed_transport.specs.Frames.{framed}
 use Rattle.httparse.specs.Grammar.{RequestHead, print_request}
-use Rattle.http_front.specs.Heads.{is_last}
-use Rattle.http_front.specs.Posts.{Post, post_bytes, IsGood, IsPost, IsBad, IsRest, Tail, rest, bad, IsTail, Posts, mark, early, tail_frames, post_frames}
-use Rattle.http_front.specs.Fronts.{Reading, Front, Carried, Fits, Now, Exchange, IsExchange, requests, frames, responses, StandsAt, IsOver, AtEnd, TooEarly, Marked, Last}
+use Rattle.http_front.specs.Posts.{Post, post_bytes, IsGood, IsPost, IsBad, IsRest, Tail, rest, bad, Posts, mark, early, tail_frames, post_frames}
+use Rattle.http_front.specs.Fronts.{Reading, Front, Carried, Fits, Now, asked, Exchange, content_of, answer_frame, frames, StandsAt, IsOver, AtEnd, TooEarly, Marked, Last}
+use Rattle.http_front.specs.Replies.{response_head, response}
 use Rattle.http_front.specs.declared.stage.Stage.{Stage}
 use Rattle.http_front.specs.declared.stage.Stage.TheVariants as stage
-use Rattle.http_laws.specs.Served.{IsServed, posts_of, next_frame}
-use Rattle.http_laws.proofs.Cuts.{IsFirst, first, IsBehind, behind, rejoins, bad_alone, rest_alone}
+use Rattle.http_laws.specs.Served.{IsServed, IsAnswering, Unsent, WithContent, Without, posts_of, next_frame}
+use Rattle.http_laws.proofs.Cuts.{first, behind, rejoins, bad_alone, rest_alone}
 
 -- what was handed out since the last response, by what stands behind
 record IsNext (limit : ℕ) (bytes : List ℕ) (ended : Bool) (given : List ℕ) (later : List Post) : Type 0 where
@@ -37,7 +38,7 @@ marked limit bytes given more ended later tail is e h =
     let none = bad_alone limit bytes later tail is h in
     record { tail = bad; cut = subst (λ (l : List Post). Posts limit bytes l bad) (sym none) is; more = more; front = e ∙ ap (λ (l : List Post). next_frame l bad ended) (sym none) }
 
-early_frame : (bytes : List ℕ) → bytes ≢ [] → tail_frames (rest bytes) true ≡ early
+pub early_frame : (bytes : List ℕ) → bytes ≢ [] → tail_frames (rest bytes) true ≡ early
 early_frame [] some = absurd (some refl)
 early_frame (b ∷ bytes) some = refl
 
@@ -92,6 +93,47 @@ next r (stage.Mark given) input ended now later tail s h =
 next r stage.Early input ended now later tail s h = none_yet _ _ now.given ended later tail h (ap (λ (n : Now). n.given) s.4)
 next r stage.Over input ended now later tail s h = over r input ended now later tail s h
 
+-- ---- what was sent since the last response
+
+without_content : (answer : Option (List ℕ)) (post : Post) (sent : ℕ) (now : Now) → content_of answer ≡ [] → now ≡ asked post (take sent (response_head 0)) (answer_frame answer) → IsAnswering now.written now.sent
+unfolding framed
+without_content None post sent now e is =
+    Without (drop sent (response_head 0)) (ap (λ (n : Now). n.written) is)
+    (ap (λ (n : Now). n.sent ++ drop sent (response_head 0)) is ∙ (take-append-drop sent (response_head 0) ∙ sym (append-nil (response_head 0))))
+without_content (Some content) post sent now e is =
+    WithContent 0 [] (drop sent (response_head 0)) (ap (λ (n : Now). n.written) is ∙ ap framed e) (omega arith)
+    (ap (λ (n : Now). n.sent ++ drop sent (response_head 0)) is ∙ (take-append-drop sent (response_head 0) ∙ sym (append-nil (response_head 0))))
+
+whole_response : (answer : Option (List ℕ)) (post : Post) (now : Now) → now ≡ asked post (response (content_of answer)) (answer_frame answer) → IsAnswering now.written now.sent
+unfolding framed
+whole_response None post now is = Without [] (ap (λ (n : Now). n.written) is) (append-nil now.sent ∙ ap (λ (n : Now). n.sent) is)
+whole_response (Some content) post now is =
+    WithContent (length content) content [] (ap (λ (n : Now). n.written) is) (omega arith) (append-nil now.sent ∙ ap (λ (n : Now). n.sent) is)
+
+none_sent : (now : Now) (dropped given written : List ℕ) → now ≡ record { dropped = dropped; given = given; sent = []; written = written } → IsAnswering now.written now.sent
+none_sent now dropped given written is = Unsent (ap (λ (n : Now). n.sent) is)
+
+answering_over : (r : Reading) (input : List ℕ) (ended : Bool) (now : Now) → IsOver r input ended now → IsAnswering now.written now.sent
+answering_over r input ended now (AtEnd e none is) = none_sent now [] [] [] is
+answering_over r input ended now (TooEarly dropped e left some is) = none_sent now dropped early [] is
+answering_over r input ended now (Marked is_bad is) = none_sent now [] mark [] is
+answering_over r input ended now (Last e x last is) = whole_response e.answer e.post now is
+
+answering : (r : Reading) (s : Stage) (input : List ℕ) (ended : Bool) (now : Now) → StandsAt r s input ended now → IsAnswering now.written now.sent
+answering r stage.Head input ended now s = none_sent now [] [] [] s
+answering r (stage.Body size given last) input ended now s = none_sent now _ _ [] s.3
+answering r (stage.Answer bytes have last) input ended now s = none_sent now _ _ _ s.2
+answering r (stage.Response size sent last) input ended now s =
+    WithContent size [] (drop sent (response_head size)) (ap (λ (n : Now). n.written) s.2 ∙ sym (append-nil (to_be_bytes w32 size))) (omega arith)
+    (ap (λ (n : Now). n.sent ++ drop sent (response_head size)) s.2 ∙ (take-append-drop sent (response_head size) ∙ sym (append-nil (response_head size))))
+answering r (stage.Content left last) input ended now s =
+    WithContent (length s.1 + left) s.1 [] (ap (λ (n : Now). n.written) s.4) (omega arith) (append-nil now.sent ∙ ap (λ (n : Now). n.sent) s.4)
+answering r (stage.Empty sent last) input ended now s = without_content s.0.answer s.0.post sent now s.2 s.4
+answering r stage.Missing input ended now s = none_sent now _ _ [] s.3
+answering r (stage.Mark given) input ended now s = none_sent now [] _ [] s.1
+answering r stage.Early input ended now s = none_sent now _ [] [] s.4
+answering r stage.Over input ended now s = answering_over r input ended now s
+
 abbrev more_of : List Post → Tail → Bool → List ℕ
 more_of [] tail ended = []
 more_of (p ∷ posts) tail ended = post_frames posts tail ended
@@ -126,4 +168,7 @@ served r f c posts tail x h =
           ∙ (frames_on x.done b.later n.tail c.ended x.now.given n.more n.front ∙ ap (λ (l : List ℕ). l ++ (n.more ++ more_of b.later n.tail c.ended)) (sym x.given));
       part = x.now.sent;
       sent = x.sent;
+      next = x.now.written;
+      written = x.written;
+      answering = answering r f.stage f.input c.ended x.now x.stands;
     }

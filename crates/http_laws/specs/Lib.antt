@@ -1,2 +1,4 @@
 -- What the laws say.
 pub mod Served
+pub mod Given
+pub mod Answered

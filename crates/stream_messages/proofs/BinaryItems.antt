@@ -158,7 +158,7 @@ module _ (wire : Wire) (slot : Slot) (up : List Slot) where
 
   -- ---- sets and lists
 
-  size_behind : (size : BinarySized) (more : List ℕ) → AreBytes more
+  pub size_behind : (size : BinarySized) (more : List ℕ) → AreBytes more
       → run wire more (part.Binary (binary.Size size 4 0)) (slot ∷ up) ≡ size_run wire size (slot ∷ up) more (size_at more)
   unfolding of.step_of
   size_behind size more are = same more ∙ sym (size_law wire size (slot ∷ up) more are)

@@ -8,11 +8,14 @@ pub mod Varints
 pub mod CompactItems
 pub mod Reading
 pub mod Taking
+pub mod Whole
+pub mod FieldLaws
 pub mod Pieces
 pub mod Cutting
 pub mod Searching
 pub mod Framing
 pub mod Stripping
+pub mod Pooling
 pub mod Links
 pub mod Places
 pub mod Wrapping

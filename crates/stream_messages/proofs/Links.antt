@@ -11,7 +11,7 @@ use Rattle.gate_hub.specs.declared.hub.LinkPut.TheVariants as put
 use Rattle.stream_messages.specs.declared.scan.Wire.{Wire}
 use Rattle.stream_messages.specs.declared.framer.Behind.TheVariants as behind
 use Rattle.stream_messages.specs.Messages.{rest, framed_tail, Framed}
-use Rattle.stream_messages.specs.Framing.{FramerState, Stands, IsIdle, HasNoMore, IsOut, GivesAll}
+use Rattle.stream_messages.specs.Framing.{FramerState, Stands, Gives, IsIdle, HasNoMore, IsOut, GivesAll}
 use Rattle.stream_messages.specs.Lanes.{MayEnd, Reads, Underway, SideGoes, StaysSent, StaysReceived, LinkGoes}
 use Rattle.stream_messages.proofs.Framing.{nothing_left, came}
 
@@ -219,9 +219,6 @@ failed_below wire limit s t inner inner' outer from into is reads way =
     )
 
 -- ---- the reads of a side in frames
-
-abbrev pub Gives : FramerState → FramerState → List ℕ → Type 0
-Gives s t piece = (wire : Wire) (limit : ℕ) (received given : List ℕ) (ended : Bool) → Stands wire limit s received ended given → Stands wire limit t received ended (given ++ piece)
 
 -- the hub below isn't asked
 pub unasked_below : (told : Meaning → Type 0) (k : ℕ) (x : Side) (Over Over' Step : Link → Link → Type 0) → ((inner outer : Link) → Over inner outer → (outer' : Link) × Step outer outer' × Over' inner outer')

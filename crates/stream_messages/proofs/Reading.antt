@@ -40,12 +40,12 @@ nests_binary kinds.Set = refl
 nests_binary kinds.List = refl
 nests_binary kind = refl
 
-opened_binary : (depth : ℕ) (kind : Kind) (bytes : List ℕ) → (nests kind && nat_le 256 depth) ≡ false → scan_binary.value_in depth kind bytes ≡ scan_binary.value_at kind bytes
+pub opened_binary : (depth : ℕ) (kind : Kind) (bytes : List ℕ) → (nests kind && nat_le 256 depth) ≡ false → scan_binary.value_in depth kind bytes ≡ scan_binary.value_at kind bytes
 unfolding scan_binary.value_in
 opened_binary depth kind bytes t = rw (nests_binary kind, t) refl
 
 -- a value of any kind that has a byte
-value_binary : (slot : Slot) (up : List Slot) (bytes : List ℕ) (kind : Kind) → has_ended slot ≡ false → kind_called slot ≡ Some kind → Waits wires.Binary slot (length (slot ∷ up)) (Some kind) → AreBytes bytes
+pub value_binary : (slot : Slot) (up : List Slot) (bytes : List ℕ) (kind : Kind) → has_ended slot ≡ false → kind_called slot ≡ Some kind → Waits wires.Binary slot (length (slot ∷ up)) (Some kind) → AreBytes bytes
     → seen (slot ∷ up) (item_at wires.Binary (slot ∷ up) false bytes) ≡ run wires.Binary bytes part.Item (slot ∷ up)
 value_binary slot up bytes kind h e w are =
     ap (λ s. seen (slot ∷ up) s) (value_at slot up bytes kind h e ∙ opened_binary (length (slot ∷ up)) kind bytes w.0)

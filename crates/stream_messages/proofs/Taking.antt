@@ -32,7 +32,7 @@ not_empty : (wire : Wire) (nest : List Slot) → IsReady wire nest → nest ≡ 
 not_empty wire [] h e = h
 not_empty wire (slot ∷ up) h e = absurd (cc)
 
-ready_body : (wire : Wire) (nest : List Slot) → IsReady wire nest → (found : Found) (bytes : List ℕ) → AreBytes bytes → RanTo wire found bytes (run wire bytes part.Item nest) → Bodies wire found nest bytes
+pub ready_body : (wire : Wire) (nest : List Slot) → IsReady wire nest → (found : Found) (bytes : List ℕ) → AreBytes bytes → RanTo wire found bytes (run wire bytes part.Item nest) → Bodies wire found nest bytes
 ready_body wire nest ready found bytes are h flag =
     by_step (item_at wire nest flag bytes) refl (subst (λ r. RanTo wire found bytes r) (sym (item_law wire nest flag bytes ready are)) h)
   where

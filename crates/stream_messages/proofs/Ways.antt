@@ -9,11 +9,11 @@ use Rattle.gate_hub.specs.declared.hub.LinkGot.{LinkGot}
 use Rattle.gate_hub.specs.declared.hub.LinkGot.TheVariants as got
 use Rattle.stream_messages.specs.declared.scan.Wire.{Wire}
 use Rattle.stream_messages.specs.declared.framer.Behind.TheVariants as behind
-use Rattle.stream_messages.specs.Framing.{FramerState, Stands, IsIdle}
+use Rattle.stream_messages.specs.Framing.{FramerState, Stands, Gives, IsIdle}
 use Rattle.stream_messages.specs.Filling.{ReadsInto, TakesIn}
 use Rattle.stream_messages.specs.Lanes.{Reads, Underway, SideGoes, StaysSent, Ends, FramesReads}
 use Rattle.stream_messages.proofs.Framing.{gives_due, ended_between}
-use Rattle.stream_messages.proofs.Links.{Gives, sent_same, sent_on, goes_nowhere, goes_twice, stays_open, begun, came_below, gave, not_ready_below, failed_below, end_after_end, asked}
+use Rattle.stream_messages.proofs.Links.{sent_same, sent_on, goes_nowhere, goes_twice, stays_open, begun, came_below, gave, not_ready_below, failed_below, end_after_end, asked}
 
 -- a read of a side that stood so is under way, and the framer stands so now
 abbrev pub WayGoes : (Meaning → Type 0) → (Meaning → Type 0) → ℕ → Side → FramerState → FramerState → Type 0

@@ -1,12 +1,13 @@
 -- A write in frames, of which the content is passed on.
-use Rattle.std.proofs.Common.{◌≡◌, ℕ, ◌+◌, ◌≤◌, List, ◌++◌, length, take, drop, Some, refl, sym, ap, ◌∙◌, subst, append_assoc, take-add}
+use Rattle.std.proofs.Common.{◌≡◌, ℕ, ◌+◌, ◌≤◌, List, [], ◌++◌, length, take, drop, Some, refl, sym, ap, ◌∙◌, subst, append_assoc, take-add}
 use Rattle.std.proofs.lemmas.List.{length-take-le}
 use Rattle.gate_hub.specs.Meaning.{Link, Wrote, Meaning, link_of, IsOpen}
 use Rattle.gate_hub.specs.Hubs.{Leads, LinkWrites, WriteLeads}
 use Rattle.gate_hub.specs.declared.hub.Side.{Side}
 use Rattle.gate_hub.specs.declared.hub.LinkPut.TheVariants as put
-use Rattle.stream_messages.specs.Stripping.{StripperState, StripsTo}
+use Rattle.stream_messages.specs.Stripping.{StripperState, behind_bytes, contents, StripsTo}
 use Rattle.stream_messages.specs.Lanes.{StaysReceived, StripsWrites}
+use Rattle.stream_messages.proofs.Stripping.{strips_on, takes_length}
 use Rattle.stream_messages.proofs.Links.{at_link, goes_nowhere, goes_by_call, received_same, writes_receive_nothing}
 
 -- a front of a length was taken
@@ -65,3 +66,28 @@ failed_write_below told told' k x s from piece leads = λ a outer tells is_open 
       goes_by_call k x (Wrote k x (length piece) put.Failed) (LinkWrites piece put.Failed) StaysReceived a led.0 (writes_receive_nothing piece put.Failed) led.2,
       (record outer { last_write = Some put.Failed }, refl, subst (λ o. StripsTo s outer.sent o) (sym (ap (λ (l : Link). l.sent) below)) strips),
     )
+
+-- ---- contents that were gathered
+
+-- Of the contents of the first bytes, these were sent, and nothing else.
+pub with_gathered : (told told' : Meaning → Type 0) (k : ℕ) (x : Side) (s t : StripperState) (from piece : List ℕ) (count n : ℕ) → t ≡ behind_bytes s (take n from) → take count piece ≡ contents s (take n from)
+    → Leads told told' (IsOpen k) (WriteLeads k x piece (put.Took count)) → StripsWrites told told' s t k x from (put.Took n)
+with_gathered told told' k x s t from piece count n behind are leads = λ a outer tells is_open strips.
+    let led = leads a tells is_open in
+    let inner = link_of (a.session k) x in
+    let below = at_link x (LinkWrites piece (put.Took count)) (a.session k) (led.0.session k) led.2.session in
+    let sent : (link_of (led.0.session k) x).sent ≡ inner.sent ++ contents s (take n from) = ap (λ (l : Link). l.sent) below ∙ ap (λ l. inner.sent ++ l) are in (
+      led.0,
+      led.1,
+      goes_by_call k x (Wrote k x (length piece) (put.Took count)) (LinkWrites piece (put.Took count)) StaysReceived a led.0 (writes_receive_nothing piece (put.Took count)) led.2,
+      (
+        record outer { sent = outer.sent ++ take n from; last_write = Some (put.Took n) },
+        refl,
+        subst (λ (u : StripperState). StripsTo u (outer.sent ++ take n from) (link_of (led.0.session k) x).sent) (sym behind)
+            (subst (λ o. StripsTo (behind_bytes s (take n from)) (outer.sent ++ take n from) o) (sym sent) (strips_on (take n from) s outer.sent inner.sent strips)),
+      ),
+    )
+
+-- there was no content
+pub none_gathered : (told : Meaning → Type 0) (k : ℕ) (x : Side) (s t : StripperState) (from : List ℕ) (n : ℕ) → t ≡ behind_bytes s (take n from) → contents s (take n from) ≡ [] → StripsWrites told told s t k x from (put.Took n)
+none_gathered told k x s t from n behind none = only_length told k x s t from n (takes_length s t (take n from) (behind, none))

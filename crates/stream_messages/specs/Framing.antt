@@ -49,6 +49,19 @@ pub record Stands (wire : Wire) (limit : ℕ) (s : FramerState) (received : List
   pub are : AreMessages wire limit received messages left
   pub out : GivesAll wire limit s.behind s.fresh left ended messages (given ++ s.due)
 
+-- this piece was handed out
+abbrev pub Gives : FramerState → FramerState → List ℕ → Type 0
+Gives s t piece =
+    (wire : Wire) (limit : ℕ) (received given : List ℕ) (ended : Bool) → Stands wire limit s received ended given → Stands wire limit t received ended (given ++ piece)
+
+-- nothing was handed out
+abbrev pub Keeps : FramerState → FramerState → Type 0
+Keeps s t = (wire : Wire) (limit : ℕ) (received given : List ℕ) (ended : Bool) → Stands wire limit s received ended given → Stands wire limit t received ended given
+
+-- and the side has ended
+abbrev pub KeepsEnded : FramerState → FramerState → Type 0
+KeepsEnded s t = (wire : Wire) (limit : ℕ) (received given : List ℕ) (ended : Bool) → Stands wire limit s received ended given → Stands wire limit t received true given
+
 -- what came last is the beginning of a message, or nothing, where messages may come
 abbrev pub EndsOpen : FramerState → Behind → Type 0
 EndsOpen s behind.Messages = IsTail s.wire s.limit s.fresh (rest s.fresh)

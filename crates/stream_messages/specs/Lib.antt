@@ -5,12 +5,14 @@ pub mod Binary
 pub mod Compact
 pub mod Scanning
 pub mod Feeding
+pub mod Fields
 pub mod Fronts
 pub mod Messages
 pub mod Searching
 pub mod Framing
 pub mod Filling
 pub mod Stripping
+pub mod Gathering
 pub mod Lanes
 pub mod Sessions
 pub mod Slots

@@ -33,6 +33,10 @@ Messages wire limit bytes [] tail = IsTail wire limit bytes tail
 Messages wire limit bytes (message ∷ messages) tail =
     (behind : List ℕ) × (bytes ≡ message ++ behind) × IsFirst wire limit whole message × Messages wire limit behind messages tail
 
+-- it is cut so into some messages and a tail
+abbrev pub IsCut : Wire → ℕ → List ℕ → Type 0
+IsCut wire limit bytes = (messages : List (List ℕ)) × (tail : Tail) × Messages wire limit bytes messages tail
+
 -- whole messages, one behind another, and what stands behind them
 abbrev pub AreMessages : Wire → ℕ → List ℕ → List (List ℕ) → List ℕ → Type 0
 AreMessages wire limit bytes [] left = bytes ≡ left

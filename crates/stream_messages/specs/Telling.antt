@@ -2,7 +2,7 @@
 use Rattle.std.specs.Prelude.{◌≡◌, ℕ, ◌+◌, true, false, List, [], Option, None, Some, length}
 use Rattle.std.specs.List.{slice_get}
 use Rattle.gate_hub.specs.Meaning.{Link, Told, Started, Meaning}
-use Rattle.gate_hub.specs.Hubs.{Counts}
+use Rattle.gate_hub.specs.Hubs.{Counts, NotStarted}
 use Rattle.gate_hub.specs.declared.hub.Side.{Side}
 use Rattle.gate_hub.specs.declared.hub.HubNext.{HubNext}
 use Rattle.gate_hub.specs.declared.hub.HubNext.TheVariants as event
@@ -52,6 +52,10 @@ counts_over below missing = record { faults = below.faults; link_faults = λ k s
 -- it tells over each meaning that is told below
 abbrev pub TellsOver : (Meaning → Type 0) → Wrapping → Option Slots → Meaning → Type 0
 TellsOver told w slots outer = (inner : Meaning) × told inner × Tells w slots inner outer
+
+-- each meaning that is told before the start, of no session, is told so
+abbrev pub TellsFresh : (Meaning → Type 0) → (Meaning → Type 0) → Type 0
+TellsFresh told told' = (m : Meaning) → told m → NotStarted m → ((k : ℕ) → (m.session k).announced ≡ false) → told' m
 
 -- ---- calls on the slots, of which there may be none yet
 

@@ -1,10 +1,10 @@
 //! What came of a side without lengths, and is to be handed out as frames.
-ghost use Rattle.std.specs.Prelude.{◌≡◌, ◌≢◌, ◌+◌, ◌<◌, ◌≤◌, ◌^◌, [], ◌∷◌, ◌++◌, ℕ, List, Bool, true, false, length, take, drop, min, IfOk};
+ghost use Rattle.std.specs.Prelude.{◌≡◌, ◌≢◌, ◌+◌, ◌<◌, ◌≤◌, ◌^◌, [], ◌∷◌, ◌++◌, true, false, length, take, drop, min, IfOk};
 ghost use Rattle.std.specs.Int.{w32, to_be_bytes};
 ghost use Rattle.gate_base.specs.Causes.{Rose};
 ghost use Rattle.gate_hub.specs.Hubs.{Later};
 ghost use Rattle.stream_messages.specs.Filling.{ReadsInto, Appends, TakesIn, count_of};
-ghost use Rattle.stream_messages.specs.Framing.{new_framer, Stands, IsIdle, IsOut};
+ghost use Rattle.stream_messages.specs.Framing.{new_framer, Gives, Keeps, KeepsEnded, IsIdle, IsOut};
 ghost use Rattle.stream_messages.specs.Messages.{mark};
 
 use crate::scan::Wire;
@@ -135,8 +135,7 @@ impl Framer {
     pub fn hand_out(&mut self, into: &mut [u8]) -> usize
         ensures within { result ≤ length into.new }
         ensures size { length into.new ≡ length into.old }
-        ensures stands { (wire : Wire) (limit : ℕ) (received given : List ℕ) (ended : Bool) → Stands wire limit self.old received ended given
-            → Stands wire limit self.new received ended (given ++ take result into.new) }
+        ensures stands { Gives self.old self.new (take result into.new) }
         ensures none { result ≡ 0 → 0 < length into.old → (self.new ≡ self.old) × IsIdle self.new }
         ensures some { 0 < length self.old.due → 0 < length into.old → 0 < result }
         ensures out { IsOut self.old → result ≡ 0 }
@@ -153,8 +152,7 @@ impl Framer {
 
     /// Whether bytes are to be handed out, or what comes next can be made due.
     fn has_due(&mut self) -> bool
-        ensures stands { (wire : Wire) (limit : ℕ) (received given : List ℕ) (ended : Bool) → Stands wire limit self.old received ended given
-            → Stands wire limit self.new received ended given }
+        ensures stands { Keeps self.old self.new }
         ensures some { result ≡ true → 0 < length self.new.due }
         ensures none { result ≡ false → (self.new ≡ self.old) × IsIdle self.new }
         ensures out { IsOut self.old → result ≡ false }
@@ -168,8 +166,7 @@ impl Framer {
     /// Makes what comes next due, where that is known, and says so.
     fn go_on(&mut self) -> bool
         requires { self.old.due ≡ [] }
-        ensures stands { (wire : Wire) (limit : ℕ) (received given : List ℕ) (ended : Bool) → Stands wire limit self.old received ended given
-            → Stands wire limit self.new received ended given }
+        ensures stands { Keeps self.old self.new }
         ensures some { result ≡ true → 0 < length self.new.due }
         ensures none { result ≡ false → (self.new ≡ self.old) × IsIdle self.new }
         ensures out { IsOut self.old → result ≡ false }
@@ -186,8 +183,7 @@ impl Framer {
     fn find(&mut self)
         requires due { self.old.due ≡ [] }
         requires messages { self.old.behind ≡ Behind.Messages }
-        ensures stands { (wire : Wire) (limit : ℕ) (received given : List ℕ) (ended : Bool) → Stands wire limit self.old received ended given
-            → Stands wire limit self.new received ended given }
+        ensures stands { Keeps self.old self.new }
         ensures none { self.new.due ≡ [] → (self.new ≡ self.old) × IsIdle self.new }
         ensures out { self.old.fresh ≡ [] → self.new.due ≡ [] }
     {
@@ -235,8 +231,7 @@ impl Framer {
     pub fn end(&mut self) -> bool
         requires idle { IsIdle self.old }
         requires messages { self.old.behind ≡ Behind.Messages }
-        ensures stands { (wire : Wire) (limit : ℕ) (received given : List ℕ) (ended : Bool) → Stands wire limit self.old received ended given
-            → Stands wire limit self.new received true given }
+        ensures stands { KeepsEnded self.old self.new }
         ensures inside { result ≡ true → (0 < length self.old.fresh) × (0 < length self.new.due) }
         ensures none { result ≡ false → (self.new ≡ self.old) × (self.old.fresh ≡ []) }
     {

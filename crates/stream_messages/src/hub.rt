@@ -6,7 +6,7 @@ ghost use Rattle.gate_hub.specs.Hubs.{Leads, Later, NotStarted, HasStarted, Star
 ghost use Rattle.stream_messages.specs.declared.lanes.Wrapping.{Wrapping};
 ghost use Rattle.stream_messages.specs.Laws.{bytes_over};
 ghost use Rattle.stream_messages.specs.Telling.{Follows, GoesInSlots, HasNoSlot, GivesBack};
-ghost use Rattle.stream_messages.specs.Telling.{TellsOver, counts_over};
+ghost use Rattle.stream_messages.specs.Telling.{TellsFresh, TellsOver, counts_over};
 
 use crate::lanes::Wrapping;
 use crate::scan::Wire;
@@ -43,8 +43,7 @@ impl<'h, H: Hub> UnframedHub<'h, H> {
         ensures same_reference { result.inner.ghost_name ≡ inner.entry.ghost_name }
         ensures wrapping { result.wrapping ≡ record { client = client; upstream = upstream; limit = limit } }
         ensures fresh { (result.inner.now ≡ inner.old) × (result.slots ≡ None) × (result.missing ≡ 0) }
-        ensures tells { (m : Meaning) → H.tells inner.old m → NotStarted m → ((k : ℕ) → (m.session k).announced ≡ false) →
-            TellsOver (H.tells result.inner.now) result.wrapping result.slots m }
+        ensures tells { TellsFresh (H.tells inner.old) (TellsOver (H.tells result.inner.now) result.wrapping result.slots) }
         ensures counts { counts_over (H.counts result.inner.now) result.missing ≡ counts_over (H.counts inner.old) 0 }
     {
         let wrapping = Wrapping {

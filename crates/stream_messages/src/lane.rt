@@ -6,11 +6,15 @@ ghost use Rattle.stream_messages.specs.Framing.{IsIdle};
 ghost use Rattle.stream_messages.specs.Lanes.{new_lane, FramesReads, StripsWrites, LaneGoes, Ends};
 
 use crate::framer::{Behind, Framer};
+use crate::gathering::gather;
 use crate::scan::Wire;
 use crate::stripper::Stripper;
 use gate_base::OutOfMemory;
 use gate_hub::{Hub, LinkGot, LinkPut, Side};
 use std::alloc::Global;
+
+/// Contents of fewer bytes are put together, so many at the most.
+const GATHERED: usize = 1024;
 
 /// What came of the side, as frames, and what is written to it, without their lengths.
 #[derive(Drop)]
@@ -58,7 +62,7 @@ impl Lane {
 
     /// Writes to a side of session k the front of a slice of frames, which isn't empty.
     ///
-    /// At most one content is passed on, in one call of the hub, so a call that fails or isn't ready takes nothing.
+    /// What is passed on goes in one call of the hub, so a call that fails or isn't ready takes nothing.
     pub fn write<H: Hub>(&mut self, hub: &mut H, k: u64, side: Side, from: &[u8]) -> LinkPut
         requires { 0 < length from.now }
         ensures within { TookWithin from.now result }
@@ -147,7 +151,7 @@ fn end(framer: &mut Framer, into: &mut [u8]) -> LinkGot
     LinkGot::End
 }
 
-/// Passes on what `from` has of the content of one frame.
+/// Passes on the contents of the frames in one call of the hub: a long one alone, and short ones together.
 fn write_contents<H: Hub>(
     stripper: &mut Stripper,
     hub: &mut H,
@@ -169,10 +173,50 @@ fn write_contents<H: Hub>(
         *stripper = behind;
         return LinkPut::Took(head);
     }
+    if head + count < from.len() && count < GATHERED {
+        return write_gathered(stripper, hub, k, side, from);
+    }
     match hub.write(k, side, &from[head..head + count]) {
         LinkPut::Took(taken) => {
             *stripper = behind.passed(taken);
             LinkPut::Took(head + taken)
+        }
+        LinkPut::NotReady => LinkPut::NotReady,
+        LinkPut::Failed => LinkPut::Failed,
+    }
+}
+
+/// Passes on what fits in a room of the contents of the frames, in one call of the hub.
+fn write_gathered<H: Hub>(
+    stripper: &mut Stripper,
+    hub: &mut H,
+    k: u64,
+    side: Side,
+    from: &[u8],
+) -> LinkPut
+    requires { 0 < length from.now }
+    ensures within { TookWithin from.now result }
+    ensures goes { StripsWrites (H.tells hub.old) (H.tells hub.new) stripper.old stripper.new k side from.now result }
+    ensures later { Later (H.counts hub.old) (H.counts hub.new) }
+    ensures kept { H.kept hub.new ≡ H.kept hub.old }
+    ensures cause { result ≡ LinkPut.Failed → Rose ((H.counts hub.old).link_faults k side) ((H.counts hub.new).link_faults k side) }
+    ensures wait { result ≡ LinkPut.NotReady → Rose ((H.counts hub.old).waits k side) ((H.counts hub.new).waits k side) }
+{
+    let mut room = [0; GATHERED];
+    let all = gather(stripper, from, &mut room);
+    if all.filled == 0 {
+        *stripper = all.behind;
+        return LinkPut::Took(all.taken);
+    }
+    match hub.write(k, side, &room[..all.filled]) {
+        LinkPut::Took(count) if count == all.filled => {
+            *stripper = all.behind;
+            LinkPut::Took(all.taken)
+        }
+        LinkPut::Took(count) => {
+            let sent = gather(stripper, from, &mut room[..count]);
+            *stripper = sent.behind;
+            LinkPut::Took(sent.taken)
         }
         LinkPut::NotReady => LinkPut::NotReady,
         LinkPut::Failed => LinkPut::Failed,

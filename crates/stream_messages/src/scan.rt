@@ -3,6 +3,7 @@ ghost use Rattle.std.specs.Prelude.{◌≡◌, ◌<◌, ℕ, List, [], length, t
 ghost use Rattle.stream_messages.specs.Feeding.{HasRead, Answers, Passes, TakesOne};
 ghost use Rattle.stream_messages.specs.Scanning.{begins, first_part, tells_bools, step_of, item_of, field_in, value_in, waits, settles_in, takes};
 
+use crate::fields::{header_size, pass_fields};
 use crate::levels::{Settled, settle};
 use crate::parts::{BinaryPart, CompactPart, Next, Part, any_or_end};
 use crate::{binary, compact};
@@ -73,6 +74,19 @@ impl Scan {
         }
     }
 
+    /// Begins anew, before the first byte of a message of at most `limit` bytes.
+    pub fn restart(&mut self, wire: Wire, limit: usize)
+        requires { 0 < limit }
+        ensures begins { self.new ≡ begins wire limit }
+        ensures read { HasRead self.new [] }
+    {
+        self.wire = wire;
+        self.limit = limit;
+        self.taken = 0;
+        self.part = first_part(wire);
+        self.nest.restart(Slot::Fields(0));
+    }
+
     /// Goes on with the bytes that came next. Every earlier answer was `More`.
     pub fn feed(&mut self, piece: &[u8]) -> Cut
         ensures { (front : List ℕ) → HasRead self.old front → Answers self.old front piece.now result self.new }
@@ -90,16 +104,29 @@ impl Scan {
         Cut::More
     }
 
-    // Passes over bytes of any value at once, but not over the last of them, of the piece or of the limit.
+    // Passes over what is known to belong to the message, but not over the last byte, of the piece or of the limit.
     #[inline(always)]
     fn pass(&mut self, piece: &[u8]) -> usize
         requires { 0 < length piece.now }
         ensures within { result < length piece.now }
         ensures passes { (front : List ℕ) → HasRead self.old front → Passes self.old front (take result piece.now) self.new }
     {
-        let Part::Any(left) = self.part else {
-            return 0;
-        };
+        match (self.wire, self.part) {
+            (_, Part::Any(left)) => self.pass_any(left, piece),
+            (Wire::Binary, Part::Item) => self.pass_fields(piece),
+            (Wire::Binary, Part::Binary(BinaryPart::Start)) => self.pass_header(piece),
+            _ => 0,
+        }
+    }
+
+    // Passes over bytes of any value.
+    #[inline(always)]
+    fn pass_any(&mut self, left: u32, piece: &[u8]) -> usize
+        requires some { 0 < length piece.now }
+        requires at { self.old.part ≡ Part.Any left }
+        ensures within { result < length piece.now }
+        ensures passes { (front : List ℕ) → HasRead self.old front → Passes self.old front (take result piece.now) self.new }
+    {
         let room = self.limit.saturating_sub(self.taken);
         let most = (left as usize).min(room).min(piece.len());
         if most <= 1 {
@@ -109,6 +136,38 @@ impl Scan {
         self.taken += count;
         self.part = Part::Any(left - count as u32);
         count
+    }
+
+    // Passes over whole fields of a struct.
+    fn pass_fields(&mut self, piece: &[u8]) -> usize
+        requires some { 0 < length piece.now }
+        requires at { (self.old.wire ≡ Wire.Binary) × (self.old.part ≡ Part.Item) }
+        ensures within { result < length piece.now }
+        ensures passes { (front : List ℕ) → HasRead self.old front → Passes self.old front (take result piece.now) self.new }
+    {
+        let room = self.limit.saturating_sub(self.taken).min(piece.len());
+        let count = pass_fields(&mut self.nest, &piece[..room.saturating_sub(1)]);
+        self.taken += count;
+        count
+    }
+
+    // Passes over a whole header, and over whole fields behind it.
+    fn pass_header(&mut self, piece: &[u8]) -> usize
+        requires some { 0 < length piece.now }
+        requires at { (self.old.wire ≡ Wire.Binary) × (self.old.part ≡ Part.Binary BinaryPart.Start) }
+        ensures within { result < length piece.now }
+        ensures passes { (front : List ℕ) → HasRead self.old front → Passes self.old front (take result piece.now) self.new }
+    {
+        let Some(Slot::Fields(_)) = self.nest.top() else {
+            return 0;
+        };
+        let room = self.limit.saturating_sub(self.taken).min(piece.len());
+        let Some(size) = header_size(&piece[..room.saturating_sub(1)]) else {
+            return 0;
+        };
+        self.taken += size;
+        self.part = Part::Item;
+        size + self.pass_fields(&piece[size..])
     }
 
     // Goes on with one byte, in the words of the protocol's reader.

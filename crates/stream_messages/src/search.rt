@@ -81,7 +81,7 @@ impl Search {
         ensures wire { (self.new.wire ≡ self.old.wire) × (self.new.limit ≡ self.old.limit) }
         ensures searches { (held : List ℕ) → Searches self.new held }
     {
-        self.scan = Scan::start(self.wire, self.limit);
+        self.scan.restart(self.wire, self.limit);
         self.scanned = 0;
     }
 }

@@ -1,6 +1,6 @@
 //! What is written to a side without lengths: the frames, of which the content is passed on.
-ghost use Rattle.std.specs.Prelude.{◌≡◌, ◌+◌, ◌<◌, ◌≤◌, [], ◌++◌, ℕ, List, length, take};
-ghost use Rattle.stream_messages.specs.Stripping.{StripperState, StripsTo, new_stripper};
+ghost use Rattle.std.specs.Prelude.{◌≡◌, ◌+◌, ◌<◌, ◌≤◌, length, take};
+ghost use Rattle.stream_messages.specs.Stripping.{StripperState, IsBehindLength, IsBehindContent, new_stripper};
 
 use std::marker::Model;
 
@@ -49,7 +49,7 @@ impl Stripper {
     pub fn behind_length(&self, from: &[u8]) -> (Stripper, usize)
         ensures within { result.1 ≤ length from.now }
         ensures some { result.0.left ≡ 0 → 0 < length from.now → 0 < result.1 }
-        ensures strips { (written sent : List ℕ) → StripsTo self.now written sent → StripsTo result.0 (written ++ take result.1 from.now) sent }
+        ensures behind { IsBehindLength self.now (take result.1 from.now) result.0 }
     {
         if self.left > 0 {
             return (self.passed(0), 0);
@@ -77,8 +77,7 @@ impl Stripper {
     /// How far it has come behind so many bytes of the content, of which as many must be left.
     pub fn passed(&self, count: usize) -> Stripper
         requires { count ≤ self.now.left }
-        ensures strips { (written sent piece : List ℕ) → length piece ≡ count → StripsTo self.now written sent
-            → StripsTo result (written ++ piece) (sent ++ piece) }
+        ensures behind { IsBehindContent self.now count result }
         ensures left { result.left + count ≡ self.now.left }
     {
         Stripper {

@@ -1,6 +1,7 @@
 -- A stream is cut into messages and a tail in one way.
 use Rattle.std.proofs.Common.{◌≡◌, ◌⊎◌, inl, inr, ℕ, ◌+◌, ◌<◌, ◌≤◌, List, [], ◌∷◌, ◌++◌, length, take, refl, sym, ap, ◌∙◌, subst, arith, length-append}
 use Rattle.std.proofs.lemmas.List.{take_at, take-append-le}
+use Rattle.unframed_laws.specs.Cutting.{Pieces, ArePieces}
 use Rattle.stream_messages.specs.declared.scan.Wire.{Wire}
 use Rattle.stream_messages.specs.Fronts.{Found, whole, cut, bad, IsFront}
 use Rattle.stream_messages.specs.Messages.{Tail, rest, refused, over, BeginsUpTo, IsFirst, IsTail, Messages}
@@ -84,3 +85,12 @@ one_cut wire limit bytes (x ∷ xs) (y ∷ ys) t u h i =
     let s = same_first wire limit whole whole x y h.0 i.0 whole_is whole_is h.2 i.2 (sym h.1 ∙ i.1) in
     let m = one_cut wire limit i.0 xs ys t u (subst (λ l. Messages wire limit l xs t) s.2 h.3) i.3 in
     (ap (λ z. z ∷ xs) s.1 ∙ ap (λ z. y ∷ z) m.0, m.1)
+
+abbrev pieces : List (List ℕ) → Tail → Pieces
+pieces messages tail = record { messages = messages; tail = tail }
+
+pieces_are : (x y : Pieces) → x.messages ≡ y.messages → x.tail ≡ y.tail → x ≡ y
+pieces_are x y e f = ap (λ (messages : List (List ℕ)). pieces messages x.tail) e ∙ ap (λ (tail : Tail). pieces y.messages tail) f
+
+pub same_pieces : (wire : Wire) (limit : ℕ) (bytes : List ℕ) (x y : Pieces) → ArePieces wire limit bytes x → ArePieces wire limit bytes y → x ≡ y
+same_pieces wire limit bytes x y h g = (let same = one_cut wire limit bytes x.messages y.messages x.tail y.tail h g in pieces_are x y same.0 same.1)

@@ -1,2 +1,3 @@
 -- What the laws say.
+pub mod Cutting
 pub mod Wrapped

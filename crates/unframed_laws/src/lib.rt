@@ -3,22 +3,20 @@
 //! Each law is the contract of a function that does nothing. The code rests on none of them.
 #![tactic(auto)]
 
-ghost use Rattle.std.specs.Prelude.{◌≡◌, ◌<◌, ◌^◌, true, List, ℕ, Option, length, take};
+ghost use Rattle.std.specs.Prelude.{◌≡◌, List, ℕ, Option, length};
 ghost use Rattle.gate_base.specs.Bytes.{AreBytes};
-ghost use Rattle.protocol_traits.specs.declared.fault.Fault.{Fault};
+ghost use Rattle.gate_hub.specs.Meaning.{Meaning};
 ghost use Rattle.protocol_traits.specs.declared.fault.Reason.TheVariants as reasons;
 ghost use Rattle.binary_laws.specs.Faults.{IsWhole, StandsAt, FaultAt};
 ghost use Rattle.compact_laws.specs.Faults.{IsWhole as IsWholeCompact, StandsAt as StandsAtCompact, FaultAt as FaultAtCompact};
+ghost use Rattle.stream_messages.specs.declared.lanes.Wrapping.{Wrapping};
 ghost use Rattle.stream_messages.specs.declared.scan.Wire.TheVariants as wires;
 ghost use Rattle.stream_messages.specs.declared.scan.Wire.{Wire};
-ghost use Rattle.stream_messages.specs.Fronts.{Found, whole, cut, bad, IsFront};
-ghost use Rattle.stream_messages.specs.Messages.{Tail, Messages};
-ghost use Rattle.gate_hub.specs.declared.hub.Side.{Side};
-ghost use Rattle.gate_hub.specs.Meaning.{Meaning, link_of};
-ghost use Rattle.stream_messages.specs.declared.lanes.Wrapping.{Wrapping};
 ghost use Rattle.stream_messages.specs.declared.slots.Slots.{Slots};
+ghost use Rattle.stream_messages.specs.Fronts.{Found, whole, cut, bad, IsFront};
 ghost use Rattle.stream_messages.specs.Telling.{Tells};
-ghost use Rattle.unframed_laws.specs.Wrapped.{SideIsTold};
+ghost use Rattle.unframed_laws.specs.Cutting.{IsCutBefore, HasFault, Pieces, ArePieces};
+ghost use Rattle.unframed_laws.specs.Wrapped.{IsLimited, AreSidesTold};
 
 use stream_messages::a_stream_is_cut;
 
@@ -35,10 +33,8 @@ pub fn a_binary_front_is_found_by_the_grammar()
     ensures is_whole { (front : List ℕ) → IsWhole front → IsFront wires.Binary whole front }
     ensures cut { (front : List ℕ) → AreBytes front → IsFront wires.Binary cut front → StandsAt reasons.Truncated front (length front) }
     ensures is_cut { (front : List ℕ) → AreBytes front → StandsAt reasons.Truncated front (length front) → IsFront wires.Binary cut front }
-    ensures bad { (front : List ℕ) → AreBytes front → ((k : ℕ) → k < length front → IsFront wires.Binary cut (take k front)) → IsFront wires.Binary bad front
-        → (f : Fault) × FaultAt front f × (f.reason ≡ reasons.Truncated → ⊥) × (f.reason ≡ reasons.Trailing → ⊥) }
-    ensures is_bad { (front : List ℕ) (f : Fault) → AreBytes front → FaultAt front f → (f.reason ≡ reasons.Truncated → ⊥) → (f.reason ≡ reasons.Trailing → ⊥)
-        → IsFront wires.Binary bad front }
+    ensures bad { (front : List ℕ) → AreBytes front → IsCutBefore wires.Binary front → IsFront wires.Binary bad front → HasFault FaultAt front }
+    ensures is_bad { (front : List ℕ) → AreBytes front → HasFault FaultAt front → IsFront wires.Binary bad front }
 {}
 
 /// In the Compact protocol a front is found whole exactly where it spells a message of depth at most 256, and cut exactly where it begins
@@ -49,24 +45,20 @@ pub fn a_compact_front_is_found_by_the_grammar()
     ensures is_whole { (front : List ℕ) → IsWholeCompact front → IsFront wires.Compact whole front }
     ensures cut { (front : List ℕ) → AreBytes front → IsFront wires.Compact cut front → StandsAtCompact reasons.Truncated front (length front) }
     ensures is_cut { (front : List ℕ) → AreBytes front → StandsAtCompact reasons.Truncated front (length front) → IsFront wires.Compact cut front }
-    ensures bad { (front : List ℕ) → AreBytes front → ((k : ℕ) → k < length front → IsFront wires.Compact cut (take k front)) → IsFront wires.Compact bad front
-        → (f : Fault) × FaultAtCompact front f × (f.reason ≡ reasons.Truncated → ⊥) × (f.reason ≡ reasons.Trailing → ⊥) }
-    ensures is_bad { (front : List ℕ) (f : Fault) → AreBytes front → FaultAtCompact front f → (f.reason ≡ reasons.Truncated → ⊥) → (f.reason ≡ reasons.Trailing → ⊥)
-        → IsFront wires.Compact bad front }
+    ensures bad { (front : List ℕ) → AreBytes front → IsCutBefore wires.Compact front → IsFront wires.Compact bad front → HasFault FaultAtCompact front }
+    ensures is_bad { (front : List ℕ) → AreBytes front → HasFault FaultAtCompact front → IsFront wires.Compact bad front }
 {}
 
 /// A stream is cut into whole messages and a tail in one way at most.
 pub fn a_stream_is_cut_in_one_way()
-    ensures { (wire : Wire) (limit : ℕ) (stream : List ℕ) (messages others : List (List ℕ)) (tail other : Tail) → Messages wire limit stream messages tail
-        → Messages wire limit stream others other → (messages ≡ others) × (tail ≡ other) }
+    ensures { (wire : Wire) (limit : ℕ) (stream : List ℕ) (x y : Pieces) → ArePieces wire limit stream x → ArePieces wire limit stream y → x ≡ y }
 {}
 
 /// Over each session that the hub below tells to be announced, a wrapping hub tells of a side without lengths: what was read of it is a
 /// front of the frames of what the hub below received, and all of them where the last read was not ready or found the end; what the hub
 /// below sent to it is what was written, without the lengths. A side that is passed through received and sent the same.
 pub fn wrapped_sides_are_framed()
-    ensures { (w : Wrapping) (slots : Option Slots) (below told : Meaning) (k : ℕ) (side : Side) → 0 < w.limit → w.limit < 2 ^ 31 → Tells w slots below told
-        → AreBytes (link_of (below.session k) side).received → (below.session k).announced ≡ true → SideIsTold w side (below.session k) (told.session k) }
+    ensures { (w : Wrapping) (slots : Option Slots) (below told : Meaning) → IsLimited w → Tells w slots below told → AreSidesTold w below told }
 {
     a_stream_is_cut();
 }

@@ -15,6 +15,6 @@ both cuts w lanes s t side.Client some small bytes h = side_is w.client w.limit 
 both cuts w lanes s t side.Upstream some small bytes h = side_is w.upstream w.limit lanes.upstream s.upstream t.upstream cuts some small bytes h.upstream
 
 pub returns : goal.returns
-returns c = λ w slots below told k x some small tells bytes a.
+returns c = λ w slots below told limited tells k x bytes a.
     let t = tells.announced k a in
-    both c.a_stream_is_cut.ensures w t.lanes (below.session k) (told.session k) x some small bytes t.wraps
+    both c.a_stream_is_cut.ensures w t.lanes (below.session k) (told.session k) x limited.0 limited.1 bytes t.wraps

@@ -1,11 +1,12 @@
 use Rattle.std.proofs.Common.{◌+◌, ◌-◌, ◌≤◌, length, take, drop, arith}
 use Rattle.std.proofs.lemmas.List.{length-take, take-take}
+use Rattle.stream_messages.proofs.Stripping.{takes_length, passes_content}
 use Rattle.stream_messages.proofs.Writes.{only_length, with_content, not_written, failed_write_below}
 use Rattle.stream_messages.proofs.lane.write_contents.Goals as goal
 
 pub returns-then-count-eq0-clause-goes : goal.returns-then-count-eq0-clause-goes
 returns-then-count-eq0-clause-goes g c =
-    only_length (g.H.Hub.tells c.args.hub.now) c.args.k c.args.side c.args.stripper.now c.behind_length-behind.result.0 c.args.from.now c.behind_length-behind.result.1 c.behind_length-behind.ensures.strips
+    only_length (g.H.Hub.tells c.args.hub.now) c.args.k c.args.side c.args.stripper.now c.behind_length-behind.result.0 c.args.from.now c.behind_length-behind.result.1 (takes_length c.args.stripper.now c.behind_length-behind.result.0 (take c.behind_length-behind.result.1 c.args.from.now) c.behind_length-behind.ensures.behind)
 
 pub returns-in-Took-clause-goes : goal.returns-in-Took-clause-goes
 returns-in-Took-clause-goes g c =
@@ -15,7 +16,7 @@ returns-in-Took-clause-goes g c =
     let most = (head + c.min-count.result) - head in
     let piece = take most (drop head from) in
     let within : n ≤ length piece = c.in-Took.ensures.within.1 in
-    with_content (g.H.Hub.tells c.args.hub.now) (g.H.Hub.tells c.write.new.self) c.args.k c.args.side c.args.stripper.now c.behind_length-behind.result.0 c.passed.result from piece head n c.behind_length-behind.ensures.strips c.passed.ensures.strips within
+    with_content (g.H.Hub.tells c.args.hub.now) (g.H.Hub.tells c.write.new.self) c.args.k c.args.side c.args.stripper.now c.behind_length-behind.result.0 c.passed.result from piece head n (takes_length c.args.stripper.now c.behind_length-behind.result.0 (take head from) c.behind_length-behind.ensures.behind) (passes_content c.behind_length-behind.result.0 c.passed.result n c.passed.ensures.behind) within
     (take-take n most (drop head from) (omega (arith, within, length-take most (drop head from)))) c.in-Took.ensures.leads
 
 pub returns-in-NotReady-clause-goes : goal.returns-in-NotReady-clause-goes

@@ -1,18 +1,17 @@
-use Rattle.std.proofs.Common.{◌≡◌, ◌∙◌, ◌+◌, ◌-◌, ◌≤◌, List, ℕ, [], ◌++◌, length, take, refl, sym, ap, subst, arith, append-nil}
+use Rattle.std.proofs.Common.{◌≡◌, ◌∙◌, ◌+◌, ◌-◌, ◌≤◌, List, ℕ, [], ◌++◌, length, take, refl, sym, ap, arith}
 use Rattle.std.specs.Int.{w32, from_be_bytes}
 use Rattle.std.proofs.lemmas.List.{length-take-le, take_all}
 use borrow.Rule.Slice.PartMut.{put_mid}
-use Rattle.stream_messages.specs.Stripping.{StripperState, StripsTo}
-use Rattle.stream_messages.proofs.Stripping.{length_goes_on, length_whole}
+use Rattle.stream_messages.specs.Stripping.{StripperState}
+use Rattle.stream_messages.proofs.Stripping.{length_short, length_full}
 use Rattle.stream_messages.proofs.Finding.{front_written, written_size}
 use Rattle.stream_messages.proofs.stripper.Stripper.behind_length.Goals as goal
 
-pub returns-then-self-gt0-clause-strips : goal.returns-then-self-gt0-clause-strips
-returns-then-self-gt0-clause-strips c = λ written sent strips.
-    subst (λ o. StripsTo c.passed.result (written ++ []) o) (append-nil sent) (c.passed.ensures.strips written sent [] refl strips)
+pub returns-then-self-gt0-clause-behind : goal.returns-then-self-gt0-clause-behind
+returns-then-self-gt0-clause-behind c = ((c.passed.ensures.behind [] refl).0, refl)
 
-pub returns-then-known-lt-LENGTH-clause-strips : goal.returns-then-known-lt-LENGTH-clause-strips
-returns-then-known-lt-LENGTH-clause-strips c = λ written sent strips.
+pub returns-then-known-lt-LENGTH-clause-behind : goal.returns-then-known-lt-LENGTH-clause-behind
+returns-then-known-lt-LENGTH-clause-behind c =
     let i = c.self.inside in
     let n = c.min-count.result in
     let from = c.args.from.now in
@@ -21,12 +20,12 @@ returns-then-known-lt-LENGTH-clause-strips c = λ written sent strips.
     let front = front_written i.head c.copy_from_slice.new.self from i.known n ((i.known + n) - i.known) c.copy_from_slice.ensures.after within some in
     let same : take i.known i.head ≡ c.args.self.now.length_bytes = ap (λ (s : StripperState). s.length_bytes) c.self.view_is in
     let size : length c.args.self.now.length_bytes ≡ i.known = ap (λ (l : List ℕ). length l) (sym same) ∙ length-take-le i.known i.head within in
-    length_goes_on c.args.self.now _ written sent (take n from) strips (omega (arith, ap (λ (s : StripperState). s.left) c.self.view_is, c.if-self-gt0.false))
+    length_short c.args.self.now _ (take n from) (omega (arith, ap (λ (s : StripperState). s.left) c.self.view_is, c.if-self-gt0.false))
     (omega (arith, size, length-take-le n from some, c.if-known-lt-LENGTH.true))
     (ap (λ (l : List ℕ). record { length_bytes = l; left = 0 }) (front ∙ ap (λ l. l ++ take n from) same))
 
-pub returns-clause-strips : goal.returns-clause-strips
-returns-clause-strips c = λ written sent strips.
+pub returns-clause-behind : goal.returns-clause-behind
+returns-clause-behind c =
     let i = c.self.inside in
     let n = c.min-count.result in
     let from = c.args.from.now in
@@ -40,6 +39,6 @@ returns-clause-strips c = λ written sent strips.
     let size : length c.args.self.now.length_bytes ≡ i.known = ap (λ (l : List ℕ). length l) (sym same) ∙ length-take-le i.known i.head within in
     let all : whole ≡ c.args.self.now.length_bytes ++ take n from =
     sym (take_all (i.known + n) whole (omega (arith, full, c.self.told, c.if-known-lt-LENGTH.false))) ∙ (front ∙ ap (λ l. l ++ take n from) same) in
-    length_whole c.args.self.now _ written sent (take n from) strips (omega (arith, ap (λ (s : StripperState). s.left) c.self.view_is, c.if-self-gt0.false))
+    length_full c.args.self.now _ (take n from) (omega (arith, ap (λ (s : StripperState). s.left) c.self.view_is, c.if-self-gt0.false)) (omega (arith, size, c.self.invariant.0))
     (omega (arith, size, length-take-le n from some, few, c.if-known-lt-LENGTH.false))
     (ap (λ (k : ℕ). record { length_bytes = []; left = k }) (c.from_be_bytes.ensures ∙ ap (λ (l : List ℕ). from_be_bytes w32 l) all))

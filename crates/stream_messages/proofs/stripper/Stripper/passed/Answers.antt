@@ -1,9 +1,10 @@
-use Rattle.std.proofs.Common.{arith, ap}
+use Rattle.std.proofs.Common.{◌-◌, ◌∙◌, sym, arith, ap}
 use Rattle.stream_messages.specs.Stripping.{StripperState}
-use Rattle.stream_messages.proofs.Stripping.{content_goes_on}
+use Rattle.stream_messages.proofs.Stripping.{content_piece}
 use Rattle.stream_messages.proofs.stripper.Stripper.passed.Goals as goal
 
-pub returns-clause-strips : goal.returns-clause-strips
-returns-clause-strips c = λ written sent piece size strips.
-    content_goes_on c.args.self.now _ written sent piece strips (ap (λ (s : StripperState). s.length_bytes) c.self.view_is)
-    (omega (arith, size, ap (λ (s : StripperState). s.left) c.self.view_is, c.requires))
+pub returns-clause-behind : goal.returns-clause-behind
+returns-clause-behind c = λ bytes size.
+    let s = c.args.self.now in
+    let p = content_piece bytes s (omega (arith, size, c.requires)) in
+    (ap (λ (s : StripperState). record s { left = s.left - c.args.count }) c.self.view_is ∙ (ap (λ k. record s { left = s.left - k }) (sym size) ∙ sym p.0), p.1)
