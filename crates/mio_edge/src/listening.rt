@@ -99,16 +99,7 @@ impl Listening {
         connecting: Connecting,
         table: Table,
     ) -> Result<Listening, OpenError> {
-        let events = Events::with_capacity(alloc, MOST_EVENTS)?;
-        let (Ok(poll), Ok(mut listener)) = (Poll::new(net), TcpListener::bind(net, listen)) else {
-            return Err(OpenError::Failed);
-        };
-        let registered = poll
-            .registry()
-            .register(&mut listener, LISTENER, Interest::READABLE);
-        if registered.is_err() {
-            return Err(OpenError::Failed);
-        }
+        let (events, poll, listener) = listen_at(net, alloc, listen)?;
         Ok(Listening {
             poll,
             events,
@@ -270,4 +261,26 @@ fn after_failure(kind: ErrorKind) -> Accepting {
         ErrorKind::ConnectionAborted | ErrorKind::Interrupted => Accepting::Ready,
         _ => Accepting::Short,
     }
+}
+
+// A listener at this address, with the poll to which it is known and room for what that reports.
+fn listen_at<N: Net>(
+    net: &N,
+    alloc: Global,
+    address: SocketAddr,
+) -> Result<(Events<Global>, Poll, TcpListener), OpenError> {
+    let events = Events::with_capacity(alloc, MOST_EVENTS)?;
+    let Ok(poll) = Poll::new(net) else {
+        return Err(OpenError::Failed);
+    };
+    let Ok(mut listener) = TcpListener::bind(net, address) else {
+        return Err(OpenError::Failed);
+    };
+    let registered = poll
+        .registry()
+        .register(&mut listener, LISTENER, Interest::READABLE);
+    if registered.is_err() {
+        return Err(OpenError::Failed);
+    }
+    Ok((events, poll, listener))
 }

@@ -20,7 +20,7 @@ const BUFFERS: usize = 131_072;
 /// The same where there are few places.
 const LARGE_BUFFERS: usize = 524_288;
 
-/// So many places are few.
+/// Up to so many places, buffers are large.
 const FEW_PLACES: usize = 65;
 
 /// The least bytes of a buffer.
@@ -72,19 +72,22 @@ impl Table {
         } else {
             BUFFERS
         };
-        let mut spare = Vec::with_capacity(alloc, places)?;
-        for _ in 0..places {
-            spare.push(open_ports(alloc, width, quantum)?)?;
-        }
+        let ready = Queue::open(alloc, places)?;
+        let behind = Queue::open(alloc, places)?;
+        let written = Queue::open(alloc, places)?;
+        let open = Vec::with_capacity(alloc, places)?;
+        let closed = Vec::with_capacity(alloc, places)?;
+        let sessions = Slab::with_capacity(alloc, places)?;
+        let spare = open_places(alloc, places, width, quantum)?;
         Ok(Table {
             width,
-            sessions: Slab::with_capacity(alloc, places)?,
+            sessions,
             spare,
-            open: Vec::with_capacity(alloc, places)?,
-            closed: Vec::with_capacity(alloc, places)?,
-            ready: Queue::open(alloc, places)?,
-            behind: Queue::open(alloc, places)?,
-            written: Queue::open(alloc, places)?,
+            open,
+            closed,
+            ready,
+            behind,
+            written,
             turning: 0,
             quantum,
         })
@@ -402,6 +405,20 @@ impl Table {
             .binary_search_by_key(&number, |entry| entry.number)
             .ok()
     }
+}
+
+// The ports of so many places.
+fn open_places(
+    alloc: Global,
+    places: usize,
+    width: usize,
+    buffers: usize,
+) -> Result<Vec<Vec<Port>>, OutOfMemory> {
+    let mut spare = Vec::with_capacity(alloc, places)?;
+    for _ in 0..places {
+        spare.push(open_ports(alloc, width, buffers)?)?;
+    }
+    Ok(spare)
 }
 
 // The ports of a session, without connections.

@@ -68,13 +68,16 @@ impl State {
         ensures open { IfOk result (λ s. s.outcome ≡ None) }
         ensures unknown { IfOk result (λ s. s.known ≡ None) }
     {
+        let calls = HeapCircularBuffer::with_capacity(alloc, max_calls)?;
+        let (to_client, to_upstream) = open_outputs(alloc, 24 * limit + 260)?;
+        let (client, ports) = open_inboxes(alloc, limit, targets)?;
         Ok(State {
-            client: Port::open(alloc, limit)?,
-            ports: open_ports(alloc, limit, targets)?,
-            to_client: Out::open(alloc, 24 * limit + 260)?,
-            to_upstream: Out::open(alloc, 24 * limit + 260)?,
+            client,
+            ports,
+            to_client,
+            to_upstream,
             toward: 0,
-            calls: HeapCircularBuffer::with_capacity(alloc, max_calls)?,
+            calls,
             known: None,
             outcome: None,
         })
@@ -536,6 +539,35 @@ impl State {
             port.room()
         }
     }
+}
+
+/// What is held for the client and for the upstreams: both with so much room, and empty.
+///
+/// `OutOfMemory`: the memory for them was not found.
+fn open_outputs(alloc: Global, room: usize) -> Result<(Out, Out), OutOfMemory>
+    ensures to_client { IfOk result (λ made. (made.0.bytes ≡ []) × (made.0.room ≡ room)) }
+    ensures to_upstream { IfOk result (λ made. (made.1.bytes ≡ []) × (made.1.room ≡ room)) }
+{
+    let to_client = Out::open(alloc, room)?;
+    let to_upstream = Out::open(alloc, room)?;
+    Ok((to_client, to_upstream))
+}
+
+/// What is held of the client, and of so many targets.
+///
+/// `OutOfMemory`: the memory for them was not found.
+fn open_inboxes(
+    alloc: Global,
+    limit: usize,
+    targets: usize,
+) -> Result<(Port, Vec<Port>), OutOfMemory>
+    requires limit { limit < 2 ^ 31 }
+    ensures client { IfOk result (λ made. made.0 ≡ silent limit) }
+    ensures ports { IfOk result (λ made. made.1.items ≡ replicate targets (silent limit)) }
+{
+    let client = Port::open(alloc, limit)?;
+    let ports = open_ports(alloc, limit, targets)?;
+    Ok((client, ports))
 }
 
 /// The ports of so many targets.

@@ -1,0 +1,3 @@
+-- Lemmas.
+pub mod Routed
+pub mod Still

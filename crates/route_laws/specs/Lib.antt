@@ -1,0 +1,2 @@
+-- What a server has routed.
+pub mod Routed

@@ -1,0 +1,10 @@
+-- What the server does.
+pub mod Calling
+pub mod Filling
+pub mod Lines
+pub mod Matching
+pub mod Serving
+pub mod Spending
+pub mod Steps
+pub mod Turning
+pub mod Working

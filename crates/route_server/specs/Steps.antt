@@ -1,0 +1,313 @@
+-- What the steps of a server do, and what it leaves.
+use Rattle.std.specs.Prelude.{◌≡◌, ℕ, ⊤, ◌^◌, ◌<◌, ◌≤◌, ◌⊎◌, List, [], ◌∷◌, ◌++◌, length, take, Option, None, Some, Result, Ok, Err, slice_get}
+use Rattle.std.specs.Io.KnownBytes.{Appends}
+use Rattle.gate_base.specs.Causes.{Rose}
+use Rattle.gate_io.specs.Fronts.{AppendsFront}
+use Rattle.gate_io.specs.declared.byte_streams.Sink.{Ghosts as Sink}
+use Rattle.gate_io.specs.declared.writing.Wrote.{Wrote}
+use Rattle.gate_io.specs.declared.writing.Wrote.TheVariants as wrote
+use Rattle.gate_fan.specs.Meaning.{FanCall, Closed, Meaning}
+use Rattle.gate_fan.specs.Fans.{Counts, Later}
+use Rattle.gate_fan.specs.declared.fan.Fan.{Ghosts as Fan}
+use Rattle.gate_fan.specs.declared.fan.Target.{Target}
+use Rattle.gate_hub.specs.declared.hub.HubNext.{HubNext}
+use Rattle.gate_hub.specs.declared.hub.HubNext.TheVariants as event
+use Rattle.gate_hub.specs.declared.hub.Served.{Served}
+use Rattle.gate_hub.specs.declared.hub.Served.TheVariants as served
+use Rattle.session_core.specs.declared.state.TheConstants.{MOST_CALLS}
+use Rattle.session_judge.specs.declared.setup.Setup.{Setup}
+use Rattle.service_router.specs.Router.{Seen}
+use Rattle.service_router.specs.Steps.{outcome_of}
+use Rattle.service_router.specs.Setups.{rules_for}
+use Rattle.service_router.specs.declared.outcome.RouteOutcome.{RouteOutcome}
+use Rattle.service_router.specs.declared.outcome.RouteOutcome.TheVariants as outcome
+use Rattle.service_router.specs.declared.router.TheConstants.{MOST_TARGETS}
+use Rattle.route_server.specs.Calling.{LinkRose}
+use Rattle.route_server.specs.Turning.{HasFailed, IsSettled}
+use Rattle.route_server.specs.Serving.{Setting, Entry, Closing, Stands, Keeps, KeepsFrom, no_more, closing_line, closing_lines, left_line, left_lines, ended_numbers, held_numbers, IsClosedInOrder, IsJustClosed, AreCounted, IsFresh, EndsOn, SpendsBy}
+use Rattle.route_server.specs.Working.{Tally, Waits, HasWaited, IsBusy, IsNamed, HasEndedAt, Awaits}
+use Rattle.route_server.specs.declared.server.Terms.{Terms}
+use Rattle.route_server.specs.declared.server.Server.{Server}
+use Rattle.route_server.specs.declared.server.End.{End}
+use Rattle.route_server.specs.declared.server.End.TheVariants as ends
+
+-- a router can be opened with this setup and these targets
+pub record CanRoute (setup : Setup) (targets : List Target) : Type 0 where
+  pub small : setup.limit < 2 ^ 24
+  pub some : 0 < setup.calls
+  pub few : setup.calls ≤ MOST_CALLS
+  pub service : setup.service ≡ None
+  pub some_targets : 0 < length targets
+  pub few_targets : length targets ≤ MOST_TARGETS
+
+-- what a server is given serves for its sessions
+abbrev pub AreGood : Terms → Type 0
+AreGood terms = CanRoute terms.setup terms.targets.now
+
+abbrev pub setting_by : Setup → List Target → ℕ → ℕ → Setting
+setting_by setup targets sessions events = record {
+  rules = rules_for setup targets;
+  limit = setup.limit;
+  max_calls = setup.calls;
+  targets = length targets;
+  sessions = sessions;
+  events = events;
+}
+
+abbrev pub setting_of : Terms → Setting
+setting_of terms = setting_by terms.setup terms.targets.now terms.sessions terms.events
+
+-- all of these lines were written, or a front of them
+abbrev pub Writes : Wrote → Option (List ℕ) → Option (List ℕ) → List ℕ → Type 0
+Writes wrote.All old new lines = Appends old new lines
+Writes wrote.Failed old new lines = AppendsFront old new lines
+
+-- a session that was announced is not opened: so many are open already, or its memory was not found
+abbrev pub IsRefusedAs : RouteOutcome → ℕ → ℕ → Type 0
+IsRefusedAs o held sessions = ((o ≡ outcome.Full) × (sessions ≤ held)) ⊎ ((o ≡ outcome.NoMemory) × (held < sessions))
+
+-- where the session at this place ended by a fault of a port, that was counted
+abbrev pub WasCounted : Counts → Counts → RouteOutcome → List Entry → ℕ → Type 0
+WasCounted before now o held at =
+    (e : Entry) (x : ℕ) → slice_get held at ≡ Some e → o ≡ outcome.LinkFault x → LinkRose before now e.number x
+
+-- ---- one step
+
+-- what stands outside of a server at a moment: what the fan tells and its counts, what was written and the output's faults
+pub record Outside : Type 1 where
+  pub told : Meaning → Type 0
+  pub counts : Counts
+  pub written : Option (List ℕ)
+  pub faults : ℕ
+
+abbrev pub outside : {H O : Type 0} → (H → Meaning → Type 0) → (H → Counts) → (O → Option (List ℕ)) → (O → ℕ) → H → O → Outside
+outside tells counts written faults fan output = record { told = tells fan; counts = counts fan; written = written output; faults = faults output }
+
+-- what stands outside before a call and behind it
+pub record Passage : Type 1 where
+  pub before : Outside
+  pub behind : Outside
+
+-- as this fan and this output tell of themselves
+abbrev pub seen : {M O : Type 0} → Fan M → Sink O → M → O → M → O → Passage
+seen fans sinks fan output fan' output' =
+    let moment = outside fans.tells fans.counts sinks.written sinks.faults in
+    record { before = moment fan output; behind = moment fan' output' }
+
+-- the terms and the room for a line stay, and no more is spent than may be
+abbrev pub IsCarriedOn : Terms → Terms → ℕ → ℕ → ℕ → ℕ → Type 0
+IsCarriedOn terms terms' room room' spent spent' = (terms' ≡ terms) × (room' ≡ room) × (spent ≤ spent') × (spent' ≤ terms.events)
+
+-- how turns and lines end the work: the fan is not asked there, and the budget is spent where it ends them
+abbrev pub WorkEnds : Result ⊤ End → ℕ → ℕ → Type 0
+WorkEnds (Ok x) spent events = ⊤
+WorkEnds (Err ends.Stopped) spent events = ⊥
+WorkEnds (Err ends.HubFault) spent events = ⊥
+WorkEnds (Err ends.WriteFault) spent events = ⊤
+WorkEnds (Err (ends.Budget at)) spent events = spent ≡ events
+
+-- and a step: it spends some where an event has come
+abbrev pub StepEnds : Result ⊤ End → ℕ → ℕ → ℕ → Type 0
+StepEnds (Ok x) before spent events = before < spent
+StepEnds (Err ends.Stopped) before spent events = spent ≡ before
+StepEnds (Err ends.HubFault) before spent events = spent ≡ before
+StepEnds (Err ends.WriteFault) before spent events = ⊤
+StepEnds (Err (ends.Budget at)) before spent events = spent ≡ events
+
+-- where the server stands after a step, and where it has ended
+abbrev pub EndedTo : Result ⊤ End → Setting → Meaning → ℕ → List Entry → List Closing → Meaning → Type 0
+EndedTo (Ok x) set begun spent held past m = Waits set begun spent held past m
+EndedTo (Err ends.Stopped) set begun spent held past m = HasWaited set begun spent event.Stopped held past m
+EndedTo (Err ends.HubFault) set begun spent held past m = HasWaited set begun spent event.Failed held past m
+EndedTo (Err ends.WriteFault) set begun spent held past m = Waits set begun spent held past m × IsJustClosed past m.calls
+EndedTo (Err (ends.Budget at)) set begun spent held past m = IsBusy set begun spent at held past m
+
+-- the lines of all but the last of these were written, and a front of that one
+pub record LastLineFails (old new : Option (List ℕ)) (ended : List Closing) : Type 0 where
+  pub before : List Closing
+  pub last : Closing
+  pub count : ℕ
+  pub ended_are : ended ≡ before ++ last ∷ []
+  pub within : count ≤ length (closing_line last)
+  pub written : Appends old new (closing_lines before ++ take count (closing_line last))
+
+-- the line of each session that has ended was written at once, and nothing behind one that could not be
+abbrev pub StepWrites : Result ⊤ End → Option (List ℕ) → Option (List ℕ) → List Closing → Type 0
+StepWrites (Ok x) old new ended = Appends old new (closing_lines ended)
+StepWrites (Err ends.Stopped) old new ended = Appends old new (closing_lines ended)
+StepWrites (Err ends.HubFault) old new ended = Appends old new (closing_lines ended)
+StepWrites (Err ends.WriteFault) old new ended = LastLineFails old new ended
+StepWrites (Err (ends.Budget at)) old new ended = Appends old new (closing_lines ended)
+
+-- sessions have ended on the way
+pub record Goes (set : Setting) (a b : Outside) (Before : Meaning → List Closing → Meaning → Type 0) (spent : ℕ) (held : List Entry) (result : Result ⊤ End) : Type 0 where
+  pub more : List Closing
+  pub writes : StepWrites result a.written b.written more
+  pub counted : AreCounted a.counts b.counts more
+  pub keeps : (begun : Meaning) (past : List Closing) → Keeps a.told b.told (Before begun past) (EndedTo result set begun spent held (past ++ more))
+
+-- the same from one server to another, where it stood so
+abbrev pub ServerGoes : Setting → Passage → (Meaning → List Closing → Meaning → Type 0) → Server → Result ⊤ End → Type 0
+ServerGoes set way Before new result = Goes set way.before way.behind Before new.spent new.sessions.items result
+
+-- events are taken from a wait on
+abbrev pub Steps : Server → Passage → Server → Result ⊤ End → Type 0
+Steps old way new result =
+    let set = setting_of old.terms in
+    ServerGoes set way (λ begun. Waits set begun old.spent old.sessions.items) new result
+
+-- the same up to the end of the work
+abbrev pub Attends : Server → Passage → Server → End → Type 0
+Attends old way new ending = Steps old way new (Err ending)
+
+-- session k, which was announced, is opened and turned, or closed
+abbrev pub Admits : ℕ → Server → Passage → Server → Result ⊤ End → Type 0
+Admits k old way new result =
+    let set = setting_of old.terms in
+    ServerGoes set way (λ begun. Awaits set begun old.spent k old.sessions.items) new result
+
+-- session k, which was announced, is closed
+abbrev pub Refuses : ℕ → Server → Passage → Server → Result ⊤ End → Type 0
+Refuses k old way new result =
+    (set : Setting) → set.sessions ≡ old.terms.sessions →
+    ServerGoes set way (λ begun. Awaits set begun old.spent k old.sessions.items) new result
+
+-- the session at this place, which has ended so, is closed; a fault of a port was counted since `from`
+abbrev pub Finishes : ℕ → RouteOutcome → Server → Passage → Server → Result ⊤ End → Type 0
+Finishes at o old way new result =
+    (set : Setting) (from : Counts) → Later from way.before.counts → WasCounted from way.before.counts o old.sessions.items at →
+    ServerGoes set (record way { before = record (way.before) { counts = from } }) (λ begun. HasEndedAt set begun old.spent at o old.sessions.items) new result
+
+-- the session at this place is turned
+abbrev pub Settles : ℕ → Server → Passage → Server → Result ⊤ End → Type 0
+Settles at old way new result =
+    (set : Setting) → ServerGoes set way (λ begun. IsBusy set begun old.spent at old.sessions.items) new result
+
+-- session k, which an event names, is turned
+abbrev pub Resumes : ℕ → Server → Passage → Server → Result ⊤ End → Type 0
+Resumes k old way new result =
+    (set : Setting) → ServerGoes set way (λ begun. IsNamed set begun old.spent k old.sessions.items) new result
+
+-- a session was put last, at this place
+abbrev pub IsPutLast : List Entry → ℕ → Seen → List Entry → ℕ → Type 0
+IsPutLast held number router held' at = (at ≡ length held) × (held' ≡ held ++ (record { number = number; router = router }) ∷ [])
+
+-- ---- the end
+
+-- no last answer of a call of these sessions is that it failed
+abbrev pub AreUnfailed : List Entry → Meaning → Type 0
+AreUnfailed held m = (i : ℕ) (e : Entry) → slice_get held i ≡ Some e → (x : ℕ) → HasFailed x (m.session e.number) → ⊥
+
+-- these sessions are closed, one after another
+abbrev pub closing_calls : List ℕ → List FanCall
+closing_calls [] = []
+closing_calls (k ∷ numbers) = Closed k ∷ closing_calls numbers
+
+-- after these calls the first so many of the sessions that were open were closed, and the fan's last event stays
+pub record Leaves (set : Setting) (begun : Meaning) (spent : ℕ) (held : List Entry) (past : List Closing) (busy : ℕ) (last : Option HubNext) (calls : List FanCall) (gone : ℕ) (m : Meaning) : Type 0 where
+  pub stands : Stands set no_more held past busy gone m
+  pub unfailed : AreUnfailed held m
+  pub tally : Tally begun set spent (length held) past m
+  pub closings : m.calls ≡ calls ++ closing_calls (held_numbers (take gone held))
+  pub last_event : m.last_event ≡ last
+
+-- so many of the sessions that were open were closed, and then so many
+abbrev pub LeavesMore : List Entry → (Meaning → Type 0) → (Meaning → Type 0) → ℕ → ℕ → Type 0
+LeavesMore held told told' gone gone' =
+    (set : Setting) (begun : Meaning) (spent : ℕ) (past : List Closing) (busy : ℕ) (last : Option HubNext) (calls : List FanCall) →
+    let leaves = Leaves set begun spent held past busy last calls in
+    Keeps told told' (leaves gone) (leaves gone')
+
+-- the line of the session at this place, which is left open, was written
+abbrev pub WritesLeft : List Entry → ℕ → Wrote → Option (List ℕ) → Option (List ℕ) → Type 0
+WritesLeft held at result old new = (e : Entry) → slice_get held at ≡ Some e → Writes result old new (left_line e)
+
+-- which lines a server has written: all; or those of the sessions that have ended, but for a front of the last's; or those,
+-- and of the lines of sessions that were left open a front
+pub data LinesEnd : Type 0 where
+  AllLines : LinesEnd
+  LastOfWork : LinesEnd
+  LeftOpen : LinesEnd
+
+abbrev pub WritesLines : LinesEnd → Option (List ℕ) → Option (List ℕ) → ℕ → ℕ → List Closing → List Entry → Type 0
+WritesLines AllLines old new faults faults' ended held = Appends old new (closing_lines ended ++ left_lines held)
+WritesLines LastOfWork old new faults faults' ended held = LastLineFails old new ended × Rose faults faults'
+WritesLines LeftOpen old new faults faults' ended held =
+    ((count : ℕ) × (count ≤ length (left_lines held)) × Appends old new (closing_lines ended ++ take count (left_lines held))) × Rose faults faults'
+
+-- the same, and no more than how it goes with the answer: all lines were written, or a front of them before a fault of the output
+abbrev pub WritesOrFails : Option (List ℕ) → Option (List ℕ) → ℕ → ℕ → List ℕ → Type 0
+WritesOrFails old new faults faults' lines = Appends old new lines ⊎ (AppendsFront old new lines × Rose faults faults')
+
+abbrev pub ServedWrites : Served → Option (List ℕ) → Option (List ℕ) → ℕ → ℕ → List ℕ → Type 0
+ServedWrites served.Stopped old new faults faults' lines = Appends old new lines
+ServedWrites served.HubFault old new faults faults' lines = WritesOrFails old new faults faults' lines
+ServedWrites served.WriteFault old new faults faults' lines = AppendsFront old new lines × Rose faults faults'
+ServedWrites served.Budget old new faults faults' lines = WritesOrFails old new faults faults' lines
+ServedWrites served.OutOfMemory old new faults faults' lines = Appends old new lines
+
+-- what is answered, by which lines were written
+abbrev pub AnswersLines : Served → LinesEnd → Type 0
+AnswersLines served.Stopped lines = lines ≡ AllLines
+AnswersLines served.HubFault lines = (lines ≡ AllLines) ⊎ (lines ≡ LeftOpen)
+AnswersLines served.WriteFault lines = (lines ≡ LastOfWork) ⊎ (lines ≡ LeftOpen)
+AnswersLines served.Budget lines = (lines ≡ AllLines) ⊎ (lines ≡ LeftOpen)
+AnswersLines served.OutOfMemory lines = lines ≡ AllLines
+
+-- a line was written before the fan was asked again: behind the closing of the session whose line could not be written, only
+-- the sessions that were left open were closed
+abbrev pub IsNotAskedAgain : LinesEnd → List Closing → List Entry → List FanCall → Type 0
+IsNotAskedAgain lines ended held calls =
+    lines ≡ LastOfWork → (earlier : List FanCall) × IsJustClosed ended earlier × (calls ≡ earlier ++ closing_calls (held_numbers held))
+
+-- the sessions that were left open: by its rules none has an outcome, no call of theirs failed, and each is settled, but for one
+-- where the budget is spent. `next` may stop or fail at any wait and changes no session by that, so this holds at each wait
+pub record IsLeft (set : Setting) (result : Served) (held : List Entry) (m : Meaning) : Type 0 where
+  pub settled : (result ≡ served.Budget → ⊥) → (i : ℕ) (e : Entry) → slice_get held i ≡ Some e → IsSettled e.router (m.session e.number)
+  pub going : (i : ℕ) (e : Entry) → slice_get held i ≡ Some e → outcome_of set.rules.judging set.limit set.max_calls e.router.standing ≡ None
+  pub unfailed : AreUnfailed held m
+
+-- what was done in all: which sessions found the server full, and how much was spent, as it goes with how the server ended
+pub record Accounts (set : Setting) (result : Served) (count : ℕ) (past : List Closing) (begun m : Meaning) : Type 0 where
+  pub spent : ℕ
+  pub tally : Tally begun set spent count past m
+  pub spends : SpendsBy result spent set.events
+
+-- where the server ends, as the fan tells it; the sessions were closed in the order of their lines
+pub record Ending (set : Setting) (result : Served) (lines : LinesEnd) (held : List Entry) (ended : List Closing) (busy : ℕ) (begun m : Meaning) : Type 0 where
+  pub stands : Stands set no_more held ended busy (length held) m
+  pub event : EndsOn result m
+  pub left : IsLeft set result held m
+  pub accounts : Accounts set result (length held) ended begun m
+  pub order : IsClosedInOrder begun.calls m.calls (ended_numbers ended ++ held_numbers held)
+  pub not_asked : IsNotAskedAgain lines ended held m.calls
+
+-- what the server leaves: the sessions that were left open, those that have ended in order, and the lines of both; each
+-- announced session is one of them, closed, and is what the line says
+pub record Serves (set : Setting) (a b : Outside) (result : Served) : Type 0 where
+  pub held : List Entry
+  pub ended : List Closing
+  pub busy : ℕ
+  pub lines : LinesEnd
+  pub writes : WritesLines lines a.written b.written a.faults b.faults ended held
+  pub answers : AnswersLines result lines
+  pub counted : AreCounted a.counts b.counts ended
+  pub keeps : KeepsFrom a.told b.told IsFresh (Ending set result lines held ended busy)
+
+-- the same from what stands outside before to what stands there behind
+abbrev pub ServesBy : Setting → Passage → Served → Type 0
+ServesBy set way result = Serves set way.before way.behind result
+
+-- what is answered for how the work ended and what came of the last lines
+abbrev pub served_by : End → Wrote → Served
+served_by ends.Stopped wrote.All = served.Stopped
+served_by ends.Stopped wrote.Failed = served.WriteFault
+served_by ends.HubFault w = served.HubFault
+served_by ends.WriteFault w = served.WriteFault
+served_by (ends.Budget at) w = served.Budget
+
+abbrev pub first_wrote : End → Wrote
+first_wrote ends.Stopped = wrote.All
+first_wrote ends.HubFault = wrote.All
+first_wrote ends.WriteFault = wrote.Failed
+first_wrote (ends.Budget at) = wrote.All

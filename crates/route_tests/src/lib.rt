@@ -1,0 +1,5 @@
+//! Routed sessions over a fan in memory.
+#![tactic(auto)]
+
+#[cfg(test)]
+mod serving;
