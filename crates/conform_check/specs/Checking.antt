@@ -10,10 +10,11 @@ use Rattle.type_walk.specs.Positions as positions
 use Rattle.protocol_traits.specs.declared.fault.Fault.{Fault}
 use Rattle.protocol_traits.specs.Heads.{Header}
 use Rattle.protocol_traits.specs.Steps.{Step as ReadStep}
+use Rattle.protocol_traits.specs.declared.traits.ReadRules.{Ghosts as ReadRules}
 use Rattle.translate_core.specs.declared.route.Route.TheVariants.{ByName}
 use Rattle.translate_core.specs.Positions.{typed}
 use Rattle.translate_core.specs.Routes.{body_of}
-use Rattle.translate_core.specs.Body.{Source, Target, Ended, going, whole}
+use Rattle.translate_core.specs.Body.{Source, TargetRules, Ended, going, whole, source_of}
 use Rattle.conform_check.specs.declared.step.Step.{Step}
 use Rattle.conform_check.specs.declared.breach.Breach.{Breach}
 use Rattle.conform_check.specs.declared.breach.Breach.TheVariants as breaches
@@ -40,6 +41,10 @@ abbrev pub placed : List Inside → Option Found → Option Broken
 placed open_levels None = None
 placed open_levels (Some f) = Some (broken f.breach (path_to (outer open_levels) (last_steps f.last)))
 
+-- what stands against an item at this position
+abbrev pub against : Position → List Inside → Item → Option Broken
+against position open_levels item = placed open_levels (found_in position open_levels item)
+
 -- only the first breach counts
 abbrev pub first_broken : Option Broken → Option Broken → Option Broken
 first_broken (Some first) next = Some first
@@ -55,10 +60,10 @@ abbrev pub checking : Position → List Inside → Option Broken → Checking
 checking position open_levels first = record { position = position; open_levels = open_levels; first = first }
 
 abbrev pub checked_item : Checking → Item → Checking
-checked_item c item = checking (positions.after c.position item) (inside_after item c.open_levels) (first_broken c.first (placed c.open_levels (found_in c.position c.open_levels item)))
+checked_item c item = checking (positions.after c.position item) (inside_after item c.open_levels) (first_broken c.first (against c.position c.open_levels item))
 
 -- a target that writes nothing, and checks each item
-abbrev pub check_target : Checking → Target Checking
+abbrev pub check_target : Checking → TargetRules Checking
 check_target begun = record {
   begun = begun;
   name_bar = λ name. None;
@@ -139,3 +144,20 @@ IsFoundOf checked.Meets path Meets = ⊤
 IsFoundOf (checked.Broken breach) path (Breaks first) = first ≡ broken breach path
 IsFoundOf (checked.Refused f) path (Refused g) = f ≡ g
 IsFoundOf answer path finding = ⊥
+
+-- ---- the same by the rules of any reader
+
+abbrev source_in : {S : Type 0} → ReadRules S → Source S
+source_in rules = source_of rules.begun rules.reads_head rules.reads rules.reads_end rules.value_place rules.ahead
+
+-- of a frame
+abbrev pub ChecksFrame : {S : Type 0} → ReadRules S → Declarations → Option ServiceId → List ℕ → Checked → List Step → Type 0
+ChecksFrame rules d service frame answer path = IsChecked answer path (checked_by (source_in rules) d service frame)
+
+-- of a body of this struct that begins where the reader stands, and of the end behind it
+abbrev pub ChecksBody : {S : Type 0} → ReadRules S → Declarations → Option StructId → S → Checked → List Step → Type 0
+ChecksBody rules d body reader answer path = IsFoundOf answer path (after_body (source_in rules) (body_from (source_in rules) reader (begun d body)))
+
+-- of the body alone, behind which the reader stands then
+abbrev pub LooksThrough : {S : Type 0} → ReadRules S → Declarations → Option StructId → S → Result (Option Breach) Fault → S → List Step → Type 0
+LooksThrough rules d body reader answer behind path = IsLooked answer behind path (body_from (source_in rules) reader (begun d body))

@@ -5,13 +5,11 @@ ghost use Rattle.thrift_value.specs.Items.{item_of};
 ghost use Rattle.protocol_traits.specs.Follow.{depth_after};
 ghost use Rattle.type_tables.specs.Structs.{widest};
 ghost use Rattle.type_walk.specs.Positions.{after};
-ghost use Rattle.translate_core.specs.Body.{source_of};
 ghost use Rattle.translate_core.specs.Routes.{IsKnownRoute};
 ghost use Rattle.translate_core.specs.declared.route.Route.TheVariants.{ByName};
 ghost use Rattle.conform_check.specs.declared.step.Step.{Step};
 ghost use Rattle.conform_check.specs.Inside.{inside_after};
-ghost use Rattle.conform_check.specs.Breaches.{found_in};
-ghost use Rattle.conform_check.specs.Checking.{Finding, IsChecked, IsFoundOf, IsLooked, after_body, begun, body_from, checked_by, first_broken, found as found_of, kept_broken, last_steps, placed, undeclared};
+ghost use Rattle.conform_check.specs.Checking.{Finding, IsChecked, IsFoundOf, ChecksFrame, ChecksBody, LooksThrough, against, first_broken, found as found_of, kept_broken, last_steps, placed, undeclared};
 ghost use Rattle.conform_check.specs.Fitting.{AreFitting};
 
 use crate::breach::{Breach, Checked, Found};
@@ -81,8 +79,7 @@ impl<'s> Check<'s> {
         requires service { IsKnownRoute self.old.schema (ByName service) }
         requires room { length frame.now ≤ length room.old }
         requires size { length frame.now < 2 ^ 31 }
-        ensures exact { let source = source_of R.begun R.reads_head R.reads R.reads_end R.value_place R.ahead in
-            IsChecked result self.new.path (checked_by source self.old.schema service frame.now) }
+        ensures exact { ChecksFrame R.ReadRules self.old.schema service frame.now result self.new.path }
         ensures schema { self.new.schema ≡ self.old.schema }
     {
         check_with::<R>(
@@ -118,8 +115,7 @@ fn check_with<'f, R: WireRead<'f>>(
     requires size { length frame.now < 2 ^ 31 }
     requires width { trail.old.width ≡ widest schema.now.structs }
     requires steps { DEPTH ≤ vec_capacity path.old }
-    ensures exact { let source = source_of R.begun R.reads_head R.reads R.reads_end R.value_place R.ahead in
-        IsChecked result path.new.items (checked_by source schema.now service frame.now) }
+    ensures exact { ChecksFrame R.ReadRules schema.now service frame.now result path.new.items }
     ensures width { trail.new.width ≡ trail.old.width }
     ensures steps { vec_capacity path.new ≡ vec_capacity path.old }
 {
@@ -146,8 +142,7 @@ fn check_body<'f, R: WireRead<'f>>(
     requires width { trail.old.width ≡ widest schema.now.structs }
     requires room { DEPTH ≤ vec_capacity path.old }
     requires empty { path.old.items ≡ [] }
-    ensures exact { let source = source_of R.begun R.reads_head R.reads R.reads_end R.value_place R.ahead in
-        IsFoundOf result path.new.items (after_body source (body_from source reader.old (begun schema.now body))) }
+    ensures exact { ChecksBody R.ReadRules schema.now body reader.old result path.new.items }
     ensures width { trail.new.width ≡ trail.old.width }
     ensures room { vec_capacity path.new ≡ vec_capacity path.old }
 {
@@ -208,8 +203,7 @@ fn look_through<'f, R: WireRead<'f>>(
     requires width { trail.old.width ≡ widest schema.now.structs }
     requires room { DEPTH ≤ vec_capacity path.old }
     requires empty { path.old.items ≡ [] }
-    ensures exact { let source = source_of R.begun R.reads_head R.reads R.reads_end R.value_place R.ahead in
-        IsLooked result reader.new path.new.items (body_from source reader.old (begun schema.now body)) }
+    ensures exact { LooksThrough R.ReadRules schema.now body reader.old result reader.new path.new.items }
     ensures width { trail.new.width ≡ trail.old.width }
     ensures room { vec_capacity path.new ≡ vec_capacity path.old }
 {
@@ -254,8 +248,8 @@ fn look_on(
     requires open { 0 < length walk.now.levels }
     requires shallow { depth_after (item_of event.now) (length walk.now.levels) ≤ 256 }
     requires fitting { found ≡ None → AreFitting schema.now walk.now.levels trail.old.levels }
-    ensures first { let next = placed trail.old.levels (found_in walk.now trail.old.levels (item_of event.now)) in
-        kept_broken result path.new.items ≡ first_broken (kept_broken found path.old.items) next }
+    ensures first { kept_broken result path.new.items
+        ≡ first_broken (kept_broken found path.old.items) (against walk.now trail.old.levels (item_of event.now)) }
     ensures passed { result ≡ None → trail.new.levels ≡ inside_after (item_of event.now) trail.old.levels }
     ensures fitting { result ≡ None → AreFitting schema.now (after walk.now (item_of event.now)).levels trail.new.levels }
     ensures before { result ≡ None → found ≡ None }
@@ -283,7 +277,7 @@ fn look_first(
     requires open { 0 < length walk.now.levels }
     requires shallow { depth_after (item_of event.now) (length walk.now.levels) ≤ 256 }
     requires fitting { AreFitting schema.now walk.now.levels trail.old.levels }
-    ensures first { kept_broken result path.new.items ≡ placed trail.old.levels (found_in walk.now trail.old.levels (item_of event.now)) }
+    ensures first { kept_broken result path.new.items ≡ against walk.now trail.old.levels (item_of event.now) }
     ensures passed { result ≡ None → trail.new.levels ≡ inside_after (item_of event.now) trail.old.levels }
     ensures fitting { result ≡ None → AreFitting schema.now (after walk.now (item_of event.now)).levels trail.new.levels }
     ensures width { trail.new.width ≡ trail.old.width }

@@ -1,5 +1,5 @@
 -- What was gathered is written.
-use Rattle.std.proofs.Common.{◌≡◌, ℕ, List, [], inr, refl, sym, ◌∙◌, ap, subst, Option, None, Some, Result, Ok, Err, ℤ}
+use Rattle.std.proofs.Common.{◌≡◌, ℕ, List, [], inr, sym, ◌∙◌, ap, subst, Option, None, Some, Result, Ok, Err, ℤ}
 use Rattle.std.specs.Prelude.{OnOk}
 use Rattle.std.specs.Io.KnownBytes.{Appends}
 use Rattle.framed_transport.specs.Front.{front}

@@ -1,6 +1,5 @@
 -- Where a command ends by a fault of the files.
 use Rattle.std.proofs.Common.{◌≡◌, ℕ, ◌⊎◌, inl, inr, List, Option, Err, ◌∙◌, ap}
-use Rattle.type_tables.specs.declared.declared.ServiceId.{ServiceId}
 use Rattle.type_tables.specs.Declarations.{Declarations}
 use Rattle.gate_words.specs.declared.options.Declared.{Declared}
 use Rattle.gate_run.specs.Checking.{Checks, Good, Bad}
@@ -23,11 +22,11 @@ pub checked_faults : {told : Option Holds} {file : List ℕ} {before now : ℕ} 
 checked_faults (Good d told cause tells) = inr cause
 checked_faults {before = before} {now = now} {a = a} {b = b} {ending = ending} (Bad stop told cause halts) = stopped Declarations stop before now a b ending cause halts
 
-pub stream_faults : {told : Option Holds} {words : Declared} {before now : ℕ} {a b : Streams} {ending : Ending} {Then : Declarations → Option ServiceId → Type 0} → Starting told words before now Then (λ stop. Halts stop a b ending) → (ending ≡ FileFault) ⊎ (now ≡ before)
+pub stream_faults : {told : Option Holds} {words : Declared} {before now : ℕ} {a b : Streams} {ending : Ending} {Then : Start → Type 0} → Starting told words before now Then (λ stop. Halts stop a b ending) → (ending ≡ FileFault) ⊎ (now ≡ before)
 stream_faults (Goes s told cause did) = inr cause
 stream_faults {before = before} {now = now} {a = a} {b = b} {ending = ending} (Stops stop told cause halts) = stopped Start stop before now a b ending cause halts
 
-pub server_faults : {H : Type 0} {h h' : H} {told : Option Holds} {words : Declared} {before now : ℕ} {a b : Streams} {ending : Ending} {Then : Declarations → Option ServiceId → Type 0} → Starting told words before now Then (λ stop. Halts stop a b ending × (h' ≡ h)) → (ending ≡ FileFault) ⊎ (now ≡ before)
+pub server_faults : {H : Type 0} {h h' : H} {told : Option Holds} {words : Declared} {before now : ℕ} {a b : Streams} {ending : Ending} {Then : Start → Type 0} → Starting told words before now Then (λ stop. Halts stop a b ending × (h' ≡ h)) → (ending ≡ FileFault) ⊎ (now ≡ before)
 server_faults (Goes s told cause did) = inr cause
 server_faults {before = before} {now = now} {a = a} {b = b} {ending = ending} (Stops stop told cause halts) = stopped Start stop before now a b ending cause halts.0
 

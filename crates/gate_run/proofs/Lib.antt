@@ -6,6 +6,7 @@ pub mod Faults
 pub mod Outcome
 pub mod Posting
 pub mod Progress
+pub mod Routed
 pub mod Served
 pub mod Started
 pub mod Starts

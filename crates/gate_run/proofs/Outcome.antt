@@ -1,5 +1,5 @@
 -- From the moments of a conversion to what the whole conversion did.
-use Rattle.std.proofs.Common.{◌≡◌, ℕ, ◌+◌, ◌-◌, ◌^◌, ◌≤◌, ◌<◌, ◌⊎◌, inl, inr, List, [], ◌++◌, length, take, arith, refl, sym, ◌∙◌, ap, subst, Option, Bool, true, false, ◌||◌, Result, Ok, Err}
+use Rattle.std.proofs.Common.{◌≡◌, ℕ, ◌+◌, ◌≤◌, ◌⊎◌, inl, inr, List, [], ◌++◌, length, take, arith, refl, sym, ◌∙◌, ap, subst, Option, Bool, true, false, ◌||◌, Result, Ok, Err}
 use Rattle.std.specs.Prelude.{⊤, IfErr}
 use Rattle.std.specs.Io.KnownBytes.{Appends, IsAtEnd}
 use Rattle.std.proofs.lemmas.List.{take_all}

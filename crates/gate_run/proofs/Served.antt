@@ -1,14 +1,13 @@
 -- A server whose hub has stopped.
-use Rattle.std.proofs.Common.{◌≡◌, ℕ, ◌≤◌, ◌⊎◌, inl, inr, List, length, true, Some, Option, refl, sym, subst}
+use Rattle.std.proofs.Common.{◌≡◌, ℕ, ◌≤◌, ◌⊎◌, inl, inr, List, length, true, Some, refl, sym, subst}
 use Rattle.std.specs.Prelude.{slice_get}
 use Rattle.gate_base.specs.Causes.{Rose}
 use Rattle.gate_hub.specs.Meaning.{Meaning}
 use Rattle.gate_hub.specs.Hubs.{Counts, NotStarted, StartLeads}
+use Rattle.gate_hub.specs.declared.hub.Hub.{Ghosts as Hub}
 use Rattle.gate_hub.specs.declared.hub.Began.TheVariants as began
 use Rattle.gate_hub.specs.declared.hub.Served.{Served}
 use Rattle.gate_hub.specs.declared.hub.Served.TheVariants as served
-use Rattle.type_tables.specs.declared.declared.ServiceId.{ServiceId}
-use Rattle.type_tables.specs.Declarations.{Declarations}
 use Rattle.session_core.specs.Session.{Seen}
 use Rattle.session_core.specs.declared.outcome.Outcome.{Outcome}
 use Rattle.session_judge.specs.Setting.{Setting}
@@ -20,6 +19,8 @@ use Rattle.proxy_server.proofs.Calls.{served_writes}
 use Rattle.gate_words.specs.declared.serving.Serving.{Serving}
 use Rattle.gate_run.specs.Outcome.{Streams, WriteFailed}
 use Rattle.gate_run.specs.Serving.{ServesAll, Began, NotBegun, NoMemory, EndsBy, HasServed, GoesOn, settings, started_by, served_from}
+use Rattle.gate_run.specs.Undisturbed.{ServerRun, RunsHub, IsUndisturbed, HasStopped}
+use Rattle.gate_run.specs.declared.start.Start.{Start}
 use Rattle.gate_run.specs.declared.status.Ending.{Ending}
 use Rattle.gate_run.specs.declared.status.Ending.TheVariants as endings
 use Rattle.gate_run.proofs.Outcome.{rose_earlier}
@@ -34,18 +35,18 @@ each set held ended busy n stands settled k (inr (IsOpenOne i e at same)) =
 not_budget : served.Stopped ≡ served.Budget → ⊥
 not_budget e = cc
 
-module _ (told told' : Meaning → Type 0) (counts counts' : Counts) (s : Serving) (d : Declarations) (service : Option ServiceId) (m : Meaning) (known : told m) (is_fresh : IsFresh m) where
-  stopped : (a b : Streams) → Serves Setting rules_of (settings s d service) (served_from told counts a) (served_from told' counts' b) served.Stopped → HasServed told' s d service
+module _ (told told' : Meaning → Type 0) (counts counts' : Counts) (s : Serving) (start : Start) (m : Meaning) (known : told m) (is_fresh : IsFresh m) where
+  stopped : (a b : Streams) → Serves Setting rules_of (settings s start) (served_from told counts a) (served_from told' counts' b) served.Stopped → HasServed told' s start
   stopped a b x =
       let after = x.keeps m known is_fresh in
-      (after.0, after.1, after.2.event, λ k announced. each (settings s d service) x.held x.ended x.busy after.0 after.2.stands (after.2.left.settled not_budget) k (after.2.stands.covers k announced))
+      (after.0, after.1, after.2.event, λ k announced. each (settings s start) x.held x.ended x.busy after.0 after.2.stands (after.2.left.settled not_budget) k (after.2.stands.covers k announced))
 
-  spent : (a b : Streams) → Serves Setting rules_of (settings s d service) (served_from told counts a) (served_from told' counts' b) served.Budget → GoesOn told'
+  spent : (a b : Streams) → Serves Setting rules_of (settings s start) (served_from told counts a) (served_from told' counts' b) served.Budget → GoesOn told'
   spent a b x =
       let after = x.keeps m known is_fresh in
       (after.0, after.1, after.2.event)
 
-  by_result : (first before now : ℕ) (a b : Streams) (ending : Ending) (result : Served) → first ≤ before → Serves Setting rules_of (settings s d service) (served_from told counts a) (served_from told' counts' b) result → EndsBy result before now a b ending → (Rose first now → ⊥) → (WriteFailed a b → ⊥) → ((ending ≡ endings.Done) × HasServed told' s d service) ⊎ ((ending ≡ endings.BudgetSpent) × GoesOn told') ⊎ (ending ≡ endings.OutOfMemory)
+  by_result : (first before now : ℕ) (a b : Streams) (ending : Ending) (result : Served) → first ≤ before → Serves Setting rules_of (settings s start) (served_from told counts a) (served_from told' counts' b) result → EndsBy result before now a b ending → (Rose first now → ⊥) → (WriteFailed a b → ⊥) → ((ending ≡ endings.Done) × HasServed told' s start) ⊎ ((ending ≡ endings.BudgetSpent) × GoesOn told') ⊎ (ending ≡ endings.OutOfMemory)
   by_result first before now a b ending served.Stopped later x ends no_hub no_write = inl (ends.0, stopped a b x)
   by_result first before now a b ending served.HubFault later x ends no_hub no_write = absurd (no_hub (rose_earlier first before now later ends.1))
   by_result first before now a b ending served.WriteFault later x ends no_hub no_write =
@@ -56,9 +57,13 @@ module _ (told told' : Meaning → Type 0) (counts counts' : Counts) (s : Servin
 fresh : (s : Serving) (m n : Meaning) → NotStarted m → ((k : ℕ) → (m.session k).announced ≡ true → ⊥) → StartLeads (started_by s) began.Done m n → IsFresh n
 fresh s m n before none e = subst (λ (x : Meaning). IsFresh x) (sym e) (record { started = refl; unasked = before.1; none = none })
 
-pub served_well : {H : Type 0} (tells : H → Meaning → Type 0) (counts : H → Counts) (s : Serving) (d : Declarations) (service : Option ServiceId) (h h' : H) (a b : Streams) (ending : Ending) (m : Meaning) → ServesAll tells counts s d service h h' a b ending → tells h m → NotStarted m → ((k : ℕ) → (m.session k).announced ≡ true → ⊥) → (Rose (counts h).faults (counts h').faults → ⊥) → (WriteFailed a b → ⊥) → ((ending ≡ endings.Done) × HasServed (tells h') s d service) ⊎ ((ending ≡ endings.BudgetSpent) × GoesOn (tells h')) ⊎ (ending ≡ endings.OutOfMemory)
-served_well tells counts s d service h h' a b ending m (Began mid result left later leads serves ends) known before none no_hub no_write =
+pub served_well : {H : Type 0} (tells : H → Meaning → Type 0) (counts : H → Counts) (s : Serving) (start : Start) (h h' : H) (a b : Streams) (ending : Ending) (m : Meaning) → ServesAll tells counts s start h h' a b ending → tells h m → NotStarted m → ((k : ℕ) → (m.session k).announced ≡ true → ⊥) → (Rose (counts h).faults (counts h').faults → ⊥) → (WriteFailed a b → ⊥) → ((ending ≡ endings.Done) × HasServed (tells h') s start) ⊎ ((ending ≡ endings.BudgetSpent) × GoesOn (tells h')) ⊎ (ending ≡ endings.OutOfMemory)
+served_well tells counts s start h h' a b ending m (Began mid result left later leads serves ends) known before none no_hub no_write =
     let begun = leads m known before in
-    by_result (tells mid) (tells h') (counts mid) (counts h') s d service begun.0 begun.1 (fresh s m begun.0 before none begun.2) (counts h).faults (counts mid).faults (counts h').faults a b ending result later.faults serves ends no_hub no_write
-served_well tells counts s d service h h' a b ending m (NotBegun leads rose says) known before none no_hub no_write = absurd (no_hub rose)
-served_well tells counts s d service h h' a b ending m (NoMemory leads says) known before none no_hub no_write = inr (inr says.is)
+    by_result (tells mid) (tells h') (counts mid) (counts h') s start begun.0 begun.1 (fresh s m begun.0 before none begun.2) (counts h).faults (counts mid).faults (counts h').faults a b ending result later.faults serves ends no_hub no_write
+served_well tells counts s start h h' a b ending m (NotBegun leads rose says) known before none no_hub no_write = absurd (no_hub rose)
+served_well tells counts s start h h' a b ending m (NoMemory leads says) known before none no_hub no_write = inr (inr says.is)
+
+pub hub_stopped : {H : Type 0} (hubs : Hub H) (x : ServerRun H) (start : Start) → RunsHub hubs start x → IsUndisturbed hubs x → HasStopped (hubs.tells x.hub_behind) start x
+hub_stopped hubs x start serves calm =
+    served_well hubs.tells hubs.counts x.serving start x.hub x.hub_behind x.before.streams x.behind.streams x.ending calm.meaning serves calm.told calm.untouched.unstarted calm.untouched.none calm.hub calm.writes

@@ -3,12 +3,18 @@ use Rattle.std.proofs.Common.{◌≡◌, ℕ, ◌⊎◌, inl, inr, List, Option,
 use Rattle.gate_base.specs.Causes.{Rose}
 use Rattle.type_tables.specs.declared.declared.ServiceId.{ServiceId}
 use Rattle.type_tables.specs.Declarations.{Declarations}
+use Rattle.gate_fan.specs.declared.fan.Fan.{Ghosts as Fan}
+use Rattle.gate_hub.specs.declared.hub.Hub.{Ghosts as Hub}
+use Rattle.gate_words.specs.declared.command.Command.TheVariants.{Check}
 use Rattle.gate_words.specs.declared.options.Declared.{Declared}
 use Rattle.gate_idl.specs.Opening.{IsOpened, Opened}
 use Rattle.gate_idl.specs.declared.refusal.Refusal.{Refusal}
 use Rattle.std.specs.Io.KnownBytes.{Appends}
 use Rattle.gate_run.specs.Checking.{Checks, Good, Bad, declared_text}
-use Rattle.gate_run.specs.Outcome.{Streams, WriteFailed}
+use Rattle.gate_run.specs.Outcome.{Streams, WriteFailed, Streamed}
+use Rattle.gate_run.specs.Routed.{RouterRun, IsRoutingOf, RoutesFrom, HasRoutedFrom}
+use Rattle.gate_run.specs.Running.{Outside, Obeys}
+use Rattle.gate_run.specs.Undisturbed.{CanCheck, HasChecked, CanStart, StreamRun, IsStreamRun, HasGoneThrough, ServerRun, IsRunOf, RunsFrom, HasServedFrom}
 use Rattle.gate_run.specs.Starting.{Holds, IsRead, IsDeclared, IsService, IsNoService, IsStart, Starting, Goes, Stops, HasCause, Halts}
 use Rattle.gate_run.specs.Writing.{Tells}
 use Rattle.gate_run.specs.declared.start.Start.{Start}
@@ -37,6 +43,12 @@ no_service (Some name) d a p q = (let wrong : Some p.0 ≡ None = sym p.1 ∙ q 
 line_written : (a b : Streams) (line : List ℕ) (ending : Ending) → ((ending ≡ endings.Done) × Appends a.written b.written line) ⊎ ((ending ≡ endings.WriteFault) × Rose a.output_faults b.output_faults) → (WriteFailed a b → ⊥) → (ending ≡ endings.Done) × Appends a.written b.written line
 line_written a b line ending (inl done) no_write = done
 line_written a b line ending (inr failed) no_write = absurd (no_write (inl failed.1))
+
+abbrev start_of : Declarations → Option ServiceId → Start
+start_of d service = record { schema = d; service = service }
+
+same_start : (s t : Start) → s.schema ≡ t.schema → s.service ≡ t.service → s ≡ t
+same_start s t p q = ap (λ (d : Declarations). start_of d s.service) p ∙ ap (λ (service : Option ServiceId). start_of t.schema service) q
 
 or_else : {A B C : Type 0} → (B → C) → A ⊎ B → A ⊎ C
 or_else f (inl a) = inl a
@@ -67,21 +79,34 @@ module _ (opened_once : (holds : Holds) (root : List ℕ) (a b : Opened) → IsO
   stops_not holds words s stops.OutOfMemory before now good bad cause no_fault = refl
 
   -- a command whose words give this start starts from it, or wants memory
-  starts : (holds : Holds) (words : Declared) (s : Start) (before now : ℕ) (Then : Declarations → Option ServiceId → Type 0) (Else : NoStart → Type 0) → IsStart holds words (Ok s) → Starting (Some holds) words before now Then Else → (Rose before now → ⊥) → Then s.schema s.service ⊎ Else stops.OutOfMemory
-  starts holds words s before now Then Else good (Goes t told cause did) no_fault =
-      let own = told holds (inl refl) in
+  starts : (holds : Holds) (words : Declared) (s : Start) (told : Option Holds) (before now : ℕ) (Then : Start → Type 0) (Else : NoStart → Type 0) → told ≡ Some holds → IsStart holds words (Ok s) → Starting told words before now Then Else
+      → (Rose before now → ⊥) → Then s ⊎ Else stops.OutOfMemory
+  starts holds words s told before now Then Else known good (Goes t is cause did) no_fault =
+      let own = is holds (inl known) in
       let schema : t.schema ≡ s.schema = same_declared holds words.idl t.schema s.schema own.0 good.0 in
       let here = subst (λ (d : Declarations). IsService words.service d t.service) schema own.1 in
       let service : t.service ≡ s.service = same_service words.service s.schema t.service s.service here good.1 in
-      inl (subst (λ (x : Option ServiceId). Then s.schema x) service (subst (λ (d : Declarations). Then d t.service) schema did))
-  starts holds words s before now Then Else good (Stops stop told cause other) no_fault =
-      inr (subst Else (stops_not holds words s stop before now good (told holds (inl refl)) cause no_fault) other)
+      inl (subst Then (same_start t s schema service) did)
+  starts holds words s told before now Then Else known good (Stops stop is cause other) no_fault =
+      inr (subst Else (stops_not holds words s stop before now good (is holds (inl known)) cause no_fault) other)
 
-  pub stream_starts : (holds : Holds) (words : Declared) (s : Start) (before now : ℕ) (a b : Streams) (ending : Ending) (Then : Declarations → Option ServiceId → Type 0) → IsStart holds words (Ok s) → Starting (Some holds) words before now Then (λ stop. Halts stop a b ending) → (Rose before now → ⊥) → Then s.schema s.service ⊎ (ending ≡ endings.OutOfMemory)
-  stream_starts holds words s before now a b ending Then good started no_fault = or_else (λ other. other.is) (starts holds words s before now Then (λ stop. Halts stop a b ending) good started no_fault)
+  pub stream_starts : (x : StreamRun) (start : Start) → IsStreamRun x → CanStart x.declared start x.before x.behind → HasGoneThrough start x
+  stream_starts x start runs can =
+      or_else (λ other. other.is)
+      (starts can.holds x.declared start x.before.holds x.before.file_faults x.behind.file_faults (λ s. Streamed (x.task s) x.before.streams x.behind.streams x.ending)
+      (λ stop. Halts stop x.before.streams x.behind.streams x.ending) can.told can.is runs can.files)
 
-  pub server_starts : {H : Type 0} (h h' : H) (holds : Holds) (words : Declared) (s : Start) (before now : ℕ) (a b : Streams) (ending : Ending) (Then : Declarations → Option ServiceId → Type 0) → IsStart holds words (Ok s) → Starting (Some holds) words before now Then (λ stop. Halts stop a b ending × (h' ≡ h)) → (Rose before now → ⊥) → Then s.schema s.service ⊎ (ending ≡ endings.OutOfMemory)
-  server_starts h h' holds words s before now a b ending Then good started no_fault = or_else (λ other. other.0.is) (starts holds words s before now Then (λ stop. Halts stop a b ending × (h' ≡ h)) good started no_fault)
+  pub server_starts : {H : Type 0} (hubs : Hub H) (x : ServerRun H) (start : Start) → IsRunOf hubs x → CanStart x.declared start x.before x.behind → HasServedFrom hubs start x
+  server_starts hubs x start runs can =
+      or_else (λ other. other.0.is)
+      (starts can.holds x.declared start x.before.holds x.before.file_faults x.behind.file_faults (λ s. RunsFrom hubs s x)
+      (λ stop. Halts stop x.before.streams x.behind.streams x.ending × (x.hub_behind ≡ x.hub)) can.told can.is runs can.files)
+
+  pub router_starts : {M : Type 0} (fans : Fan M) (x : RouterRun M) (start : Start) → IsRoutingOf fans x → CanStart x.declared start x.before x.behind → HasRoutedFrom fans start x
+  router_starts fans x start runs can =
+      or_else (λ other. other.0.is)
+      (starts can.holds x.declared start x.before.holds x.before.file_faults x.behind.file_faults (λ s. RoutesFrom fans s x)
+      (λ stop. Halts stop x.before.streams x.behind.streams x.ending × (x.fan_behind ≡ x.fan)) can.told can.is runs can.files)
 
   -- ---- the check
 
@@ -91,9 +116,14 @@ module _ (opened_once : (holds : Holds) (root : List ℕ) (a b : Opened) → IsO
   read_not holds file d stops.FileFault before now a b ending good bad cause no_fault halts = absurd (no_fault cause)
   read_not holds file d stops.OutOfMemory before now a b ending good bad cause no_fault halts = halts.is
 
-  pub idl_checked : (holds : Holds) (file : List ℕ) (d : Declarations) (before now : ℕ) (a b : Streams) (ending : Ending) → IsOpened holds file (Ok d) → Checks (Some holds) file before now a b ending → (Rose before now → ⊥) → (WriteFailed a b → ⊥) → ((ending ≡ endings.Done) × Appends a.written b.written (declared_text d)) ⊎ (ending ≡ endings.OutOfMemory)
-  idl_checked holds file d before now a b ending good (Good e told cause tells) no_fault no_write =
-      let same : e ≡ d = same_opened holds file e d (told holds refl) good in
+  checked : (holds : Holds) (file : List ℕ) (d : Declarations) (told : Option Holds) (before now : ℕ) (a b : Streams) (ending : Ending) → told ≡ Some holds → IsOpened holds file (Ok d) → Checks told file before now a b ending
+      → (Rose before now → ⊥) → (WriteFailed a b → ⊥) → ((ending ≡ endings.Done) × Appends a.written b.written (declared_text d)) ⊎ (ending ≡ endings.OutOfMemory)
+  checked holds file d told before now a b ending known good (Good e is cause tells) no_fault no_write =
+      let same : e ≡ d = same_opened holds file e d (is holds known) good in
       inl (line_written a b (declared_text d) ending (subst (λ (x : Declarations). Tells (declared_text x) a b ending) same tells).ends no_write)
-  idl_checked holds file d before now a b ending good (Bad stop told cause halts) no_fault no_write =
-      inr (read_not holds file d stop before now a b ending good (told holds refl) cause no_fault halts)
+  checked holds file d told before now a b ending known good (Bad stop is cause halts) no_fault no_write =
+      inr (read_not holds file d stop before now a b ending good (is holds known) cause no_fault halts)
+
+  pub idl_checked : (file : List ℕ) (d : Declarations) (x y : Outside) (ending : Ending) → Obeys (Check file) x y ending → CanCheck file d x y → HasChecked d x y ending
+  idl_checked file d x y ending checks can =
+      checked can.holds file d x.holds x.file_faults y.file_faults x.streams y.streams ending can.told can.is checks can.files can.writes

@@ -1,5 +1,8 @@
 -- How a command ends.
-use Rattle.std.specs.Prelude.{◌≡◌, ℕ, List, [], codes}
+use Rattle.std.specs.Prelude.{◌≡◌, ◌⊎◌, ℕ, List, [], Option, codes}
+use Rattle.std.specs.Io.KnownBytes.{Appends}
+use Rattle.gate_base.specs.Causes.{Rose}
+use Rattle.gate_io.specs.declared.byte_streams.Sink.{Ghosts as Sink}
 use Rattle.gate_run.specs.declared.status.Ending.{Ending}
 use Rattle.gate_run.specs.declared.status.Ending.TheVariants as endings
 
@@ -28,3 +31,11 @@ last_line endings.FileFault = codes "file fault\n"
 last_line endings.HubFault = codes "hub fault\n"
 last_line endings.BudgetSpent = codes "budget spent\n"
 last_line endings.OutOfMemory = codes "no memory\n"
+
+-- the line was written, and the command ends as it is to; or the write failed, and the command ends with a write fault
+abbrev pub EndsWith : List ℕ → Ending → Option (List ℕ) → Option (List ℕ) → ℕ → ℕ → Ending → Type 0
+EndsWith line wanted old new before now ending = ((ending ≡ wanted) × Appends old new line) ⊎ ((ending ≡ endings.WriteFault) × Rose before now)
+
+-- the same of a line that goes to this sink
+abbrev pub SaysOn : {S : Type 0} → Sink S → List ℕ → Ending → S → S → Ending → Type 0
+SaysOn sinks line wanted sink sink' ending = EndsWith line wanted (sinks.written sink) (sinks.written sink') (sinks.faults sink) (sinks.faults sink') ending

@@ -1,4 +1,5 @@
 -- What is read, written and reported at each command.
+pub mod Calls
 pub mod Checking
 pub mod Drilling
 pub mod Endings
@@ -10,9 +11,12 @@ pub mod Peers
 pub mod Posts
 pub mod Progress
 pub mod Rooms
+pub mod Routed
+pub mod Routes
 pub mod Running
 pub mod Serving
 pub mod Starting
 pub mod Terms
+pub mod Undisturbed
 pub mod Working
 pub mod Writing

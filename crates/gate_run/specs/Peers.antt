@@ -2,6 +2,7 @@
 use Rattle.std.specs.Prelude.{◌≡◌, ℕ, Option, None, Some, is_some, Bool, true, false}
 use Rattle.gate_hub.specs.Meaning.{Meaning}
 use Rattle.gate_hub.specs.Hubs.{Counts}
+use Rattle.gate_hub.specs.declared.hub.Hub.{Ghosts as Hub}
 use Rattle.protocol_traits.specs.declared.proto.Proto.{Proto}
 use Rattle.protocol_traits.specs.declared.proto.Proto.TheVariants as protocols
 use Rattle.stream_messages.specs.Telling.{TellsOver, counts_over}
@@ -10,8 +11,6 @@ use Rattle.stream_messages.specs.declared.lanes.Wrapping.{Wrapping}
 use Rattle.stream_messages.specs.declared.scan.Wire.{Wire}
 use Rattle.stream_messages.specs.declared.scan.Wire.TheVariants as wires
 use Rattle.stream_messages.specs.declared.slots.Slots.{Slots}
-use Rattle.type_tables.specs.declared.declared.ServiceId.{ServiceId}
-use Rattle.type_tables.specs.Declarations.{Declarations}
 use Rattle.gate_words.specs.Peers.{has_client, has_upstream}
 use Rattle.gate_words.specs.declared.command.Command.{Command}
 use Rattle.gate_words.specs.declared.command.Command.TheVariants as commands
@@ -19,6 +18,7 @@ use Rattle.gate_words.specs.declared.peers.Sides.{Sides}
 use Rattle.gate_words.specs.declared.serving.Serving.{Serving}
 use Rattle.gate_run.specs.Outcome.{Streams}
 use Rattle.gate_run.specs.Serving.{ServesAll}
+use Rattle.gate_run.specs.declared.start.Start.{Start}
 use Rattle.gate_run.specs.declared.status.Ending.{Ending}
 
 -- the grammar that tells where a message ends; JSON has messages only in frames
@@ -57,18 +57,30 @@ abbrev pub unframed : {H : Type 0} → Wrapping → H → Unframed H
 unframed w h = record { inner = h; wrapping = w; slots = None; missing = 0 }
 
 -- the server goes over a hub that wraps these sides of this one, which is left as that hub leaves it
-abbrev pub ServesUnframed : {H : Type 0} → Sides → (H → Meaning → Type 0) → (H → Counts) → Serving → Declarations → Option ServiceId → H → H → Streams → Streams → Ending → Type 0
-ServesUnframed {H} sides tells counts s d service h h' a b ending =
+abbrev pub ServesUnframed : {H : Type 0} → Sides → (H → Meaning → Type 0) → (H → Counts) → Serving → Start → H → H → Streams → Streams → Ending → Type 0
+ServesUnframed {H} sides tells counts s start h h' a b ending =
     (u : Unframed H) × (u.inner ≡ h') × (u.wrapping ≡ wrapping_by sides s)
-    × ServesAll (unframed_tells tells) (unframed_counts counts) s d service (unframed (wrapping_by sides s) h) u a b ending
+    × ServesAll (unframed_tells tells) (unframed_counts counts) s start (unframed (wrapping_by sides s) h) u a b ending
 
-abbrev pub ServesBySides : {H : Type 0} → Option Sides → (H → Meaning → Type 0) → (H → Counts) → Serving → Declarations → Option ServiceId → H → H → Streams → Streams → Ending → Type 0
+abbrev pub ServesBySides : {H : Type 0} → Option Sides → (H → Meaning → Type 0) → (H → Counts) → Serving → Start → H → H → Streams → Streams → Ending → Type 0
 ServesBySides None tells counts = ServesAll tells counts
 ServesBySides (Some sides) tells counts = ServesUnframed sides tells counts
 
 -- the server goes over the hub as its words wrap it
-abbrev pub ServesPeers : {H : Type 0} → (H → Meaning → Type 0) → (H → Counts) → Serving → Declarations → Option ServiceId → H → H → Streams → Streams → Ending → Type 0
+abbrev pub ServesPeers : {H : Type 0} → (H → Meaning → Type 0) → (H → Counts) → Serving → Start → H → H → Streams → Streams → Ending → Type 0
 ServesPeers tells counts s = ServesBySides s.unframed tells counts s
+
+-- ---- the same by what hubs tell of themselves
+
+abbrev pub ServesSides : {H : Type 0} → Hub H → Sides → Serving → Start → H → H → Streams → Streams → Ending → Type 0
+ServesSides hubs sides = ServesUnframed sides hubs.tells hubs.counts
+
+abbrev pub ServesOver : {H : Type 0} → Hub H → Serving → Start → H → H → Streams → Streams → Ending → Type 0
+ServesOver hubs = ServesPeers hubs.tells hubs.counts
+
+-- over a hub that wraps one of these
+abbrev pub ServesWrapped : {H : Type 0} → Hub H → Serving → Start → UnframedHub H → UnframedHub H → Streams → Streams → Ending → Type 0
+ServesWrapped hubs s start hub hub' = ServesAll (unframed_tells hubs.tells) (unframed_counts hubs.counts) s start (seen hub) (seen hub')
 
 -- a server of whose peers some send no frames
 abbrev pub is_unframed : Option Command → Bool
@@ -77,6 +89,7 @@ is_unframed (Some (commands.Check file)) = false
 is_unframed (Some (commands.Convert k words)) = false
 is_unframed (Some (commands.Show k words)) = false
 is_unframed (Some (commands.Conform k words)) = false
+is_unframed (Some (commands.Route r words)) = false
 is_unframed (Some (commands.Drill k)) = false
 is_unframed (Some commands.Help) = false
 is_unframed None = false

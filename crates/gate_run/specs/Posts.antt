@@ -1,14 +1,13 @@
 -- The hub of a server as its words wrap it, where the clients may send each message as the body of a POST.
-use Rattle.std.specs.Prelude.{◌≡◌, ℕ, Option, None, Some, Bool, true, false}
+use Rattle.std.specs.Prelude.{◌≡◌, ℕ, Option, None, Some, Bool, false}
 use Rattle.gate_hub.specs.Meaning.{Meaning}
 use Rattle.gate_hub.specs.Hubs.{Counts}
+use Rattle.gate_hub.specs.declared.hub.Hub.{Ghosts as Hub}
 use Rattle.http_front.specs.Counting.{with_own}
 use Rattle.http_front.specs.Fronts.{Reading}
 use Rattle.http_front.specs.Slots.{Open}
 use Rattle.http_front.specs.Telling.{TellsOver}
 use Rattle.http_front.specs.declared.hub.HttpHub.{HttpHub}
-use Rattle.type_tables.specs.declared.declared.ServiceId.{ServiceId}
-use Rattle.type_tables.specs.Declarations.{Declarations}
 use Rattle.gate_words.specs.Peers.{is_http}
 use Rattle.gate_words.specs.declared.command.Command.{Command}
 use Rattle.gate_words.specs.declared.command.Command.TheVariants as commands
@@ -17,11 +16,12 @@ use Rattle.gate_words.specs.declared.peers.Front.TheVariants as fronts
 use Rattle.gate_words.specs.declared.serving.Serving.{Serving}
 use Rattle.gate_run.specs.Outcome.{Streams}
 use Rattle.gate_run.specs.Peers.{ServesPeers}
+use Rattle.gate_run.specs.declared.start.Start.{Start}
 use Rattle.gate_run.specs.declared.status.Ending.{Ending}
 
 -- how the bodies of the clients are read
-abbrev pub reading_by : Serving → Declarations → Option ServiceId → Reading
-reading_by s d service = record { declared = d; service = service; client = s.client; limit = s.limit }
+abbrev pub reading_by : Serving → Start → Reading
+reading_by s start = record { declared = start.schema; service = start.service; client = s.client; limit = s.limit }
 
 -- a hub over another one whose clients send POSTs: which one, how their bodies are read, what it holds of open sessions, whether it
 -- has stopped, and what it counted besides
@@ -48,18 +48,27 @@ abbrev pub posting : {H : Type 0} → Reading → H → Posting H
 posting rules h = record { inner = h; rules = rules; slots = None; stopped = false; strays = 0; waits = 0 }
 
 -- the server goes over a hub whose clients send POSTs to this one, which is left as that hub leaves it
-abbrev pub ServesPosts : {H : Type 0} → (H → Meaning → Type 0) → (H → Counts) → Serving → Declarations → Option ServiceId → H → H → Streams → Streams → Ending → Type 0
-ServesPosts {H} tells counts s d service h h' a b ending =
-    (p : Posting H) × (p.inner ≡ h') × (p.rules ≡ reading_by s d service)
-    × ServesPeers (posting_tells tells) (posting_counts counts) s d service (posting (reading_by s d service) h) p a b ending
+abbrev pub ServesPosts : {H : Type 0} → (H → Meaning → Type 0) → (H → Counts) → Serving → Start → H → H → Streams → Streams → Ending → Type 0
+ServesPosts {H} tells counts s start h h' a b ending =
+    (p : Posting H) × (p.inner ≡ h') × (p.rules ≡ reading_by s start)
+    × ServesPeers (posting_tells tells) (posting_counts counts) s start (posting (reading_by s start) h) p a b ending
 
-abbrev pub ServesByFront : {H : Type 0} → Front → (H → Meaning → Type 0) → (H → Counts) → Serving → Declarations → Option ServiceId → H → H → Streams → Streams → Ending → Type 0
+abbrev pub ServesByFront : {H : Type 0} → Front → (H → Meaning → Type 0) → (H → Counts) → Serving → Start → H → H → Streams → Streams → Ending → Type 0
 ServesByFront fronts.Framed tells counts = ServesPeers tells counts
 ServesByFront fronts.Http tells counts = ServesPosts tells counts
 
 -- the server goes over the hub as its words wrap it
-abbrev pub ServesByWords : {H : Type 0} → (H → Meaning → Type 0) → (H → Counts) → Serving → Declarations → Option ServiceId → H → H → Streams → Streams → Ending → Type 0
-ServesByWords tells counts s = ServesByFront s.front tells counts s
+abbrev pub ServesByWords : {H : Type 0} → Hub H → Serving → Start → H → H → Streams → Streams → Ending → Type 0
+ServesByWords hubs s = ServesByFront s.front hubs.tells hubs.counts s
+
+-- ---- the same of the parts, by what hubs tell of themselves
+
+abbrev pub ServesByPosts : {H : Type 0} → Hub H → Serving → Start → H → H → Streams → Streams → Ending → Type 0
+ServesByPosts hubs = ServesPosts hubs.tells hubs.counts
+
+-- over a hub whose clients send POSTs to one of these
+abbrev pub ServesPosted : {H : Type 0} → Hub H → Serving → Start → HttpHub H → HttpHub H → Streams → Streams → Ending → Type 0
+ServesPosted hubs s start hub hub' = ServesPeers (posting_tells hubs.tells) (posting_counts hubs.counts) s start (posted hub) (posted hub')
 
 -- a server whose clients send POSTs
 abbrev pub has_posts : Option Command → Bool
@@ -68,6 +77,7 @@ has_posts (Some (commands.Check file)) = false
 has_posts (Some (commands.Convert k words)) = false
 has_posts (Some (commands.Show k words)) = false
 has_posts (Some (commands.Conform k words)) = false
+has_posts (Some (commands.Route r words)) = false
 has_posts (Some (commands.Drill k)) = false
 has_posts (Some commands.Help) = false
 has_posts None = false

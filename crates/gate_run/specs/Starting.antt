@@ -11,7 +11,7 @@ use Rattle.gate_words.specs.declared.options.Declared.{Declared}
 use Rattle.gate_idl.specs.Refusals.{refusal_text}
 use Rattle.gate_idl.specs.Opening.{IsOpened}
 use Rattle.gate_io.specs.Fronts.{AppendsFront}
-use Rattle.gate_run.specs.Endings.{last_line}
+use Rattle.gate_run.specs.Endings.{last_line, EndsWith}
 use Rattle.gate_run.specs.Lines.{usage_text}
 use Rattle.gate_run.specs.Outcome.{Streams}
 use Rattle.gate_run.specs.declared.start.Start.{Start}
@@ -83,7 +83,7 @@ pub record Says (line : List ℕ) (wanted : Ending) (a b : Streams) (ending : En
   pub left : b.left ≡ a.left
   pub written : b.written ≡ a.written
   pub front : AppendsFront a.reported b.reported line
-  pub ends : ((ending ≡ wanted) × Appends a.reported b.reported line) ⊎ ((ending ≡ endings.WriteFault) × Rose a.report_faults b.report_faults)
+  pub ends : EndsWith line wanted a.reported b.reported a.report_faults b.report_faults ending
 
 -- the same with a last line, which leaves the ending as it is where the line isn't written
 pub record SaysLast (wanted : Ending) (a b : Streams) (ending : Ending) : Type 0 where
@@ -101,8 +101,8 @@ Halts stops.FileFault a b ending = SaysLast endings.FileFault a b ending
 Halts stops.OutOfMemory a b ending = SaysLast endings.OutOfMemory a b ending
 
 -- a command started from what the files declare, and did this from there; or it did not start, and this holds
-pub data Starting (told : Option Holds) (words : Declared) (before now : ℕ) (Then : Declarations → Option ServiceId → Type 0) (Else : NoStart → Type 0) : Type 0 where
+pub data Starting (told : Option Holds) (words : Declared) (before now : ℕ) (Then : Start → Type 0) (Else : NoStart → Type 0) : Type 0 where
   Goes : (s : Start) → ((holds : Holds) → IsToldBy told words.idl holds → IsStart holds words (Ok s)) → HasCause {X = Start} (Ok s) before now →
-      Then s.schema s.service → Starting told words before now Then Else
+      Then s → Starting told words before now Then Else
   Stops : (stop : NoStart) → ((holds : Holds) → IsToldBy told words.idl holds → IsStart holds words (Err stop)) → HasCause {X = Start} (Err stop) before now →
       Else stop → Starting told words before now Then Else

@@ -13,6 +13,7 @@ use Rattle.gate_words.specs.declared.command.Conversion.{Conversion}
 use Rattle.gate_words.specs.declared.command.Showing.{Showing as ShowWords}
 use Rattle.gate_run.specs.declared.task.Doing.{Doing}
 use Rattle.gate_run.specs.declared.task.Doing.TheVariants.{Convert, Show, Conform}
+use Rattle.gate_run.specs.declared.start.Start.{Start}
 use Rattle.gate_run.specs.Findings.{finding}
 
 -- what is declared, the service of names that have none before them, what is done with a frame, and the most bytes of one
@@ -25,14 +26,14 @@ pub record Terms : Type 0 where
 abbrev pub terms : Declarations → Option ServiceId → Doing → ℕ → Terms
 terms d service doing limit = record { declarations = d; service = service; doing = doing; limit = limit }
 
-abbrev pub converting : Declarations → Option ServiceId → Conversion → Terms
-converting d service c = terms d service (Convert c.from c.to) c.limit
+abbrev pub converting : Start → Conversion → Terms
+converting start c = terms start.schema start.service (Convert c.from c.to) c.limit
 
-abbrev pub showing : Declarations → Option ServiceId → ShowWords → Terms
-showing d service s = terms d service (Show s.from) s.limit
+abbrev pub showing : Start → ShowWords → Terms
+showing start s = terms start.schema start.service (Show s.from) s.limit
 
-abbrev pub conforming : Declarations → Option ServiceId → Conforming → Terms
-conforming d service c = terms d service (Conform c.from) c.limit
+abbrev pub conforming : Start → Conforming → Terms
+conforming start c = terms start.schema start.service (Conform c.from) c.limit
 
 -- the verdict on a frame that is translated, with what is written of it
 abbrev pub judged_by : Terms → Proto → Proto → List ℕ → Judged

@@ -8,6 +8,8 @@ use Rattle.gate_io.specs.Buffer.{Buffer}
 use Rattle.gate_run.specs.Endings.{last_line}
 use Rattle.gate_run.specs.Terms.{Terms}
 use Rattle.gate_io.specs.Fronts.{AppendsFront, Flushed}
+use Rattle.gate_io.specs.declared.byte_streams.Sink.{Ghosts as Sink}
+use Rattle.gate_io.specs.declared.byte_streams.Source.{Ghosts as Source}
 use Rattle.gate_run.specs.Handling.{Treated, Passes, Fails, outputs, lines, is_passed, bytes_for, line_for}
 use Rattle.gate_run.specs.Rooms.{framed_room}
 use Rattle.gate_run.specs.declared.task.Doing.{Doing}
@@ -15,6 +17,7 @@ use Rattle.gate_run.specs.declared.task.Doing.TheVariants.{Convert, Show, Confor
 use Rattle.gate_run.specs.declared.handler.Handler.{Handler}
 use Rattle.gate_run.specs.declared.handler.Handler.TheVariants as handlers
 use Rattle.gate_run.specs.declared.frame.WriteFault.{WriteFault}
+use Rattle.gate_run.specs.declared.page.Page.{Page}
 use Rattle.gate_run.specs.declared.frame.Treatment.{Treatment}
 use Rattle.gate_run.specs.declared.frame.Treatment.TheVariants as treatment
 use Rattle.gate_io.specs.declared.byte_streams.Got.{Got}
@@ -42,6 +45,20 @@ abbrev pub IsHandled : ℕ → Result Bool WriteFault → Treated → Option (Li
 IsHandled number (Ok passed) t written waiting told written' waiting' told' =
     (passed ≡ is_passed t) × Flushed written (waiting ++ bytes_for number t) written' waiting' × (told' ≡ record told { bytes = told.bytes ++ line_for number t })
 IsHandled number (Err fault) t written waiting told written' waiting' told' = AppendsFront written written' (waiting ++ bytes_for number t)
+
+-- what was treated is handled so, whatever was written
+abbrev pub IsSettled : Treatment → ℕ → Result Bool WriteFault → Buffer → Buffer → Type 0
+IsSettled answer number result told told' =
+    (t : Treated) (written written' : Option (List ℕ)) (waiting waiting' : List ℕ) → Treats answer t written waiting written' waiting'
+    → IsHandled number result t written waiting told written' waiting' told'
+
+-- both with what waits on a page for an output, as that tells of itself
+abbrev pub TreatsOn : {O : Type 0} → Sink O → Treatment → Treated → O → Page → O → Page → Type 0
+TreatsOn outputs answer t output page output' page' = Treats answer t (outputs.written output) page.out.bytes (outputs.written output') page'.out.bytes
+
+abbrev pub HandlesOn : {O : Type 0} → Sink O → ℕ → Result Bool WriteFault → Treated → O → Page → Buffer → O → Page → Buffer → Type 0
+HandlesOn outputs number result t output page told output' page' told' =
+    IsHandled number result t (outputs.written output) page.out.bytes told (outputs.written output') page'.out.bytes told'
 
 -- what handles the frames does what the terms say, by what they declare
 abbrev pub IsHandler : Terms → Handler → Type 0
@@ -132,6 +149,15 @@ MakesRoom (Ok done) page page' waiting waiting' written written' reported report
     Stays page page' waiting waiting' written written' reported reported' ⊎ Empties page page' waiting waiting' written written' reported reported'
 MakesRoom (Err broken) page page' waiting waiting' written written' reported reported' = WritesBoth (Err broken) page waiting written written' reported reported'
 
+-- both, as the sinks tell of themselves
+abbrev pub WritesBothOn : {O E : Type 0} → Sink O → Sink E → Result (Unit {0}) Broken → Page → Buffer → O → E → O → E → Type 0
+WritesBothOn outputs reports result page lines output report output' report' =
+    WritesBoth result page.out.bytes lines.bytes (outputs.written output) (outputs.written output') (reports.written report) (reports.written report')
+
+abbrev pub MakesRoomOn : {O E : Type 0} → Sink O → Sink E → Result (Unit {0}) Broken → Page → Buffer → O → E → Page → Buffer → O → E → Type 0
+MakesRoomOn outputs reports result page lines output report page' lines' output' report' =
+    MakesRoom result page.out.bytes page'.out.bytes lines.bytes lines'.bytes (outputs.written output) (outputs.written output') (reports.written report) (reports.written report')
+
 -- ---- the frames that are held
 
 -- less than a frame is held, or the next length is too large; what there was room for waits
@@ -189,3 +215,38 @@ Ends k a b (Ok endings.FileFault) = ⊥
 Ends k a b (Ok endings.HubFault) = ⊥
 Ends k a b (Ok endings.OutOfMemory) = ⊥
 Ends k a b (Err broken) = Breaks broken k a b
+
+-- ---- the calls of the work, as sources and sinks tell of themselves
+
+-- it reads once, whatever the sinks are
+abbrev pub TakesFrom : {I : Type 0} → Source I → Terms → Work → I → Work → I → Got → Type 0
+TakesFrom sources k work input work' input' got =
+    (written reported : Option (List ℕ)) → Takes k (moment work (sources.left input) written reported) (moment work' (sources.left input') written reported) got
+
+-- it handles the frames that are held, whatever the input is
+abbrev pub HandlesHeld : {O E : Type 0} → Sink O → Sink E → Terms → Work → O → E → Work → O → E → Result (Option ℤ) Broken → Type 0
+HandlesHeld outputs reports k work output report work' output' report' result =
+    (left : Option (List ℕ)) →
+    Handles k (moment work left (outputs.written output) (reports.written report)) (moment work' left (outputs.written output') (reports.written report'))
+    work'.page.out.bytes work'.lines.bytes result
+
+abbrev pub DrainsHeld : {O E : Type 0} → Sink O → Sink E → Terms → Work → O → E → Work → O → E → Result (Option ℤ) Broken → Type 0
+DrainsHeld outputs reports k work output report work' output' report' result =
+    (left : Option (List ℕ)) →
+    Drains k (moment work left (outputs.written output) (reports.written report)) (moment work' left (outputs.written output') (reports.written report')) result
+
+-- it ends with a line of the report, whatever else there is
+abbrev pub EndsOn : {E : Type 0} → Sink E → Terms → Work → E → Work → E → Result Ending Broken → Type 0
+EndsOn reports k work report work' report' result =
+    (left written : Option (List ℕ)) → Ends k (moment work left written (reports.written report)) (moment work' left written (reports.written report')) result
+
+-- the same where the input is at its end
+abbrev pub FinishesOn : {E : Type 0} → Sink E → Terms → Work → E → Work → E → Result Ending Broken → Type 0
+FinishesOn reports k work report work' report' result =
+    (left written : Option (List ℕ)) → IsAtEnd left → Ends k (moment work left written (reports.written report)) (moment work' left written (reports.written report')) result
+
+-- it reads to the end or to a fault
+abbrev pub Processes : {I O E : Type 0} → Source I → Sink O → Sink E → Terms → Work → I → O → E → Work → I → O → E → Result Ending Broken → Type 0
+Processes sources outputs reports k work input output report work' input' output' report' result =
+    Ends k (moment work (sources.left input) (outputs.written output) (reports.written report))
+    (moment work' (sources.left input') (outputs.written output') (reports.written report')) result

@@ -1,8 +1,7 @@
 -- What a command writes that writes one text.
-use Rattle.std.specs.Prelude.{◌≡◌, ◌⊎◌, ℕ, List}
-use Rattle.std.specs.Io.KnownBytes.{Appends}
-use Rattle.gate_base.specs.Causes.{Rose}
+use Rattle.std.specs.Prelude.{◌≡◌, ℕ, List}
 use Rattle.gate_io.specs.Fronts.{AppendsFront}
+use Rattle.gate_run.specs.Endings.{EndsWith}
 use Rattle.gate_run.specs.Outcome.{Streams}
 use Rattle.gate_run.specs.declared.status.Ending.{Ending}
 use Rattle.gate_run.specs.declared.status.Ending.TheVariants as endings
@@ -12,4 +11,4 @@ pub record Tells (text : List ℕ) (a b : Streams) (ending : Ending) : Type 0 wh
   pub left : b.left ≡ a.left
   pub reported : b.reported ≡ a.reported
   pub front : AppendsFront a.written b.written text
-  pub ends : ((ending ≡ endings.Done) × Appends a.written b.written text) ⊎ ((ending ≡ endings.WriteFault) × Rose a.output_faults b.output_faults)
+  pub ends : EndsWith text endings.Done a.written b.written a.output_faults b.output_faults ending

@@ -1,15 +1,15 @@
 //! The check of an IDL.
-ghost use Rattle.std.specs.Prelude.{◌≡◌, ◌≤◌, ◌<◌, ◌^◌, IfOk, ℕ, List, Option, length};
-ghost use Rattle.gate_run.specs.Outcome.{streams};
-ghost use Rattle.gate_run.specs.Checking.{Checks, ok_text};
+ghost use Rattle.std.specs.Prelude.{◌≡◌, ◌≤◌, ◌<◌, ◌^◌, IfOk, length};
+ghost use Rattle.gate_run.specs.Calls.{OnSinks};
+ghost use Rattle.gate_run.specs.Checking.{ChecksFile, TellsDeclared, ok_text};
 
-use crate::start::{NoStart, halt, read};
-use crate::status::{Ending, say};
+use crate::start::{halt, read};
+use crate::status::{Ending, end_with, say};
 use decimal_words::push_number;
 use gate_base::OutOfMemory;
 use gate_io::{Files, Out, Sink};
 use std::alloc::Global;
-use type_tables::Counts;
+use type_tables::{Counts, Schema};
 
 /// The room of the line that tells how much is declared.
 const OK_ROOM: usize = 160;
@@ -22,21 +22,27 @@ pub fn check<O: Sink, E: Sink, F: Files>(
     output: &mut O,
     report: &mut E,
 ) -> Ending
-    ensures checks { (left : Option (List ℕ)) (input : ℕ) →
-        let a = streams left (O.written output.old) (E.written report.old) input (O.faults output.old) (E.faults report.old) in
-        let b = streams left (O.written output.new) (E.written report.new) input (O.faults output.new) (E.faults report.new) in
-        Checks (F.holds files.old) file.now (F.faults files.old) (F.faults files.new) a b result }
+    ensures checks { OnSinks O.Sink E.Sink (ChecksFile F.Files file.now files.old files.new) output.old report.old output.new report.new result }
     ensures holds { F.holds files.new ≡ F.holds files.old }
     ensures files_later { F.faults files.old ≤ F.faults files.new }
     ensures output_later { O.faults output.old ≤ O.faults output.new }
     ensures report_later { E.faults report.old ≤ E.faults report.new }
 {
     match read(alloc, files, file) {
-        Ok(schema) => match ok_line(alloc, &schema.counts()) {
-            Ok(line) => say(output, line.bytes(), Ending::Done),
-            Err(OutOfMemory) => halt(alloc, &NoStart::OutOfMemory, report),
-        },
+        Ok(schema) => tell(alloc, &schema, output, report),
         Err(stop) => halt(alloc, &stop, report),
+    }
+}
+
+// Writes how much is declared.
+fn tell<O: Sink, E: Sink>(alloc: Global, schema: &Schema, output: &mut O, report: &mut E) -> Ending
+    ensures tells { OnSinks O.Sink E.Sink (TellsDeclared schema.now) output.old report.old output.new report.new result }
+    ensures output_later { O.faults output.old ≤ O.faults output.new }
+    ensures report_later { E.faults report.old ≤ E.faults report.new }
+{
+    match ok_line(alloc, &schema.counts()) {
+        Ok(line) => say(output, line.bytes(), Ending::Done),
+        Err(OutOfMemory) => end_with(report, Ending::OutOfMemory),
     }
 }
 

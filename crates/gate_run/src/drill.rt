@@ -1,7 +1,7 @@
 //! The making of messages.
-ghost use Rattle.std.specs.Prelude.{◌≡◌, ◌≤◌, [], ℕ, List, Option};
+ghost use Rattle.std.specs.Prelude.{◌≡◌, ◌≤◌, []};
+ghost use Rattle.gate_run.specs.Calls.{OnSinks};
 ghost use Rattle.gate_run.specs.Drilling.{Drills, drill_text};
-ghost use Rattle.gate_run.specs.Outcome.{streams};
 
 use crate::status::{Ending, end_with, say};
 use decimal_words::push_number;
@@ -21,10 +21,7 @@ pub fn drill_all<O: Sink, E: Sink>(
     report: &mut E,
 ) -> Ending
     requires { drilling.count ≤ MOST_MESSAGES }
-    ensures drills { (left : Option (List ℕ)) (input : ℕ) →
-        let a = streams left (O.written output.old) (E.written report.old) input (O.faults output.old) (E.faults report.old) in
-        let b = streams left (O.written output.new) (E.written report.new) input (O.faults output.new) (E.faults report.new) in
-        Drills drilling a b result }
+    ensures drills { OnSinks O.Sink E.Sink (Drills drilling) output.old report.old output.new report.new result }
     ensures output_later { O.faults output.old ≤ O.faults output.new }
     ensures report_later { E.faults report.old ≤ E.faults report.new }
 {

@@ -1,8 +1,8 @@
 //! One frame of a stream: what is written or reported of it.
-ghost use Rattle.std.specs.Prelude.{◌≡◌, ◌+◌, ◌^◌, ◌<◌, ◌≤◌, ◌++◌, ℕ, List, Option, IfErr, length};
+ghost use Rattle.std.specs.Prelude.{◌≡◌, ◌+◌, ◌^◌, ◌<◌, ◌≤◌, ◌++◌, ℕ, IfErr, length};
 ghost use Rattle.gate_base.specs.Causes.{Rose};
-ghost use Rattle.gate_run.specs.Handling.{Treated, treated};
-ghost use Rattle.gate_run.specs.Working.{Treats, IsHandled, IsHandler, IsRoomy, HasRoom};
+ghost use Rattle.gate_run.specs.Handling.{treated};
+ghost use Rattle.gate_run.specs.Working.{HandlesOn, IsSettled, IsHandler, IsRoomy, HasRoom};
 
 use crate::conform::conform_frame;
 use crate::convert::convert_frame;
@@ -44,8 +44,7 @@ pub fn handle<O: Sink>(
     requires size { length frame.now < 2 ^ 31 }
     requires fits { HasRoom task.now.doing (length frame.now) page.old.out }
     requires line { length lines.old.bytes + LINE_ROOM ≤ lines.old.room }
-    ensures handled { IsHandled number result (treated task.now frame.now)
-        (O.written output.old) page.old.out.bytes lines.old (O.written output.new) page.new.out.bytes lines.new }
+    ensures handled { HandlesOn O.Sink number result (treated task.now frame.now) output.old page.old lines.old output.new page.new lines.new }
     ensures handler { IsHandler task.now handler.new }
     ensures roomy { (limit : ℕ) → IsRoomy task.now.doing limit page.old.out.room → IsRoomy task.now.doing limit page.new.out.room }
     ensures lines_room { lines.new.room ≡ lines.old.room }
@@ -71,8 +70,7 @@ pub fn handle<O: Sink>(
 // Reports why a frame didn't pass, and says whether it passed.
 fn settle(treatment: Treatment, number: u64, lines: &mut Out) -> Result<bool, WriteFault>
     requires { length lines.old.bytes + LINE_ROOM ≤ lines.old.room }
-    ensures handled { (t : Treated) (written written' : Option (List ℕ)) (waiting waiting' : List ℕ) → Treats treatment t written waiting written' waiting'
-        → IsHandled number result t written waiting lines.old written' waiting' lines.new }
+    ensures handled { IsSettled treatment number result lines.old lines.new }
     ensures room { lines.new.room ≡ lines.old.room }
     ensures fault { IfErr result (λ failed. treatment ≡ Treatment.WriteFault) }
 {

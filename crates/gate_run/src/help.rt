@@ -1,7 +1,7 @@
 //! The help text.
-ghost use Rattle.std.specs.Prelude.{◌≤◌, ℕ, List, Option};
+ghost use Rattle.std.specs.Prelude.{◌≤◌};
+ghost use Rattle.gate_run.specs.Calls.{OnOutput};
 ghost use Rattle.gate_run.specs.Lines.{help_text};
-ghost use Rattle.gate_run.specs.Outcome.{streams};
 ghost use Rattle.gate_run.specs.Writing.{Tells};
 
 use crate::status::{Ending, say};
@@ -13,6 +13,7 @@ check FILE
 convert FROM TO [--idl FILE] [--service NAME] [--limit F]
 show FROM [--idl FILE] [--service NAME] [--limit F]
 serve CLIENT UPSTREAM LISTEN TARGET [--idl FILE] [--service NAME] [--limit F] [--sessions N] [--accept C] [--events E] [--calls P] [--unframed SIDE] [--front KIND]
+route CLIENT UPSTREAM LISTEN TARGETS [--idl FILE] [--limit F] [--sessions N] [--accept C] [--events E] [--calls P]
 conform FROM --idl FILE [--service NAME] [--limit F]
 drill SEED COUNT
 help
@@ -21,9 +22,7 @@ help
 /// Writes the help text.
 #[tactic(auto, unfolding(crate::specs::Lines::help_text))]
 pub fn help<O: Sink>(output: &mut O) -> Ending
-    ensures helps { (left reported : Option (List ℕ)) (input report : ℕ) → Tells help_text
-        (streams left (O.written output.old) reported input (O.faults output.old) report)
-        (streams left (O.written output.new) reported input (O.faults output.new) report) result }
+    ensures helps { OnOutput O.Sink (Tells help_text) output.old output.new result }
     ensures later { O.faults output.old ≤ O.faults output.new }
 {
     say(output, HELP, Ending::Done)

@@ -1,23 +1,19 @@
 //! The server, from its start to its status.
-ghost use Rattle.std.specs.Prelude.{◌≡◌, ◌≤◌, ◌<◌, ℕ, List, Option, IfSome, is_some, false, length};
+ghost use Rattle.std.specs.Prelude.{◌≡◌, ◌≤◌, is_some, false};
 ghost use Rattle.gate_base.specs.Causes.{Rose};
 ghost use Rattle.gate_hub.specs.Hubs.{Later};
-ghost use Rattle.gate_run.specs.Outcome.{streams};
-ghost use Rattle.session_judge.specs.Setting.{Setting};
-ghost use Rattle.session_judge.specs.Rules.{rules_of};
-ghost use Rattle.proxy_server.specs.Steps.{Serves, outside};
 ghost use Rattle.gate_words.specs.Peers.{is_http};
-ghost use Rattle.gate_run.specs.Peers.{ServesPeers, ServesUnframed, wire_if, seen, unframed_tells, unframed_counts};
-ghost use Rattle.gate_run.specs.Posts.{ServesByWords, ServesPosts, posting_tells, posting_counts, posted};
-ghost use Rattle.gate_hub.specs.declared.hub.Side.{Side};
-ghost use Rattle.gate_run.specs.Serving.{ServesAll, EndsBy, settings};
+ghost use Rattle.gate_run.specs.Calls.{OnSinks};
+ghost use Rattle.gate_run.specs.Peers.{ServesSides, ServesOver, ServesWrapped, wire_if};
+ghost use Rattle.gate_run.specs.Posts.{ServesByWords, ServesByPosts, ServesPosted};
+ghost use Rattle.gate_run.specs.Serving.{CanServe, ServesHub, ServesSessions, EndsServer, WaitsLater, LinkFaultsLater};
 
 use crate::judges::PairJudges;
 use crate::start::Start;
 use crate::status::{Ending, end_with};
 use gate_hub::{Began, Hub, Served};
 use gate_io::Sink;
-use gate_words::{Front, GREATEST_LIMIT, LEAST_LIMIT, MOST_CALLS, Serving, Sides};
+use gate_words::{Front, Serving, Sides};
 use http_front::HttpHub;
 use protocol_traits::Proto;
 use proxy_server::{Limits, serve};
@@ -34,21 +30,13 @@ pub fn serve_all<O: Sink, E: Sink, H: Hub>(
     report: &mut E,
     hub: &mut H,
 ) -> Ending
-    requires least { LEAST_LIMIT ≤ serving.now.limit }
-    requires limit { serving.now.limit ≤ GREATEST_LIMIT }
-    requires some { 1 ≤ serving.now.calls }
-    requires few { serving.now.calls ≤ MOST_CALLS }
-    requires service { IfSome start.now.service (λ x. x.0 < length start.now.schema.services) }
-    ensures serves { (left : Option (List ℕ)) (input : ℕ) →
-        let a = streams left (O.written output.old) (E.written report.old) input (O.faults output.old) (E.faults report.old) in
-        let b = streams left (O.written output.new) (E.written report.new) input (O.faults output.new) (E.faults report.new) in
-        ServesByWords H.tells H.counts serving.now start.now.schema start.now.service hub.old hub.new a b result }
+    requires { CanServe serving.now start.now }
+    ensures serves { OnSinks O.Sink E.Sink (ServesByWords H.Hub serving.now start.now hub.old hub.new) output.old report.old output.new report.new result }
     ensures output_later { O.faults output.old ≤ O.faults output.new }
     ensures report_later { E.faults report.old ≤ E.faults report.new }
     ensures faults { (H.counts hub.old).faults ≤ (H.counts hub.new).faults }
-    ensures waits { is_http serving.now.front ≡ false → (k : ℕ) (side : Side) → (H.counts hub.old).waits k side ≤ (H.counts hub.new).waits k side }
-    ensures links { is_http serving.now.front ≡ false → is_some serving.now.unframed ≡ false → (k : ℕ) (side : Side) →
-        (H.counts hub.old).link_faults k side ≤ (H.counts hub.new).link_faults k side }
+    ensures waits { is_http serving.now.front ≡ false → WaitsLater H.Hub hub.old hub.new }
+    ensures links { is_http serving.now.front ≡ false → is_some serving.now.unframed ≡ false → LinkFaultsLater H.Hub hub.old hub.new }
     ensures kept { H.kept hub.new ≡ H.kept hub.old }
 {
     match serving.front {
@@ -66,15 +54,8 @@ fn serve_posts<O: Sink, E: Sink, H: Hub>(
     report: &mut E,
     hub: &mut H,
 ) -> Ending
-    requires least { LEAST_LIMIT ≤ serving.now.limit }
-    requires limit { serving.now.limit ≤ GREATEST_LIMIT }
-    requires some { 1 ≤ serving.now.calls }
-    requires few { serving.now.calls ≤ MOST_CALLS }
-    requires service { IfSome start.now.service (λ x. x.0 < length start.now.schema.services) }
-    ensures serves { (left : Option (List ℕ)) (input : ℕ) →
-        let a = streams left (O.written output.old) (E.written report.old) input (O.faults output.old) (E.faults report.old) in
-        let b = streams left (O.written output.new) (E.written report.new) input (O.faults output.new) (E.faults report.new) in
-        ServesPosts H.tells H.counts serving.now start.now.schema start.now.service hub.old hub.new a b result }
+    requires { CanServe serving.now start.now }
+    ensures serves { OnSinks O.Sink E.Sink (ServesByPosts H.Hub serving.now start.now hub.old hub.new) output.old report.old output.new report.new result }
     ensures output_later { O.faults output.old ≤ O.faults output.new }
     ensures report_later { E.faults report.old ≤ E.faults report.new }
     ensures faults { (H.counts hub.old).faults ≤ (H.counts hub.new).faults }
@@ -101,16 +82,8 @@ fn serve_posting<O: Sink, E: Sink, H: Hub>(
     report: &mut E,
     hub: &mut HttpHub<'_, H>,
 ) -> Ending
-    requires least { LEAST_LIMIT ≤ serving.now.limit }
-    requires limit { serving.now.limit ≤ GREATEST_LIMIT }
-    requires some { 1 ≤ serving.now.calls }
-    requires few { serving.now.calls ≤ MOST_CALLS }
-    requires service { IfSome start.now.service (λ x. x.0 < length start.now.schema.services) }
-    ensures serves { (left : Option (List ℕ)) (input : ℕ) →
-        let a = streams left (O.written output.old) (E.written report.old) input (O.faults output.old) (E.faults report.old) in
-        let b = streams left (O.written output.new) (E.written report.new) input (O.faults output.new) (E.faults report.new) in
-        let set = serving.now in
-        ServesPeers (posting_tells H.tells) (posting_counts H.counts) set start.now.schema start.now.service (posted hub.old) (posted hub.new) a b result }
+    requires { CanServe serving.now start.now }
+    ensures serves { OnSinks O.Sink E.Sink (ServesPosted H.Hub serving.now start.now hub.old hub.new) output.old report.old output.new report.new result }
     ensures output_later { O.faults output.old ≤ O.faults output.new }
     ensures report_later { E.faults report.old ≤ E.faults report.new }
     ensures faults { (H.counts hub.old.inner.now).faults ≤ (H.counts hub.new.inner.now).faults }
@@ -130,20 +103,13 @@ fn serve_peers<O: Sink, E: Sink, H: Hub>(
     report: &mut E,
     hub: &mut H,
 ) -> Ending
-    requires least { LEAST_LIMIT ≤ serving.now.limit }
-    requires limit { serving.now.limit ≤ GREATEST_LIMIT }
-    requires some { 1 ≤ serving.now.calls }
-    requires few { serving.now.calls ≤ MOST_CALLS }
-    requires service { IfSome start.now.service (λ x. x.0 < length start.now.schema.services) }
-    ensures serves { (left : Option (List ℕ)) (input : ℕ) →
-        let a = streams left (O.written output.old) (E.written report.old) input (O.faults output.old) (E.faults report.old) in
-        let b = streams left (O.written output.new) (E.written report.new) input (O.faults output.new) (E.faults report.new) in
-        ServesPeers H.tells H.counts serving.now start.now.schema start.now.service hub.old hub.new a b result }
+    requires { CanServe serving.now start.now }
+    ensures serves { OnSinks O.Sink E.Sink (ServesOver H.Hub serving.now start.now hub.old hub.new) output.old report.old output.new report.new result }
     ensures output_later { O.faults output.old ≤ O.faults output.new }
     ensures report_later { E.faults report.old ≤ E.faults report.new }
     ensures faults { (H.counts hub.old).faults ≤ (H.counts hub.new).faults }
-    ensures waits { (k : ℕ) (side : Side) → (H.counts hub.old).waits k side ≤ (H.counts hub.new).waits k side }
-    ensures links { is_some serving.now.unframed ≡ false → (k : ℕ) (side : Side) → (H.counts hub.old).link_faults k side ≤ (H.counts hub.new).link_faults k side }
+    ensures waits { WaitsLater H.Hub hub.old hub.new }
+    ensures links { is_some serving.now.unframed ≡ false → LinkFaultsLater H.Hub hub.old hub.new }
     ensures kept { H.kept hub.new ≡ H.kept hub.old }
 {
     match serving.unframed {
@@ -162,19 +128,12 @@ fn serve_unframed<O: Sink, E: Sink, H: Hub>(
     report: &mut E,
     hub: &mut H,
 ) -> Ending
-    requires least { LEAST_LIMIT ≤ serving.now.limit }
-    requires limit { serving.now.limit ≤ GREATEST_LIMIT }
-    requires some { 1 ≤ serving.now.calls }
-    requires few { serving.now.calls ≤ MOST_CALLS }
-    requires service { IfSome start.now.service (λ x. x.0 < length start.now.schema.services) }
-    ensures serves { (left : Option (List ℕ)) (input : ℕ) →
-        let a = streams left (O.written output.old) (E.written report.old) input (O.faults output.old) (E.faults report.old) in
-        let b = streams left (O.written output.new) (E.written report.new) input (O.faults output.new) (E.faults report.new) in
-        ServesUnframed sides H.tells H.counts serving.now start.now.schema start.now.service hub.old hub.new a b result }
+    requires { CanServe serving.now start.now }
+    ensures serves { OnSinks O.Sink E.Sink (ServesSides H.Hub sides serving.now start.now hub.old hub.new) output.old report.old output.new report.new result }
     ensures output_later { O.faults output.old ≤ O.faults output.new }
     ensures report_later { E.faults report.old ≤ E.faults report.new }
     ensures faults { (H.counts hub.old).faults ≤ (H.counts hub.new).faults }
-    ensures waits { (k : ℕ) (side : Side) → (H.counts hub.old).waits k side ≤ (H.counts hub.new).waits k side }
+    ensures waits { WaitsLater H.Hub hub.old hub.new }
     ensures kept { H.kept hub.new ≡ H.kept hub.old }
 {
     let client = wire_if(sides.has_client(), serving.client);
@@ -194,19 +153,12 @@ fn serve_wrapped<O: Sink, E: Sink, H: Hub>(
     report: &mut E,
     hub: &mut UnframedHub<'_, H>,
 ) -> Ending
-    requires limit { serving.now.limit ≤ GREATEST_LIMIT }
-    requires some { 1 ≤ serving.now.calls }
-    requires few { serving.now.calls ≤ MOST_CALLS }
-    requires service { IfSome start.now.service (λ x. x.0 < length start.now.schema.services) }
-    ensures serves { (left : Option (List ℕ)) (input : ℕ) →
-        let a = streams left (O.written output.old) (E.written report.old) input (O.faults output.old) (E.faults report.old) in
-        let b = streams left (O.written output.new) (E.written report.new) input (O.faults output.new) (E.faults report.new) in
-        let set = serving.now in
-        ServesAll (unframed_tells H.tells) (unframed_counts H.counts) set start.now.schema start.now.service (seen hub.old) (seen hub.new) a b result }
+    requires { CanServe serving.now start.now }
+    ensures serves { OnSinks O.Sink E.Sink (ServesWrapped H.Hub serving.now start.now hub.old hub.new) output.old report.old output.new report.new result }
     ensures output_later { O.faults output.old ≤ O.faults output.new }
     ensures report_later { E.faults report.old ≤ E.faults report.new }
     ensures faults { (H.counts hub.old.inner.now).faults ≤ (H.counts hub.new.inner.now).faults }
-    ensures waits { (k : ℕ) (side : Side) → (H.counts hub.old.inner.now).waits k side ≤ (H.counts hub.new.inner.now).waits k side }
+    ensures waits { WaitsLater H.Hub hub.old.inner.now hub.new.inner.now }
     ensures same_reference { hub.new.inner.ghost_name ≡ hub.old.inner.ghost_name }
     ensures wrapping { hub.new.wrapping ≡ hub.old.wrapping }
     ensures kept { H.kept hub.new.inner.now ≡ H.kept hub.old.inner.now }
@@ -234,14 +186,8 @@ fn serve_hub<O: Sink, E: Sink, H: Hub>(
     report: &mut E,
     hub: &mut H,
 ) -> Ending
-    requires limit { serving.now.limit ≤ GREATEST_LIMIT }
-    requires some { 1 ≤ serving.now.calls }
-    requires few { serving.now.calls ≤ MOST_CALLS }
-    requires service { IfSome start.now.service (λ x. x.0 < length start.now.schema.services) }
-    ensures serves { (left : Option (List ℕ)) (input : ℕ) →
-        let a = streams left (O.written output.old) (E.written report.old) input (O.faults output.old) (E.faults report.old) in
-        let b = streams left (O.written output.new) (E.written report.new) input (O.faults output.new) (E.faults report.new) in
-        ServesAll H.tells H.counts serving.now start.now.schema start.now.service hub.old hub.new a b result }
+    requires { CanServe serving.now start.now }
+    ensures serves { OnSinks O.Sink E.Sink (ServesHub H.Hub serving.now start.now hub.old hub.new) output.old report.old output.new report.new result }
     ensures output_later { O.faults output.old ≤ O.faults output.new }
     ensures report_later { E.faults report.old ≤ E.faults report.new }
     ensures hub_later { Later (H.counts hub.old) (H.counts hub.new) }
@@ -272,13 +218,8 @@ fn serve_started<O: Sink, H: Hub>(
     hub: &mut H,
     output: &mut O,
 ) -> Served
-    requires limit { serving.now.limit ≤ GREATEST_LIMIT }
-    requires some { 1 ≤ serving.now.calls }
-    requires few { serving.now.calls ≤ MOST_CALLS }
-    requires service { IfSome start.now.service (λ x. x.0 < length start.now.schema.services) }
-    ensures serves { let set = settings serving.now start.now.schema start.now.service in
-        let moment = outside H.tells H.counts O.written O.faults in
-        Serves Setting rules_of set (moment hub.old output.old) (moment hub.new output.new) result }
+    requires { CanServe serving.now start.now }
+    ensures serves { ServesSessions H.Hub O.Sink serving.now start.now hub.old output.old hub.new output.new result }
     ensures output_later { O.faults output.old ≤ O.faults output.new }
     ensures later { Later (H.counts hub.old) (H.counts hub.new) }
     ensures kept { H.kept hub.new ≡ H.kept hub.old }
@@ -301,12 +242,9 @@ fn serve_started<O: Sink, H: Hub>(
     serve(alloc, &judges, limits, hub, output)
 }
 
-// The ending and the last line of a server that has ended.
-fn end<E: Sink>(served: Served, report: &mut E) -> Ending
-    ensures ends { (left written written' : Option (List ℕ)) (input output output' before now : ℕ) →
-        let a = streams left written (E.written report.old) input output (E.faults report.old) in
-        let b = streams left written' (E.written report.new) input output' (E.faults report.new) in
-        (served ≡ Served.HubFault → Rose before now) → EndsBy served before now a b result }
+/// The ending and the last line of a server that has ended.
+pub fn end<E: Sink>(served: Served, report: &mut E) -> Ending
+    ensures ends { EndsServer E.Sink served report.old report.new result }
     ensures later { E.faults report.old ≤ E.faults report.new }
 {
     match served {

@@ -4,7 +4,7 @@ ghost use Rattle.gate_base.specs.Causes.{Rose};
 ghost use Rattle.message_show.specs.Shown.{HasLine};
 ghost use Rattle.gate_run.specs.Handling.{as_line};
 ghost use Rattle.gate_run.specs.Terms.{shown_by};
-ghost use Rattle.gate_run.specs.Working.{Treats};
+ghost use Rattle.gate_run.specs.Working.{TreatsOn};
 
 use crate::frame::Treatment;
 use crate::page::Page;
@@ -25,8 +25,7 @@ pub fn show_frame<O: Sink>(
 ) -> Treatment
     requires room { length frame.now ≤ length room.old }
     requires size { length frame.now < 2 ^ 31 }
-    ensures treated { let line = as_line (shown_by task.now from frame.now) in
-        Treats result line (O.written output.old) page.old.out.bytes (O.written output.new) page.new.out.bytes }
+    ensures treated { TreatsOn O.Sink result (as_line (shown_by task.now from frame.now)) output.old page.old output.new page.new }
     ensures later { O.faults output.old ≤ O.faults output.new }
     ensures cause { result ≡ Treatment.WriteFault → Rose (O.faults output.old) (O.faults output.new) }
 {
@@ -54,8 +53,7 @@ fn show_long<O: Sink>(
     requires room { length frame.now ≤ length room.old }
     requires size { length frame.now < 2 ^ 31 }
     requires message { HasLine (shown_by task.now from frame.now) }
-    ensures treated { let line = as_line (shown_by task.now from frame.now) in
-        Treats result line (O.written output.old) page.old.out.bytes (O.written output.new) page.new.out.bytes }
+    ensures treated { TreatsOn O.Sink result (as_line (shown_by task.now from frame.now)) output.old page.old output.new page.new }
     ensures later { O.faults output.old ≤ O.faults output.new }
     ensures cause { result ≡ Treatment.WriteFault → Rose (O.faults output.old) (O.faults output.new) }
 {

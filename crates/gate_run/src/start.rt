@@ -1,7 +1,7 @@
 //! What a command starts from: the declarations of its IDL, and the service of names that have none before them.
 ghost use Rattle.std.specs.Prelude.{◌≡◌, ◌<◌, ◌≤◌, Some, ℕ, List, Option, IfSome, IfOk, length};
 ghost use Rattle.type_tables.specs.Known.{built_in};
-ghost use Rattle.gate_run.specs.Outcome.{streams};
+ghost use Rattle.gate_run.specs.Calls.{OnReport};
 ghost use Rattle.gate_run.specs.Starting.{HasCause, Halts, IsRead, IsBuiltIn, IsDeclared, IsStart, IsToldBy, IsService, IsNoService};
 
 use crate::status::{Ending, end_with, say, usage};
@@ -102,9 +102,7 @@ fn undeclared(alloc: Global) -> Result<Schema, OutOfMemory>
 
 /// Ends a command that doesn't start.
 pub fn halt<E: Sink>(alloc: Global, stop: &NoStart, report: &mut E) -> Ending
-    ensures halts { (left written : Option (List ℕ)) (input output : ℕ) → Halts stop.now
-        (streams left written (E.written report.old) input output (E.faults report.old))
-        (streams left written (E.written report.new) input output (E.faults report.new)) result }
+    ensures halts { OnReport E.Sink (Halts stop.now) report.old report.new result }
     ensures later { E.faults report.old ≤ E.faults report.new }
 {
     match stop {
@@ -117,9 +115,7 @@ pub fn halt<E: Sink>(alloc: Global, stop: &NoStart, report: &mut E) -> Ending
 
 // Reports why an IDL is refused.
 fn refuse<E: Sink>(alloc: Global, refusal: &Refusal, report: &mut E) -> Ending
-    ensures halts { (left written : Option (List ℕ)) (input output : ℕ) → Halts (NoStart.Refused refusal.now)
-        (streams left written (E.written report.old) input output (E.faults report.old))
-        (streams left written (E.written report.new) input output (E.faults report.new)) result }
+    ensures halts { OnReport E.Sink (Halts (NoStart.Refused refusal.now)) report.old report.new result }
     ensures later { E.faults report.old ≤ E.faults report.new }
 {
     match refusal.line(alloc) {

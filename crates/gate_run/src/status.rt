@@ -3,7 +3,7 @@ ghost use Rattle.std.specs.Prelude.{◌≡◌, ◌⊎◌, ◌≤◌};
 ghost use Rattle.std.specs.Io.KnownBytes.{Appends};
 ghost use Rattle.gate_base.specs.Causes.{Rose};
 ghost use Rattle.gate_io.specs.Fronts.{AppendsFront};
-ghost use Rattle.gate_run.specs.Endings.{code_of, last_line};
+ghost use Rattle.gate_run.specs.Endings.{code_of, last_line, SaysOn};
 ghost use Rattle.gate_run.specs.Lines.{usage_text};
 
 use gate_io::{Sink, Wrote, write_all};
@@ -83,8 +83,7 @@ pub fn end_with<E: Sink>(report: &mut E, ending: Ending) -> Ending
 /// Writes a line, and gives this ending, or that of a write fault where it wasn't written.
 pub fn say<S: Sink>(sink: &mut S, line: &[u8], ending: Ending) -> Ending
     ensures front { AppendsFront (S.written sink.old) (S.written sink.new) line.now }
-    ensures ends { ((result ≡ ending) × Appends (S.written sink.old) (S.written sink.new) line.now)
-        ⊎ ((result ≡ Ending.WriteFault) × Rose (S.faults sink.old) (S.faults sink.new)) }
+    ensures ends { SaysOn S.Sink line.now ending sink.old sink.new result }
     ensures later { S.faults sink.old ≤ S.faults sink.new }
 {
     match write_all(sink, line) {
@@ -97,8 +96,7 @@ pub fn say<S: Sink>(sink: &mut S, line: &[u8], ending: Ending) -> Ending
 #[tactic(auto, unfolding(crate::specs::Lines::usage_text))]
 pub fn usage<E: Sink>(report: &mut E) -> Ending
     ensures front { AppendsFront (E.written report.old) (E.written report.new) usage_text }
-    ensures ends { ((result ≡ Ending.Usage) × Appends (E.written report.old) (E.written report.new) usage_text)
-        ⊎ ((result ≡ Ending.WriteFault) × Rose (E.faults report.old) (E.faults report.new)) }
+    ensures ends { SaysOn E.Sink usage_text Ending.Usage report.old report.new result }
     ensures later { E.faults report.old ≤ E.faults report.new }
 {
     say(

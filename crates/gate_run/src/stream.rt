@@ -3,14 +3,14 @@
 //!
 //! What comes of the frames is gathered, and written where no whole frame is held or the room for the next one might not
 //! do: the output first, and then the lines of the report.
-ghost use Rattle.std.specs.Prelude.{◌≡◌, ◌+◌, ◌^◌, ◌<◌, ◌≤◌, [], ℕ, List, Option, None, Some, length, IfOk, IfErr, OnOk};
-ghost use Rattle.std.specs.Io.KnownBytes.{IsAtEnd};
+ghost use Rattle.std.specs.Prelude.{◌≡◌, ◌+◌, ◌^◌, ◌<◌, ◌≤◌, [], ℕ, None, Some, length, IfOk, IfErr, OnOk};
 ghost use Rattle.gate_base.specs.Causes.{Rose};
 ghost use Rattle.framed_transport.specs.Front.{front, Large};
-ghost use Rattle.gate_run.specs.Outcome.{Streamed, streams};
+ghost use Rattle.gate_run.specs.Calls.{OnStreams};
+ghost use Rattle.gate_run.specs.Outcome.{Streamed};
 ghost use Rattle.gate_run.specs.Progress.{HasRisen};
 ghost use Rattle.gate_run.specs.Rooms.{framed_room};
-ghost use Rattle.gate_run.specs.Working.{IsReady, IsFlushed, IsStart, IsWaiting, moment, Closes, Handles, Drains, Takes, Ends, WritesBoth, MakesRoom};
+ghost use Rattle.gate_run.specs.Working.{IsReady, IsFlushed, IsStart, IsWaiting, Closes, TakesFrom, HandlesHeld, DrainsHeld, EndsOn, FinishesOn, Processes, WritesBothOn, MakesRoomOn};
 
 use crate::frame::{WriteFault, handle};
 use crate::handler::Handler;
@@ -66,11 +66,7 @@ pub fn stream<I: Source, O: Sink, E: Sink>(
     report: &mut E,
 ) -> Ending
     requires { task.now.limit ≤ GREATEST_LIMIT }
-    ensures streamed { let a = streams (I.left input.old) (O.written output.old) (E.written report.old)
-        (I.faults input.old) (O.faults output.old) (E.faults report.old) in
-        let b = streams (I.left input.new) (O.written output.new) (E.written report.new)
-        (I.faults input.new) (O.faults output.new) (E.faults report.new) in
-        Streamed task.now a b result }
+    ensures streamed { OnStreams I.Source O.Sink E.Sink (Streamed task.now) input.old output.old report.old input.new output.new report.new result }
     ensures input_later { I.faults input.old ≤ I.faults input.new }
     ensures output_later { O.faults output.old ≤ O.faults output.new }
     ensures report_later { E.faults report.old ≤ E.faults report.new }
@@ -78,12 +74,9 @@ pub fn stream<I: Source, O: Sink, E: Sink>(
     let Ok(mut room) = vec![in alloc; 0; task.limit()] else {
         return end_with(report, Ending::OutOfMemory);
     };
-    let Ok(mut work) = Work::open(alloc, task) else {
-        return end_with(report, Ending::OutOfMemory);
-    };
-    match work.process(task, &mut room, input, output, report) {
-        Ok(ending) => close(report, ending),
-        Err(_) => Ending::WriteFault,
+    match Work::open(alloc, task) {
+        Ok(mut work) => work.run(task, &mut room, input, output, report),
+        Err(OutOfMemory) => end_with(report, Ending::OutOfMemory),
     }
 }
 
@@ -120,6 +113,30 @@ impl<'s> Work<'s> {
         })
     }
 
+    /// Goes through a whole stream from its first byte, and reports the last line of the ending. `room` is the readers'.
+    pub fn run<I: Source, O: Sink, E: Sink>(
+        &mut self,
+        task: &Task<'_>,
+        room: &mut [u8],
+        input: &mut I,
+        output: &mut O,
+        report: &mut E,
+    ) -> Ending
+        requires limit { task.now.limit ≤ GREATEST_LIMIT }
+        requires room { task.now.limit ≤ length room.old }
+        requires ready { IsReady task.now self.old }
+        requires start { IsStart self.old }
+        ensures streamed { OnStreams I.Source O.Sink E.Sink (Streamed task.now) input.old output.old report.old input.new output.new report.new result }
+        ensures input_later { I.faults input.old ≤ I.faults input.new }
+        ensures output_later { O.faults output.old ≤ O.faults output.new }
+        ensures report_later { E.faults report.old ≤ E.faults report.new }
+    {
+        match self.process(task, room, input, output, report) {
+            Ok(ending) => close(report, ending),
+            Err(_) => Ending::WriteFault,
+        }
+    }
+
     /// Reads to the end or to a fault, and handles each frame. `room` is the readers'.
     ///
     /// An error names the stream on which a write failed.
@@ -136,9 +153,7 @@ impl<'s> Work<'s> {
         requires ready { IsReady task.now self.old }
         requires flushed { IsFlushed self.old }
         requires waiting { IsWaiting task.now self.old.frames.held }
-        ensures ended { Ends task.now
-            (moment self.old (I.left input.old) (O.written output.old) (E.written report.old))
-            (moment self.new (I.left input.new) (O.written output.new) (E.written report.new)) result }
+        ensures ended { Processes I.Source O.Sink E.Sink task.now self.old input.old output.old report.old self.new input.new output.new report.new result }
         ensures input_later { I.faults input.old ≤ I.faults input.new }
         ensures later { O.faults output.old ≤ O.faults output.new }
         ensures report_later { E.faults report.old ≤ E.faults report.new }
@@ -167,9 +182,7 @@ impl<'s> Work<'s> {
         ensures ready { IsReady task.now self.new }
         ensures page { self.new.page ≡ self.old.page }
         ensures lines { self.new.lines ≡ self.old.lines }
-        ensures taken { (written reported : Option (List ℕ)) → Takes task.now
-            (moment self.old (I.left input.old) written reported)
-            (moment self.new (I.left input.new) written reported) result }
+        ensures taken { TakesFrom I.Source task.now self.old input.old self.new input.new result }
         ensures later { I.faults input.old ≤ I.faults input.new }
         ensures cause { result ≡ Got.Failed → Rose (I.faults input.old) (I.faults input.new) }
     {
@@ -198,9 +211,7 @@ impl<'s> Work<'s> {
         requires flushed { IsFlushed self.old }
         ensures ready { IsReady task.now self.new }
         ensures flushed { OnOk result (IsFlushed self.new) }
-        ensures drained { (left : Option (List ℕ)) → Drains task.now
-            (moment self.old left (O.written output.old) (E.written report.old))
-            (moment self.new left (O.written output.new) (E.written report.new)) result }
+        ensures drained { DrainsHeld O.Sink E.Sink task.now self.old output.old report.old self.new output.new report.new result }
         ensures later { O.faults output.old ≤ O.faults output.new }
         ensures report_later { E.faults report.old ≤ E.faults report.new }
         ensures cause { IfErr result (λ broken. HasRisen broken (O.faults output.old) (O.faults output.new) (E.faults report.old) (E.faults report.new)) }
@@ -227,9 +238,7 @@ impl<'s> Work<'s> {
         requires ready { IsReady task.now self.old }
         requires flushed { IsFlushed self.old }
         ensures ready { IsReady task.now self.new }
-        ensures handled { (left : Option (List ℕ)) → Handles task.now
-            (moment self.old left (O.written output.old) (E.written report.old))
-            (moment self.new left (O.written output.new) (E.written report.new)) self.new.page.out.bytes self.new.lines.bytes result }
+        ensures handled { HandlesHeld O.Sink E.Sink task.now self.old output.old report.old self.new output.new report.new result }
         ensures later { O.faults output.old ≤ O.faults output.new }
         ensures report_later { E.faults report.old ≤ E.faults report.new }
         ensures cause { IfErr result (λ broken. HasRisen broken (O.faults output.old) (O.faults output.new) (E.faults report.old) (E.faults report.new)) }
@@ -269,9 +278,7 @@ impl<'s> Work<'s> {
     fn finish<E: Sink>(&mut self, task: &Task<'_>, report: &mut E) -> Result<Ending, Broken>
         requires ready { IsReady task.now self.old }
         requires waiting { IsWaiting task.now self.old.frames.held }
-        ensures ended { (left written : Option (List ℕ)) → IsAtEnd left → Ends task.now
-            (moment self.old left written (E.written report.old))
-            (moment self.new left written (E.written report.new)) result }
+        ensures ended { FinishesOn E.Sink task.now self.old report.old self.new report.new result }
         ensures later { E.faults report.old ≤ E.faults report.new }
         ensures no_read_fault { IfOk result (λ ending. ending ≡ Ending.ReadFault → ⊥) }
         ensures cause { (before now : ℕ) → IfErr result (λ broken. HasRisen broken before now (E.faults report.old) (E.faults report.new)) }
@@ -300,9 +307,7 @@ impl<'s> Work<'s> {
     ) -> Result<Ending, Broken>
         requires ready { IsReady task.now self.old }
         requires large { front task.now.limit self.old.frames.held ≡ Large length }
-        ensures ended { (left written : Option (List ℕ)) → Ends task.now
-            (moment self.old left written (E.written report.old))
-            (moment self.new left written (E.written report.new)) result }
+        ensures ended { EndsOn E.Sink task.now self.old report.old self.new report.new result }
         ensures later { E.faults report.old ≤ E.faults report.new }
         ensures no_read_fault { IfOk result (λ ending. ending ≡ Ending.ReadFault → ⊥) }
         ensures cause { (before now : ℕ) → IfErr result (λ broken. HasRisen broken before now (E.faults report.old) (E.faults report.new)) }
@@ -334,8 +339,7 @@ fn make_room<O: Sink, E: Sink>(
     requires lines { LINE_ROOM ≤ lines.old.room }
     ensures wanted { OnOk result (wanted ≤ page.old.out.room → length page.new.out.bytes + wanted ≤ page.new.out.room) }
     ensures line { OnOk result (length lines.new.bytes + LINE_ROOM ≤ lines.new.room) }
-    ensures made { MakesRoom result page.old.out.bytes page.new.out.bytes lines.old.bytes lines.new.bytes
-        (O.written output.old) (O.written output.new) (E.written report.old) (E.written report.new) }
+    ensures made { MakesRoomOn O.Sink E.Sink result page.old lines.old output.old report.old page.new lines.new output.new report.new }
     ensures room { page.new.out.room ≡ page.old.out.room }
     ensures lines_room { lines.new.room ≡ lines.old.room }
     ensures later { O.faults output.old ≤ O.faults output.new }
@@ -356,8 +360,7 @@ fn flush_both<O: Sink, E: Sink>(
     output: &mut O,
     report: &mut E,
 ) -> Result<(), Broken>
-    ensures both { WritesBoth result page.old.out.bytes lines.old.bytes
-        (O.written output.old) (O.written output.new) (E.written report.old) (E.written report.new) }
+    ensures both { WritesBothOn O.Sink E.Sink result page.old lines.old output.old report.old output.new report.new }
     ensures page { OnOk result (page.new.out.bytes ≡ []) }
     ensures lines { OnOk result (lines.new.bytes ≡ []) }
     ensures room { page.new.out.room ≡ page.old.out.room }

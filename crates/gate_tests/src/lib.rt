@@ -1,4 +1,4 @@
-//! Tests that cross crates: whole commands over files, a source, sinks and a hub in memory.
+//! Tests that cross crates: whole commands over files, a source, sinks, a hub and a fan in memory.
 #![tactic(auto)]
 
 #[cfg(test)]
@@ -9,6 +9,8 @@ mod interrupted;
 mod loopback;
 #[cfg(test)]
 mod outside;
+#[cfg(test)]
+mod routing;
 #[cfg(test)]
 mod script;
 #[cfg(test)]

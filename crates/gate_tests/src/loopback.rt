@@ -4,7 +4,7 @@ use crate::serving::{ANSWERS, CALLS, REPLIES};
 use gate_base::OutOfMemory;
 use gate_memory::{Fails, MemFiles, MemSink, MemSource};
 use gate_run::run;
-use mio_edge::MioHub;
+use mio_edge::{MioFan, MioHub};
 use std::alloc::Global;
 use std::io::{ErrorKind, Read, Write};
 use std::net::{Net, Shutdown, SocketAddr, TcpListener, TcpStream};
@@ -44,6 +44,7 @@ fn serve<N: Net>(net: &N, alloc: Global, line: &[u8]) -> Result<u8, OutOfMemory>
     let mut output = MemSink::new(alloc, 100, Fails::new(alloc))?;
     let mut report = MemSink::new(alloc, 100, Fails::new(alloc))?;
     let mut hub = MioHub::new(net);
+    let mut fan = MioFan::new(net);
     let status = run(
         alloc,
         &words,
@@ -52,6 +53,7 @@ fn serve<N: Net>(net: &N, alloc: Global, line: &[u8]) -> Result<u8, OutOfMemory>
         &mut output,
         &mut report,
         &mut hub,
+        &mut fan,
     );
     Ok(status.code)
 }

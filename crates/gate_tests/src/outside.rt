@@ -1,6 +1,6 @@
 //! A command over an outside in memory, and what it left behind.
 use gate_base::{OutOfMemory, Word};
-use gate_memory::{Fails, HubSteps, MemFiles, MemHub, MemSink, MemSource};
+use gate_memory::{Fails, FanSteps, HubSteps, MemFan, MemFiles, MemHub, MemSink, MemSource};
 use gate_run::run;
 use std::alloc::Global;
 
@@ -17,10 +17,11 @@ pub struct Ran {
     pub output: MemSink,
     pub report: MemSink,
     pub hub: MemHub,
+    pub fan: MemFan,
 }
 
 /// What a command works on: the files, the bytes of its input, which reads and which writes of the output and of the
-/// report fail, and the hub.
+/// report fail, the hub, and the fan.
 #[derive(Drop)]
 pub struct Outside<'i> {
     pub files: MemFiles,
@@ -29,6 +30,7 @@ pub struct Outside<'i> {
     pub writes: Fails,
     pub reports: Fails,
     pub hub: MemHub,
+    pub fan: MemFan,
 }
 
 /// No call fails.
@@ -52,6 +54,7 @@ pub fn with_input(alloc: Global, input: &[u8]) -> Result<Outside<'_>, OutOfMemor
         writes: none(alloc),
         reports: none(alloc),
         hub: MemHub::new(alloc, HubSteps::new(alloc), 1)?,
+        fan: MemFan::new(alloc, FanSteps::new(alloc), 1)?,
     })
 }
 
@@ -74,6 +77,7 @@ pub fn run_line(alloc: Global, line: &[u8], outside: Outside<'_>) -> Result<Ran,
         writes,
         reports,
         mut hub,
+        mut fan,
     } = outside;
     let mut input = MemSource::new(alloc, input, READ, reads)?;
     let mut output = MemSink::new(alloc, WRITTEN, writes)?;
@@ -86,11 +90,13 @@ pub fn run_line(alloc: Global, line: &[u8], outside: Outside<'_>) -> Result<Ran,
         &mut output,
         &mut report,
         &mut hub,
+        &mut fan,
     );
     Ok(Ran {
         code: status.code,
         output,
         report,
         hub,
+        fan,
     })
 }

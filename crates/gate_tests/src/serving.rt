@@ -171,6 +171,52 @@ const ANSWERS_WITHOUT_FRAMES: Case = Case {
     ending: b"session 0: clean\n",
 };
 
+/// Two POSTs in one piece, each with a Binary call: the second is handed out after the answer to the first.
+const POSTS: Case = Case {
+    line: b"serve binary json 127.0.0.1:1 127.0.0.1:2 --front http",
+    acts: &[
+        Act::Connects,
+        Act::Sends(
+            Side::Client,
+            b"POST /rpc HTTP/1.1\r\nHost: a\r\nContent-Length: 17\r\n\r\n\x80\x01\0\x01\0\0\0\x04ping\0\0\0\x01\0POST /rpc HTTP/1.1\r\nHost: a\r\nContent-Length: 17\r\n\r\n\x80\x01\0\x01\0\0\0\x04ping\0\0\0\x01\0",
+        ),
+        Act::Sends(Side::Upstream, b"\0\0\0\x11[1,\"ping\",2,1,{}]"),
+        Act::Sends(Side::Upstream, b"\0\0\0\x11[1,\"ping\",2,1,{}]"),
+        Act::Ends(Side::Client),
+    ],
+    client: b"HTTP/1.1 200 OK\r\nContent-Type: application/x-thrift\r\nContent-Length: 17\r\n\r\n\x80\x01\0\x02\0\0\0\x04ping\0\0\0\x01\0HTTP/1.1 200 OK\r\nContent-Type: application/x-thrift\r\nContent-Length: 17\r\n\r\n\x80\x01\0\x02\0\0\0\x04ping\0\0\0\x01\0",
+    upstream: b"\0\0\0\x11[1,\"ping\",1,1,{}]\0\0\0\x11[1,\"ping\",1,1,{}]",
+    ending: b"session 0: clean\n",
+};
+
+/// A GET is refused, and nothing is sent.
+const GET: Case = Case {
+    line: b"serve binary json 127.0.0.1:1 127.0.0.1:2 --front http",
+    acts: &[
+        Act::Connects,
+        Act::Sends(Side::Client, b"GET / HTTP/1.1\r\nHost: a\r\n\r\n"),
+    ],
+    client: b"",
+    upstream: b"",
+    ending: b"session 0: client fault: frame 1: length -1\n",
+};
+
+/// A POST with a oneway message gets a response without content, before anything else is handed out; and the upstream has no frames.
+const ONEWAY_POST: Case = Case {
+    line: b"serve json compact 127.0.0.1:1 127.0.0.1:2 --front http --unframed upstream",
+    acts: &[
+        Act::Connects,
+        Act::Sends(
+            Side::Client,
+            b"POST / HTTP/1.1\r\ncontent-length: 17\r\n\r\n[1,\"ping\",4,1,{}]POST / HTTP/1.0\r\nContent-Length: 17\r\n\r\n[1,\"ping\",1,1,{}]",
+        ),
+        Act::Sends(Side::Upstream, b"\x82\x41\x01\x04ping\0"),
+    ],
+    client: b"HTTP/1.1 200 OK\r\nContent-Type: application/x-thrift\r\nContent-Length: 0\r\n\r\nHTTP/1.1 200 OK\r\nContent-Type: application/x-thrift\r\nContent-Length: 17\r\n\r\n[1,\"ping\",2,1,{}]",
+    upstream: b"\x82\x81\x01\x04ping\0\x82\x21\x01\x04ping\0",
+    ending: b"session 0: clean\n",
+};
+
 /// Runs a server over the acts of a case, and says whether it shows what the case tells.
 fn shows(alloc: Global, case: &Case, chunk: usize) -> Result<bool, OutOfMemory>
     requires { 0 < chunk }
@@ -199,6 +245,17 @@ fn sessions_are_served(rt: HostRuntime) -> Result<(), Fail> {
 #[test]
 fn peers_without_frames_are_served(rt: HostRuntime) -> Result<(), Fail> {
     for case in [WITHOUT_FRAMES, WITHOUT_AN_END, ANSWERS_WITHOUT_FRAMES] {
+        for chunk in [1, 4096] {
+            let is_shown = shows(rt.alloc(), &case, chunk).ok().ok_or("memory")?;
+            assert!(rt; is_shown, "{:?} at {chunk}", case.ending);
+        }
+    }
+    Ok(())
+}
+
+#[test]
+fn clients_that_send_posts_are_served(rt: HostRuntime) -> Result<(), Fail> {
+    for case in [POSTS, GET, ONEWAY_POST] {
         for chunk in [1, 4096] {
             let is_shown = shows(rt.alloc(), &case, chunk).ok().ok_or("memory")?;
             assert!(rt; is_shown, "{:?} at {chunk}", case.ending);

@@ -1,5 +1,5 @@
 -- The commands, as their words name them.
-use Rattle.std.specs.Prelude.{ℕ, ◌≡◌, ◌≤◌, ◌||◌, List, [], ◌∷◌, Option, Some, None, is_some, is_none, Bool, true, if◌then◌else◌, codes, ⊤}
+use Rattle.std.specs.Prelude.{ℕ, ◌≡◌, ◌≤◌, ◌||◌, List, [], ◌∷◌, Option, Some, None, is_some, is_none, true, if◌then◌else◌, codes, ⊤}
 use Rattle.protocol_traits.specs.declared.proto.Proto.{Proto}
 use Rattle.decimal_words.specs.Same.{is}
 use Rattle.gate_words.specs.Same.{is_empty, or_else}
@@ -7,6 +7,7 @@ use Rattle.decimal_words.specs.Numbers.{number_of, within}
 use Rattle.gate_words.specs.Protos.{proto_of}
 use Rattle.gate_words.specs.Options.{no_options, options_of, is_server_alone}
 use Rattle.gate_words.specs.Serving.{serve_of}
+use Rattle.gate_words.specs.Routing.{route_of}
 use Rattle.gate_words.specs.declared.command.Command.{Command}
 use Rattle.gate_words.specs.declared.command.Command.TheVariants as commands
 use Rattle.gate_words.specs.declared.options.Options.{Options}
@@ -106,6 +107,7 @@ command (name ∷ rest) =
     if is name (codes "check") then check_of rest
     else if is name (codes "convert") then convert_of rest
     else if is name (codes "serve") then serve_of rest
+    else if is name (codes "route") then route_of rest
     else if is name (codes "show") then show_of rest
     else if is name (codes "conform") then conform_of rest
     else if is name (codes "drill") then drill_of rest
@@ -119,6 +121,8 @@ IsInRange (commands.Convert k declared) = k.limit ≤ GREATEST_LIMIT
 IsInRange (commands.Show k declared) = k.limit ≤ GREATEST_LIMIT
 IsInRange (commands.Serve s declared) =
     (s.limit ≤ GREATEST_LIMIT) × (1 ≤ s.sessions) × (s.sessions ≤ MOST_SESSIONS) × (1 ≤ s.events) × (s.events ≤ MOST_EVENTS) × (1 ≤ s.calls) × (s.calls ≤ MOST_CALLS) × (LEAST_LIMIT ≤ s.limit)
+IsInRange (commands.Route r declared) =
+    (r.limit ≤ GREATEST_LIMIT) × (1 ≤ r.sessions) × (r.sessions ≤ MOST_SESSIONS) × (1 ≤ r.events) × (r.events ≤ MOST_EVENTS) × (1 ≤ r.calls) × (r.calls ≤ MOST_CALLS) × (LEAST_LIMIT ≤ r.limit)
 IsInRange (commands.Conform k declared) = (k.limit ≤ GREATEST_LIMIT) × (is_some declared.idl ≡ true)
 IsInRange (commands.Drill k) = k.count ≤ MOST_MESSAGES
 IsInRange commands.Help = ⊤

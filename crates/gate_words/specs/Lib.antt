@@ -4,4 +4,6 @@ pub mod Protos
 pub mod Peers
 pub mod Options
 pub mod Serving
+pub mod Targets
+pub mod Routing
 pub mod Commands

@@ -98,6 +98,10 @@ with_server_option o name value =
 abbrev pub is_server_alone : Options → Bool
 is_server_alone o = is_some o.sessions || is_some o.accept || is_some o.events || is_some o.calls || is_some o.unframed || is_some o.front
 
+-- whether an option stands that a router doesn't have
+abbrev pub is_for_one_upstream : Options → Bool
+is_for_one_upstream o = is_some o.service || is_some o.unframed || is_some o.front
+
 -- with one option more
 unfoldable pub with_option : Options → List ℕ → List ℕ → Option Options
 with_option o name value =

@@ -6,6 +6,7 @@ ghost use Rattle.gate_words.specs.Options.{IsInRange as AreInRange};
 
 use crate::limits::{DEFAULT_LIMIT, MOST_MESSAGES};
 use crate::options::{Declared, Options, read_options};
+use crate::routing::{Routing, route};
 use crate::serving::{Serving, serve};
 use decimal_words::{number, number_within};
 use gate_base::{OutOfMemory, Text, Word};
@@ -52,6 +53,8 @@ pub enum Command {
     Show(Showing, Declared),
     /// `serve CLIENT UPSTREAM LISTEN TARGET [--idl FILE] [--service NAME] [--limit F] [--sessions N] [--accept C] [--events E] [--calls P] [--unframed SIDE] [--front KIND]`
     Serve(Serving, Declared),
+    /// `route CLIENT UPSTREAM LISTEN TARGETS [--idl FILE] [--limit F] [--sessions N] [--accept C] [--events E] [--calls P]`
+    Route(Routing, Declared),
     /// `conform FROM --idl FILE [--service NAME] [--limit F]`
     Conform(Conforming, Declared),
     /// `drill SEED COUNT`
@@ -77,6 +80,8 @@ pub fn read_command(alloc: Global, words: &[Word]) -> Result<Option<Command>, Ou
         convert(alloc, rest)
     } else if name.as_slice() == b"serve".as_slice() {
         serve(alloc, rest)
+    } else if name.as_slice() == b"route".as_slice() {
+        route(alloc, rest)
     } else if name.as_slice() == b"show".as_slice() {
         show(alloc, rest)
     } else if name.as_slice() == b"conform".as_slice() {

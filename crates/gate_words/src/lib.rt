@@ -8,10 +8,14 @@ mod command;
 mod limits;
 mod options;
 mod peers;
+mod routing;
 mod serving;
+mod targets;
 
 pub use command::{Command, Conforming, Conversion, Drilling, Showing, read_command};
 pub use limits::{GREATEST_LIMIT, LEAST_LIMIT, MOST_CALLS, MOST_MESSAGES};
 pub use options::Declared;
 pub use peers::{Front, Sides};
+pub use routing::Routing;
 pub use serving::Serving;
+pub use targets::Targets;

@@ -47,3 +47,18 @@ pub const UNFRAMED_FRAMES: u64 = 2;
 
 /// The most bytes of the head of an HTTP request.
 pub const HEAD_BYTES: u64 = 8_192;
+
+/// The most targets of a router.
+pub const MOST_TARGETS: usize = 16;
+
+/// The frames of the limit that a router's session may hold for each of its ports.
+pub const HELD_BY_PORT: u64 = 25;
+
+/// The bytes that a router's session holds besides for each of its ports.
+pub const BUFFER_BYTES: u64 = 512;
+
+/// The frames of the limit that a router's session may hold on the way from one port to another.
+pub const HELD_BY_ROUTER: u64 = 26;
+
+/// The bytes that each open call of a router's session takes.
+pub const ROUTED_CALL_BYTES: u64 = 32;

@@ -1,6 +1,6 @@
 //! The options of a command.
 ghost use Rattle.std.specs.Prelude.{◌≡◌, ◌≤◌, IfOk, IfSome};
-ghost use Rattle.gate_words.specs.Options.{no_options, options_of, with_option, with_server_option, with_peers, with_idl, with_service, with_limit, with_sessions, with_accept, with_events, with_calls, with_unframed, with_front, limit_of, is_server_alone, IsInRange};
+ghost use Rattle.gate_words.specs.Options.{no_options, options_of, with_option, with_server_option, with_peers, with_idl, with_service, with_limit, with_sessions, with_accept, with_events, with_calls, with_unframed, with_front, limit_of, is_server_alone, is_for_one_upstream, IsInRange};
 
 use crate::limits::{
     GREATEST_LIMIT, LEAST_LIMIT, MOST_ACCEPTED, MOST_CALLS, MOST_EVENTS, MOST_SESSIONS,
@@ -256,6 +256,13 @@ impl Options {
             || self.calls.is_some()
             || self.unframed.is_some()
             || self.front.is_some()
+    }
+
+    /// Whether an option stands that a router doesn't have: its services are its targets, and its peers send frames.
+    pub fn is_for_one_upstream(&self) -> bool
+        ensures { result ≡ is_for_one_upstream self.now }
+    {
+        self.service.is_some() || self.unframed.is_some() || self.front.is_some()
     }
 }
 

@@ -2,7 +2,9 @@
 use framed_transport::FrameBuf;
 use gate_base::{OutOfMemory, Word};
 use gate_idl::open as open_idl;
-use gate_memory::{Fails, HubStep, HubSteps, MemFiles, MemHub, MemSink, MemSource};
+use gate_memory::{
+    Fails, FanSteps, HubStep, HubSteps, MemFan, MemFiles, MemHub, MemSink, MemSource,
+};
 use gate_run::run;
 use protocol_traits::Proto;
 use session_judge::{Setup, open};
@@ -79,6 +81,7 @@ fn serve_crowd(alloc: Global, line: &[u8]) -> Result<(u8, MemSink), OutOfMemory>
     let mut output = MemSink::new(alloc, 64, Fails::new(alloc))?;
     let mut report = MemSink::new(alloc, 64, Fails::new(alloc))?;
     let mut hub = crowded_hub(alloc, CLIENTS)?;
+    let mut fan = MemFan::new(alloc, FanSteps::new(alloc), 1)?;
     let status = run(
         alloc,
         &words,
@@ -87,6 +90,7 @@ fn serve_crowd(alloc: Global, line: &[u8]) -> Result<(u8, MemSink), OutOfMemory>
         &mut output,
         &mut report,
         &mut hub,
+        &mut fan,
     );
     Ok((status.code, output))
 }

@@ -17,7 +17,7 @@ use Rattle.translate_core.specs.declared.verdict.Verdict.{Verdict}
 use Rattle.translate_core.specs.declared.verdict.Verdict.TheVariants.{Passed, Refused, Unread}
 use Rattle.translate_core.specs.Positions.{Positions, typed}
 use Rattle.translate_core.specs.Routes.{start_of, info_of}
-use Rattle.translate_core.specs.Body.{Source, Target, Ended}
+use Rattle.translate_core.specs.Body.{Source, TargetRules, Ended}
 use Rattle.translate_core.specs.Judged.{Judged, passed_or, at_end, after_body, after_head, judge, type_of}
 use Rattle.protocol_pairs.specs.Pairs.{binary_source, compact_source, json_source, binary_target, compact_target, json_target, judged, judged_to, headed}
 use Rattle.session_core.specs.declared.judge.ClientJudged.{ClientJudged}
@@ -50,7 +50,7 @@ abbrev type_or : Result MessageType Fault → MessageType → MessageType
 type_or (Ok t) d = t
 type_or (Err f) d = d
 
-head_type : {S P T : Type 0} → (source : Source S) (positions : Positions P) (start : Header → P) (info : Header → HeadInfo) (target : Target T) (t : MessageType) (head : Step S Header) → ((h : Header) → (info h).mtype ≡ h.mtype) → type_of head ≡ Ok t → HasType t (after_head source positions start info target head).verdict
+head_type : {S P T : Type 0} → (source : Source S) (positions : Positions P) (start : Header → P) (info : Header → HeadInfo) (target : TargetRules T) (t : MessageType) (head : Step S Header) → ((h : Header) → (info h).mtype ≡ h.mtype) → type_of head ≡ Ok t → HasType t (after_head source positions start info target head).verdict
 head_type source positions start info target t (Ok x) same is =
     subst (λ u. HasType u (after_head source positions start info target (Ok x)).verdict) (same x.0 ∙ ap (λ r. type_or r t) is)
     (body_type source (info x.0) _)
@@ -60,7 +60,7 @@ info_type : (d : Declarations) (route : Route) (h : Header) → (info_of d route
 unfolding info_of
 info_type d route h = refl
 
-judge_type : {S T : Type 0} → (source : Source S) (d : Declarations) (route : Route) (target : Target T) (t : MessageType) (frame : List ℕ) → type_of (source.reads_head (source.begun frame)) ≡ Ok t → HasType t (judge source typed (start_of d route) (info_of d route) target frame).verdict
+judge_type : {S T : Type 0} → (source : Source S) (d : Declarations) (route : Route) (target : TargetRules T) (t : MessageType) (frame : List ℕ) → type_of (source.reads_head (source.begun frame)) ≡ Ok t → HasType t (judge source typed (start_of d route) (info_of d route) target frame).verdict
 unfolding judge
 judge_type source d route target t frame is = head_type source typed (start_of d route) (info_of d route) target t (source.reads_head (source.begun frame)) (info_type d route) is
 

@@ -5,7 +5,7 @@
 use gate_base::{OutOfMemory, Word};
 use gate_io::{DiskFiles, Sink, StdSink, StdSource};
 use gate_run::run;
-use mio_edge::MioHub;
+use mio_edge::{MioFan, MioHub};
 use std::alloc::Global;
 use std::env::Env;
 use std::fs::File;
@@ -39,6 +39,7 @@ fn run_words(rt: &HostRuntime) -> Result<u8, OutOfMemory> {
     let words = read_words(rt, alloc)?;
     let mut files = DiskFiles::new(rt);
     let mut hub = MioHub::new(rt);
+    let mut fan = MioFan::new(rt);
     let mut input = StdSource::new(rt.stdin());
     let mut output = StdSink::new(rt.stdout());
     let mut report = StdSink::new(rt.stderr());
@@ -50,6 +51,7 @@ fn run_words(rt: &HostRuntime) -> Result<u8, OutOfMemory> {
         &mut output,
         &mut report,
         &mut hub,
+        &mut fan,
     );
     Ok(status.code)
 }

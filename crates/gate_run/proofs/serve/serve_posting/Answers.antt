@@ -5,7 +5,7 @@ use Rattle.gate_run.proofs.serve.serve_posting.Goals as goal
 
 pub returns-clause-serves : goal.returns-clause-serves
 returns-clause-serves g c = λ left input.
-    peers_as (λ p. posted p) (posting_tells g.H.Hub.tells) (posting_counts g.H.Hub.counts) _ _ _ _ _ _ _ _ (c.serve_peers.ensures.serves left input)
+    peers_as (λ p. posted p) (posting_tells g.H.Hub.tells) (posting_counts g.H.Hub.counts) _ _ _ _ _ _ _ (c.serve_peers.ensures.serves left input)
 
 pub returns-clause-faults : goal.returns-clause-faults
 returns-clause-faults g c = c.serve_peers.ensures.faults

@@ -1,4 +1,4 @@
-use Rattle.std.proofs.Common.{◌≡◌, ◌∙◌, rules}
+use Rattle.std.proofs.Common.{◌≡◌, ◌∙◌, rules, arith}
 use Rattle.gate_run.specs.Posts.{posted, posting, posting_tells, posting_counts, reading_by}
 use Rattle.gate_run.proofs.Posting.{begun, from_the_same}
 use Rattle.gate_run.proofs.serve.serve_posts.Goals as goal
@@ -6,9 +6,8 @@ use Rattle.gate_run.proofs.serve.serve_posts.Goals as goal
 pub returns-clause-serves : goal.returns-clause-serves
 returns-clause-serves g c = λ left input.
     let set = c.args.serving.now in
-    let declared = c.args.start.now.schema in
-    let service = c.args.start.now.service in
-    let r = reading_by set declared service in
+    let start = c.args.start.now in
+    let r = reading_by set start in
     let is : c.over-posting.result.rules ≡ r = c.over-posting.ensures.rules in
     let fresh = c.over-posting.ensures.fresh in
     let uncounted = c.over-posting.ensures.uncounted in
@@ -16,6 +15,12 @@ returns-clause-serves g c = λ left input.
       posted c.serve_posting-ending.new.hub,
       search rules,
       c.serve_posting-ending.ensures.rules ∙ is,
-      from_the_same (posting_tells g.H.Hub.tells) (posting_counts g.H.Hub.counts) set declared service (posted c.over-posting.result) (posting r c.args.hub.now)
+      from_the_same (posting_tells g.H.Hub.tells) (posting_counts g.H.Hub.counts) set start (posted c.over-posting.result) (posting r c.args.hub.now)
           (posted c.serve_posting-ending.new.hub) _ _ c.serve_posting-ending.result first (c.serve_posting-ending.ensures.serves left input),
     )
+
+pub over-posting-requires-clause-service : goal.over-posting-requires-clause-service
+over-posting-requires-clause-service g c = c.requires.service
+
+pub over-posting-requires-clause-limit : goal.over-posting-requires-clause-limit
+over-posting-requires-clause-limit g c = omega (arith, c.requires.limit)

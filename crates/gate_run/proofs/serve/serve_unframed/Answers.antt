@@ -1,4 +1,4 @@
-use Rattle.std.proofs.Common.{◌≡◌, ◌∙◌, rules}
+use Rattle.std.proofs.Common.{◌≡◌, ◌∙◌, rules, arith}
 use Rattle.gate_run.specs.Peers.{seen, unframed, unframed_tells, unframed_counts, wrapping_by}
 use Rattle.gate_run.proofs.Wrapped.{begun, from_the_same, wrapping_is}
 use Rattle.gate_run.proofs.serve.serve_unframed.Goals as goal
@@ -14,6 +14,12 @@ returns-clause-serves g c = λ left input.
       seen c.serve_wrapped-ending.new.hub,
       search rules,
       c.serve_wrapped-ending.ensures.wrapping ∙ is,
-      from_the_same (unframed_tells g.H.Hub.tells) (unframed_counts g.H.Hub.counts) c.args.serving.now c.args.start.now.schema c.args.start.now.service
+      from_the_same (unframed_tells g.H.Hub.tells) (unframed_counts g.H.Hub.counts) c.args.serving.now c.args.start.now
           (seen c.over-unframed.result) (unframed w c.args.hub.now) (seen c.serve_wrapped-ending.new.hub) _ _ c.serve_wrapped-ending.result first (c.serve_wrapped-ending.ensures.serves left input),
     )
+
+pub over-unframed-requires-clause-some : goal.over-unframed-requires-clause-some
+over-unframed-requires-clause-some g c = omega (arith, c.requires.least)
+
+pub over-unframed-requires-clause-limit : goal.over-unframed-requires-clause-limit
+over-unframed-requires-clause-limit g c = omega (arith, c.requires.limit)

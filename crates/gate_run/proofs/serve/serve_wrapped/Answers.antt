@@ -5,7 +5,7 @@ use Rattle.gate_run.proofs.serve.serve_wrapped.Goals as goal
 
 pub returns-clause-serves : goal.returns-clause-serves
 returns-clause-serves g c = λ left input.
-    serves_as (λ u. seen u) (unframed_tells g.H.Hub.tells) (unframed_counts g.H.Hub.counts) _ _ _ _ _ _ _ _ (c.serve_hub.ensures.serves left input)
+    serves_as (λ u. seen u) (unframed_tells g.H.Hub.tells) (unframed_counts g.H.Hub.counts) _ _ _ _ _ _ _ (c.serve_hub.ensures.serves left input)
 
 pub returns-clause-faults : goal.returns-clause-faults
 returns-clause-faults g c = c.serve_hub.ensures.hub_later.faults

@@ -1,5 +1,5 @@
-use Rattle.std.proofs.Common.{ℕ, ◌∙◌, refl, sym, subst}
-use Rattle.gate_run.specs.Working.{IsRoomy, moment}
+use Rattle.std.proofs.Common.{refl}
+use Rattle.gate_run.specs.Working.{moment}
 use Rattle.gate_run.proofs.Draining.{all_drained, drain_broke}
 use Rattle.gate_run.proofs.stream.Work.drain.Goals as goal
 

@@ -1,0 +1,86 @@
+//! The command `route` over a fan in memory: what each port is sent, and how the session ends.
+ghost use Rattle.std.specs.Prelude.{◌<◌};
+
+use crate::outside::{Ran, run_line, with_input};
+use gate_base::{OutOfMemory, Text};
+use gate_memory::{FanStep, FanSteps, MemFan};
+use std::alloc::Global;
+use std::test::*;
+
+/// A router of Binary clients to two services that speak Compact.
+const LINE: &[u8] = b"route binary compact 127.0.0.1:1 Calc=127.0.0.1:2,Log=127.0.0.1:3";
+
+/// The calls `Log:a` 1, `Calc:b` 2 and `X:c` 3, framed.
+const CALLS: &[u8] =
+    b"\0\0\0\x12\x80\x01\0\x01\0\0\0\x05Log:a\0\0\0\x01\0\0\0\0\x13\x80\x01\0\x01\0\0\0\x06Calc:b\0\0\0\x02\0\0\0\0\x10\x80\x01\0\x01\0\0\0\x03X:c\0\0\0\x03\0";
+
+/// The answers to the first two, and the refusal of the third, framed.
+const ANSWERS: &[u8] =
+    b"\0\0\0\x0e\x80\x01\0\x02\0\0\0\x01a\0\0\0\x01\0\0\0\0\x0e\x80\x01\0\x02\0\0\0\x01b\0\0\0\x02\0\0\0\0\x27\x80\x01\0\x03\0\0\0\x01c\0\0\0\x03\x0b\0\x01\0\0\0\x0bV1 no route\x08\0\x02\0\0\0\x01\0";
+
+const TO_CALC: &[u8] = b"\0\0\0\x06\x82\x21\x02\x01b\0";
+
+const TO_LOG: &[u8] = b"\0\0\0\x06\x82\x21\x01\x01a\0";
+
+const OF_CALC: &[u8] = b"\0\0\0\x06\x82\x41\x02\x01b\0";
+
+const OF_LOG: &[u8] = b"\0\0\0\x06\x82\x41\x01\x01a\0";
+
+/// Words that name no router: a target twice, a name with a colon, no name, a host's name, and an option of one upstream.
+const NO_ROUTERS: [&[u8]; 5] = [
+    b"route binary compact 127.0.0.1:1 A=127.0.0.1:2,A=127.0.0.1:3",
+    b"route binary compact 127.0.0.1:1 A:B=127.0.0.1:2",
+    b"route binary compact 127.0.0.1:1 =127.0.0.1:2",
+    b"route binary compact 127.0.0.1:1 A=localhost:2",
+    b"route binary compact 127.0.0.1:1 A=127.0.0.1:2 --service A",
+];
+
+fn arrival(alloc: Global, port: usize, bytes: &[u8]) -> Result<FanStep, OutOfMemory> {
+    Ok(FanStep::Arrive {
+        session: 0,
+        port,
+        bytes: Text::new(alloc, bytes)?,
+    })
+}
+
+/// A router over a fan that moves so many bytes at most in a call, whose second target answers last.
+fn play(alloc: Global, chunk: usize) -> Result<Ran, OutOfMemory>
+    requires { 0 < chunk }
+{
+    let mut steps = FanSteps::new(alloc);
+    steps.push(FanStep::Connect)?;
+    steps.push(arrival(alloc, 0, CALLS)?)?;
+    steps.push(arrival(alloc, 1, OF_CALC)?)?;
+    steps.push(arrival(alloc, 2, OF_LOG)?)?;
+    steps.push(FanStep::Finish {
+        session: 0,
+        port: 0,
+    })?;
+    let mut outside = with_input(alloc, b"")?;
+    outside.fan = MemFan::new(alloc, steps, chunk)?;
+    run_line(alloc, LINE, outside)
+}
+
+#[test]
+fn calls_go_to_the_target_of_their_service(rt: HostRuntime) -> Result<(), Fail> {
+    for chunk in [1, 4096] {
+        let ran = play(rt.alloc(), chunk).ok().ok_or("memory")?;
+        assert_eq!(rt; ran.code, 0);
+        assert_eq!(rt; ran.output.bytes(), b"session 0: clean\n".as_slice());
+        assert_eq!(rt; ran.fan.sent_to(0, 0), ANSWERS);
+        assert_eq!(rt; ran.fan.sent_to(0, 1), TO_CALC);
+        assert_eq!(rt; ran.fan.sent_to(0, 2), TO_LOG);
+    }
+    Ok(())
+}
+
+#[test]
+fn other_targets_are_no_command(rt: HostRuntime) -> Result<(), Fail> {
+    let alloc = rt.alloc();
+    for line in NO_ROUTERS {
+        let outside = with_input(alloc, b"").ok().ok_or("memory")?;
+        let ran = run_line(alloc, line, outside).ok().ok_or("memory")?;
+        assert_eq!(rt; ran.code, 2);
+    }
+    Ok(())
+}
