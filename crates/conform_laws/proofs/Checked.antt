@@ -41,7 +41,7 @@ use Rattle.conform_laws.proofs.Bodies.{checked_unread, checked_whole, checked_fa
 use Rattle.conform_laws.proofs.Uniform.{binary_members, compact_members}
 
 -- what is found of a body's items is its first breach
-body_first : (d : Declarations) (body : Option StructId) (ms : Members) → AreUniform ms → (run (begun d body) (items_of_members ms)).first ≡ breach_of_body d body ms
+pub body_first : (d : Declarations) (body : Option StructId) (ms : Members) → AreUniform ms → (run (begun d body) (items_of_members ms)).first ≡ breach_of_body d body ms
 body_first d None ms u = run_stays (items_of_members ms) (begun d None) (broken breaches.UnknownMethod []) refl
 body_first d (Some s) ms u = body_run d s ms u
 
@@ -59,7 +59,7 @@ body_breaks d (Some s) ms b e meets =
 
 module _ (SpellsHead : Header → List ℕ → Type 0) (Spells : Message → List ℕ → Type 0) (FaultAt : List ℕ → Fault → Type 0) (d : Declarations) (service : Option ServiceId) (frame : List ℕ) where
   -- a message that a frame spells meets its declarations, or has a first breach
-  either : (m : Message) (finding : Finding) → Spells m frame → depth_of_members m.body < 256 → AreUniform m.body → finding ≡ found (first_breach d service m)
+  pub either : (m : Message) (finding : Finding) → Spells m frame → depth_of_members m.body < 256 → AreUniform m.body → finding ≡ found (first_breach d service m)
       → IsChecking SpellsHead Spells FaultAt d service frame finding
   either m finding spells deep u is = by (first_breach d service m) refl
     where

@@ -4,3 +4,4 @@ pub mod Running
 pub mod Uniform
 pub mod Bodies
 pub mod Checked
+pub mod JsonChecked

@@ -6,10 +6,19 @@ use Rattle.type_tables.specs.declared.declared.ServiceId.{ServiceId}
 use Rattle.type_tables.specs.Declarations.{Declarations}
 use Rattle.protocol_traits.specs.declared.fault.Fault.{Fault}
 use Rattle.protocol_traits.specs.Heads.{Header}
+use Rattle.protocol_pairs.specs.Pairs.{binary_source, compact_source, json_source}
+use Rattle.binary_protocol.specs.Grammar.{BinarySpells}
+use Rattle.compact_protocol.specs.Grammar.{CompactSpells}
 use Rattle.translate_core.specs.declared.route.Route.TheVariants.{ByName}
 use Rattle.translate_core.specs.Routes.{body_of}
+use Rattle.binary_laws.specs.Faults as binary_faults
 use Rattle.binary_laws.specs.Reads.{header_of_message}
-use Rattle.conform_check.specs.Checking.{Broken, Finding, Breaks, Refused, Unread}
+use Rattle.compact_laws.specs.Faults as compact_faults
+use Rattle.protocol_traits.specs.declared.proto.Proto.TheVariants as protocols
+use Rattle.json_laws.specs.Fronts.{SpellsHeader as JsonHead}
+use Rattle.verdict_laws.specs.Spellings.{SpellsBy}
+use Rattle.verdict_laws.specs.Verdicts.{BinaryHead, CompactHead, JsonFault}
+use Rattle.conform_check.specs.Checking.{Broken, Finding, Breaks, Refused, Unread, checked_by}
 use Rattle.conform_check.specs.Checking as findings
 use Rattle.conform_laws.specs.Meeting.{MeetsBody}
 use Rattle.conform_laws.specs.Breaking.{breach_of_body}
@@ -33,3 +42,14 @@ pub data IsChecking (SpellsHead : Header → List ℕ → Type 0) (Spells : Mess
       → IsChecking SpellsHead Spells FaultAt d service frame s
   TellsNoHeader : (f : Fault) → ((header : Header) (front rest : List ℕ) → frame ≡ front ++ rest → SpellsHead header front → ⊥)
       → FaultAt frame f → s ≡ Unread f → IsChecking SpellsHead Spells FaultAt d service frame s
+
+-- what is found of a frame of Binary, of one of Compact, and of one of JSON
+abbrev pub ChecksBinary : Declarations → Option ServiceId → List ℕ → Type 0
+ChecksBinary d service frame = IsChecking BinaryHead BinarySpells binary_faults.FaultAt d service frame (checked_by binary_source d service frame)
+
+abbrev pub ChecksCompact : Declarations → Option ServiceId → List ℕ → Type 0
+ChecksCompact d service frame = IsChecking CompactHead CompactSpells compact_faults.FaultAt d service frame (checked_by compact_source d service frame)
+
+abbrev pub ChecksJson : Declarations → Option ServiceId → List ℕ → Type 0
+ChecksJson d service frame =
+    IsChecking JsonHead (SpellsBy d (ByName service) protocols.Json) (JsonFault d (ByName service)) d service frame (checked_by json_source d service frame)

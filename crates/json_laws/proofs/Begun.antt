@@ -29,9 +29,10 @@ use Rattle.json_protocol.specs.Reading.{opening_after}
 use Rattle.json_protocol.specs.Writing.{number, flag}
 use Rattle.json_protocol.specs.Grammar.{Tokens, mark, name_token, IsStringToken, IsLooseToken, IsDoubleToken}
 use Rattle.json_laws.specs.Positions.{element_of, key_of, value_of}
+use Rattle.json_laws.specs.Fronts.{SpellsValue}
 use Rattle.json_laws.proofs.Marks.{Lies}
 use Rattle.json_laws.proofs.Places.{IsOf, Holds, list_holds, set_holds, HoldsPairs, map_holds, at_type}
-use Rattle.json_laws.proofs.Inverse.{is_read, same_read, no_fault, bound, Token, token_lies}
+use Rattle.json_laws.proofs.Inverse.{is_read, same_read, no_fault, bound, Token, token_lies, mark_back}
 use Rattle.json_laws.proofs.WordsBack.{IsInt, IsWhole, whole_back, text_back, blob_back, double_back}
 use Rattle.json_laws.proofs.ItemsBack.{range_flag, range_8, range_16, range_32, range_64, mark_first, decimal_of, sequence_back, MapHeadRead, map_head_back, no_pairs_back}
 use Rattle.json_laws.proofs.Levels.{IsTree, Level as Held}
@@ -75,12 +76,16 @@ module _ (d : Declarations) where
       pub others : Tokens
       pub lies : (tail : List ℕ) (more : Tokens) → Lies tail more (drop taken bytes) → Lies tail (first ∷ (others ++ more)) bytes
       pub next : Leaf k item (first ∷ others) ⊎ Opened k item (first ∷ others)
+      pub spells : SpellsValue key (hint_at ty) item (first ∷ others)
+      pub rest : List ℕ
+      pub stands : bytes ≡ first ++ rest
 
     turned : (k : Kind) (bytes : List ℕ) (i item : Item) (n taken : ℕ) → (i ≡ item) × (n ≡ taken) → ValueRead k bytes i n → ValueRead k bytes item taken
     turned k bytes i item n taken e r = subst (λ x. ValueRead k bytes x taken) e.0 (subst (ValueRead k bytes i) e.1 r)
 
-    one : (k : Kind) (bytes : List ℕ) (item : Item) (taken : ℕ) (Is : List ℕ → Type 0) (t : Token bytes taken Is) → Leaf k item (t.token ∷ []) → ValueRead k bytes item taken
-    one k bytes item taken Is t leaf = record { first = t.token; others = []; lies = (λ tail more lies. token_lies tail bytes taken Is t more lies); next = inl leaf }
+    one : (k : Kind) (bytes : List ℕ) (item : Item) (taken : ℕ) (Is : List ℕ → Type 0) (t : Token bytes taken Is) → Leaf k item (t.token ∷ []) → SpellsValue key (hint_at ty) item (t.token ∷ []) → ValueRead k bytes item taken
+    one k bytes item taken Is t leaf spells =
+        record { first = t.token; others = []; lies = (λ tail more lies. token_lies tail bytes taken Is t more lies); next = inl leaf; spells = spells; rest = t.rest; stands = t.laid }
 
     -- ---- values with no level
 
@@ -104,7 +109,7 @@ module _ (d : Declarations) where
             old = refl;
             moves = λ outer. refl;
             tree = record { t = truth b; kind = refl; value = tt; spells = ap (λ k. k ∷ []) token; is = refl; deep = omega arith };
-          }))
+          }) (ap (λ k. k ∷ []) token))
 
       i8_next : IsSized item → i8_at key bytes ≡ is_read (item, taken) → ValueRead kinds.I8 bytes item taken
       unfolding i8_at
@@ -118,7 +123,7 @@ module _ (d : Declarations) where
             old = refl;
             moves = λ outer. refl;
             tree = record { t = whole_8 z; kind = refl; value = subst IsSized (sym same.0) sized; spells = (t.is.0, t.is.1.spells, ap (λ k. k ∷ []) t.is.2); is = refl; deep = omega arith };
-          }))
+          }) (t.is.0, t.is.1.spells, ap (λ k. k ∷ []) t.is.2))
 
       i16_next : IsSized item → i16_at key bytes ≡ is_read (item, taken) → ValueRead kinds.I16 bytes item taken
       unfolding i16_at
@@ -132,7 +137,7 @@ module _ (d : Declarations) where
             old = refl;
             moves = λ outer. refl;
             tree = record { t = whole_16 z; kind = refl; value = subst IsSized (sym same.0) sized; spells = (t.is.0, t.is.1.spells, ap (λ k. k ∷ []) t.is.2); is = refl; deep = omega arith };
-          }))
+          }) (t.is.0, t.is.1.spells, ap (λ k. k ∷ []) t.is.2))
 
       i32_next : IsSized item → i32_at key bytes ≡ is_read (item, taken) → ValueRead kinds.I32 bytes item taken
       unfolding i32_at
@@ -146,7 +151,7 @@ module _ (d : Declarations) where
             old = refl;
             moves = λ outer. refl;
             tree = record { t = whole_32 z; kind = refl; value = subst IsSized (sym same.0) sized; spells = (t.is.0, t.is.1.spells, ap (λ k. k ∷ []) t.is.2); is = refl; deep = omega arith };
-          }))
+          }) (t.is.0, t.is.1.spells, ap (λ k. k ∷ []) t.is.2))
 
       i64_next : IsSized item → i64_at key bytes ≡ is_read (item, taken) → ValueRead kinds.I64 bytes item taken
       unfolding i64_at
@@ -160,7 +165,7 @@ module _ (d : Declarations) where
             old = refl;
             moves = λ outer. refl;
             tree = record { t = whole_64 z; kind = refl; value = subst IsSized (sym same.0) sized; spells = (t.is.0, t.is.1.spells, ap (λ k. k ∷ []) t.is.2); is = refl; deep = omega arith };
-          }))
+          }) (t.is.0, t.is.1.spells, ap (λ k. k ∷ []) t.is.2))
 
       double_next : double_at key bytes ≡ is_read (item, taken) → ValueRead kinds.Double bytes item taken
       unfolding double_at
@@ -173,7 +178,7 @@ module _ (d : Declarations) where
             old = refl;
             moves = λ outer. refl;
             tree = record { t = loose_number digits; kind = refl; value = tt; spells = t.is; is = refl; deep = omega arith };
-          }))
+          }) t.is)
 
       string_next : (hint : Hint) → hint_at ty ≡ hint → IsSized item → string_in hint bytes ≡ is_read (item, taken) → ValueRead kinds.Str bytes item taken
       unfolding string_in
@@ -187,7 +192,7 @@ module _ (d : Declarations) where
             old = refl;
             moves = λ outer. refl;
             tree = record { t = characters m; kind = refl; value = subst IsSized (sym same.0) sized; spells = subst (λ h. IsStringToken h m (t.token ∷ [])) (sym is) (t.token, t.is, refl); is = refl; deep = omega arith };
-          }))
+          }) (subst (λ h. IsStringToken h m (t.token ∷ [])) (sym is) (t.token, t.is, refl)))
       string_next hints.Blob is sized e =
           let a = bound (blob_in bytes) _ (item, taken) e in
           let m = a.0.0 in
@@ -198,7 +203,7 @@ module _ (d : Declarations) where
             old = refl;
             moves = λ outer. refl;
             tree = record { t = characters m; kind = refl; value = subst IsSized (sym same.0) sized; spells = subst (λ h. IsStringToken h m (t.token ∷ [])) (sym is) (t.token, t.is, refl); is = refl; deep = omega arith };
-          }))
+          }) (subst (λ h. IsStringToken h m (t.token ∷ [])) (sym is) (t.token, t.is, refl)))
       string_next hints.Unknown is sized e =
           let a = bound (text_in bytes) _ (item, taken) e in
           let m = a.0.0 in
@@ -209,7 +214,7 @@ module _ (d : Declarations) where
             old = refl;
             moves = λ outer. refl;
             tree = record { t = loose_text m; kind = refl; value = subst IsSized (sym same.0) sized; spells = subst (λ h. IsLooseToken h m (t.token ∷ [])) (sym is) (t.token, t.is, refl); is = refl; deep = omega arith };
-          }))
+          }) (subst (λ h. IsLooseToken h m (t.token ∷ [])) (sym is) (t.token, t.is, refl)))
 
       -- ---- values that open a level
 
@@ -217,10 +222,14 @@ module _ (d : Declarations) where
       unfolding struct_at
       struct_next e =
           let a = bound (mark_at 123 bytes) _ (item, taken) e in
+          let brace = mark_back 123 bytes a.0.0 a.0.1 a.1 in
           turned kinds.Struct bytes struct_begin item a.0.1 taken (same_read struct_begin item a.0.1 taken a.2) (record {
             first = mark 123;
             others = [];
             lies = (λ tail more lies. mark_first 123 bytes a.0.0 a.0.1 a.1 tail more lies);
+            spells = refl;
+            rest = brace.rest;
+            stands = brace.laid ∙ ap (λ t. t ++ brace.rest) brace.is;
             next = inr (record {
               slot = slots.Fields (pos 0);
               level = in_struct ty;
@@ -245,6 +254,9 @@ module _ (d : Declarations) where
             first = mark 91;
             others = name_token k ∷ mark 44 ∷ decimal n ∷ [];
             lies = s.lies;
+            spells = (s.named, refl);
+            rest = s.rest;
+            stands = s.stands;
             next = inr (record {
               slot = slots.Elements k n;
               level = in_set d ty k;
@@ -276,6 +288,9 @@ module _ (d : Declarations) where
             first = mark 91;
             others = name_token k ∷ mark 44 ∷ decimal n ∷ [];
             lies = s.lies;
+            spells = (s.named, refl);
+            rest = s.rest;
+            stands = s.stands;
             next = inr (record {
               slot = slots.Elements k n;
               level = in_list d ty k;
@@ -304,6 +319,9 @@ module _ (d : Declarations) where
             first = mark 91;
             others = name_token k ∷ mark 44 ∷ name_token v ∷ mark 44 ∷ decimal 0 ∷ mark 44 ∷ mark 123 ∷ mark 125 ∷ mark 93 ∷ [];
             lies = (λ tail more lies. m.lies tail (mark 44 ∷ mark 123 ∷ mark 125 ∷ mark 93 ∷ more) (x.1 tail more lies));
+            spells = (k, v, m.named, m.other, refl);
+            rest = m.rest;
+            stands = m.stands;
             next = inl (record {
               spends = λ nest. refl;
               old = refl;
@@ -316,6 +334,9 @@ module _ (d : Declarations) where
             first = mark 91;
             others = name_token k ∷ mark 44 ∷ name_token v ∷ mark 44 ∷ decimal (suc n) ∷ [];
             lies = m.lies;
+            spells = (m.named, m.other, refl);
+            rest = m.rest;
+            stands = m.stands;
             next = inr (record {
               slot = slots.Keys k v (suc n);
               level = in_map d ty k v;

@@ -1,5 +1,5 @@
 -- A header that is read, and the end of a message, are tokens of the grammar.
-use Rattle.std.proofs.Common.{◌≡◌, ℕ, ℤ, zero, suc, pos, negsuc, ◌+◌, ◌≤ℤ◌, List, [], ◌∷◌, ◌++◌, length, drop, refl, ap, ◌∙◌, sym, subst, arith, length-drop}
+use Rattle.std.proofs.Common.{◌≡◌, ℕ, ℤ, zero, suc, pos, negsuc, ◌+◌, ◌≤ℤ◌, List, [], ◌∷◌, ◌++◌, length, drop, refl, ap, ◌∙◌, sym, subst, arith, length-append, length-drop}
 use Rattle.std.specs.Prelude.{◌==◌, FitsSigned}
 use Rattle.std.specs.Int.{w32}
 use Rattle.std.proofs.lemmas.Bool.Decides.{nat_tests}
@@ -16,7 +16,9 @@ use Rattle.json_protocol.specs.Words.{int_in, text_in}
 use Rattle.json_protocol.specs.Head.{type_of, front_at, back_at, head_at, end_scan}
 use Rattle.json_protocol.specs.Writing.{type_digit}
 use Rattle.json_protocol.specs.Grammar.{Tokens, mark}
-use Rattle.json_laws.proofs.Marks.{Lies}
+use Rattle.json_laws.specs.Fronts.{NameStands}
+use Rattle.json_laws.proofs.Marks.{Lies, solid_some, here, cut, cut_at}
+use Rattle.json_laws.proofs.Words.{text_solid}
 use Rattle.json_laws.proofs.Inverse.{is_read, same_read, bound, no_other, gap_white, gap_back, token_lies, Carries, behind, shifted_back, mark_behind}
 use Rattle.json_laws.proofs.WordsBack.{IsInt, int_back, text_back}
 use Rattle.json_laws.proofs.ItemsBack.{range_32, decimal_of}
@@ -129,6 +131,33 @@ head_back bytes x past e =
           front_back bytes a.0.0 place a.1 tail t.token later (token_lies tail (drop place bytes) s.0 (SpellsText b.0.0) t later rest));
     } in
     subst (λ y. HeadRead y.0 bytes past) same.0 (subst (HeadRead h bytes) same.1 read)
+
+-- the place of the name
+pub name_back : (bytes : List ℕ) (x : Header × ℕ) (past : ℕ) → head_at bytes ≡ is_read (x, past) → NameStands x.0.name bytes x.1
+unfolding head_at
+name_back bytes x past e =
+    let a = bound (front_at bytes) _ (x, past) e in
+    let place = a.0.1 in
+    let b = bound (shifted place (text_in (drop place bytes))) _ (x, past) a.2 in
+    let c = bound (back_at b.0.1 bytes) _ (x, past) b.2 in
+    let h : Header = record { name = b.0.0; mtype = c.0.0.0; seq = c.0.0.1 } in
+    let same = same_read (h, place) x c.0.1 past c.2 in
+    let s = shifted_back place (text_in (drop place bytes)) b.0.0 b.0.1 b.1 in
+    let t = text_back (drop place bytes) b.0.0 s.0 s.1 in
+    let left = drop place bytes in
+    let before = cut (mark 91 ∷ mark 49 ∷ mark 44 ∷ []) bytes left (front_back bytes a.0.0 place a.1 left [] [] (here left)) in
+    let some = solid_some t.token (text_solid b.0.0 t.token t.is) in
+    let stands : NameStands b.0.0 bytes place =
+    record {
+      front = before.0;
+      token = t.token;
+      rest = t.rest;
+      spells = t.is;
+      laid = before.2;
+      is = before.1 ∙ ap (λ l. before.0 ++ l) t.laid;
+      place_is = cut_at bytes before.0 left place before.1 refl (omega (arith, some, ap length t.laid, length-append t.token t.rest));
+    } in
+    subst (λ (y : Header × ℕ). NameStands y.0.name bytes y.1) same.0 stands
 
 -- ---- the end
 

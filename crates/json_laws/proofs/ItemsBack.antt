@@ -238,6 +238,8 @@ size_behind n bytes size past e =
 pub record SequenceRead (kind : Kind) (size : ℕ) (bytes : List ℕ) (taken : ℕ) : Type 0 where
   pub named : IsNamed kind
   pub small : size < 2 ^ 31
+  pub rest : List ℕ
+  pub stands : bytes ≡ mark 91 ++ rest
   pub lies : (tail : List ℕ) (more : Tokens) → Lies tail more (drop taken bytes) → Lies tail (mark 91 ∷ name_token kind ∷ mark 44 ∷ decimal size ∷ more) bytes
 
 pub sequence_back : (bytes : List ℕ) (x : Kind × ℕ) (taken : ℕ) → sequence_at bytes ≡ is_read (x, taken) → SequenceRead x.0 x.1 bytes taken
@@ -250,10 +252,13 @@ sequence_back bytes x taken e =
     let same = same_read (b.0.0, s.0.0) x s.0.1 taken s.2 in
     let name = kind_behind a.0.1 bytes b.0.0 b.0.1 b.1 in
     let size = size_behind c.0.1 bytes s.0.0 s.0.1 s.1 in
+    let bracket = mark_back 91 bytes a.0.0 a.0.1 a.1 in
     let read : SequenceRead b.0.0 s.0.0 bytes s.0.1 =
     record {
       named = name.0;
       small = size.0;
+      rest = bracket.rest;
+      stands = bracket.laid ∙ ap (λ t. t ++ bracket.rest) bracket.is;
       lies = (λ tail more lies.
           mark_first 91 bytes a.0.0 a.0.1 a.1 tail (name_token b.0.0 ∷ mark 44 ∷ decimal s.0.0 ∷ more)
           (name.1 tail (mark 44 ∷ decimal s.0.0 ∷ more) (mark_behind 44 b.0.1 bytes c.0.0 c.0.1 c.1 tail (decimal s.0.0 ∷ more) (size.1 tail more lies))));
@@ -264,6 +269,8 @@ pub record MapHeadRead (k v : Kind) (size : ℕ) (bytes : List ℕ) (taken : ℕ
   pub named : IsNamed k
   pub other : IsNamed v
   pub small : size < 2 ^ 31
+  pub rest : List ℕ
+  pub stands : bytes ≡ mark 91 ++ rest
   pub lies : (tail : List ℕ) (more : Tokens) → Lies tail more (drop taken bytes) → Lies tail (mark 91 ∷ name_token k ∷ mark 44 ∷ name_token v ∷ mark 44 ∷ decimal size ∷ more) bytes
 
 pub map_head_back : (bytes : List ℕ) (x : (Kind × Kind) × ℕ) (taken : ℕ) → map_head_at bytes ≡ is_read (x, taken) → MapHeadRead x.0.0 x.0.1 x.1 bytes taken
@@ -279,11 +286,14 @@ map_head_back bytes x taken e =
     let name = kind_behind a.0.1 bytes b.0.0 b.0.1 b.1 in
     let second = kind_behind c.0.1 bytes f.0.0 f.0.1 f.1 in
     let size = size_behind g.0.1 bytes s.0.0 s.0.1 s.1 in
+    let bracket = mark_back 91 bytes a.0.0 a.0.1 a.1 in
     let read : MapHeadRead b.0.0 f.0.0 s.0.0 bytes s.0.1 =
     record {
       named = name.0;
       other = second.0;
       small = size.0;
+      rest = bracket.rest;
+      stands = bracket.laid ∙ ap (λ t. t ++ bracket.rest) bracket.is;
       lies = (λ tail more lies.
           let last = mark_behind 44 f.0.1 bytes g.0.0 g.0.1 g.1 tail (decimal s.0.0 ∷ more) (size.1 tail more lies) in
           let mid = mark_behind 44 b.0.1 bytes c.0.0 c.0.1 c.1 tail (name_token f.0.0 ∷ mark 44 ∷ decimal s.0.0 ∷ more) (second.1 tail (mark 44 ∷ decimal s.0.0 ∷ more) last) in

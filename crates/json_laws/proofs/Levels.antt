@@ -17,7 +17,7 @@ use Rattle.json_protocol.specs.Writing.{is_key}
 use Rattle.json_protocol.specs.Grammar.{Tokens, mark, comma, Spells, SpellsMembers, SpellsTrees, SpellsPairs}
 use Rattle.binary_laws.proofs.Walking.{CallsFor}
 use Rattle.json_laws.specs.Positions.{declared_of, field_of, element_of, key_of, value_of}
-use Rattle.json_laws.proofs.Walking.{leading, field_leading, is_first}
+use Rattle.json_laws.specs.Fronts.{leading, field_leading, is_first}
 use Rattle.json_laws.proofs.Trees.{tokens_append, pair_leading, pair_leads}
 
 items_append : (a b c : List Item) → (a ++ b) ++ c ≡ a ++ (b ++ c)

@@ -15,6 +15,8 @@ pub mod WordsBack
 pub mod ItemsBack
 pub mod Levels
 pub mod Begun
+pub mod Solid
+pub mod Strings
 pub mod Stepping
 pub mod Steps
 pub mod HeadBack
@@ -27,3 +29,5 @@ pub mod KeepingWords
 pub mod KeepingItems
 pub mod KeepingCalls
 pub mod Staying
+pub mod Fronting
+pub mod Cut

@@ -8,6 +8,7 @@ use Rattle.json_text.specs.Grammar.{IsWhite, AreWhite}
 use Rattle.json_text_laws.proofs.Parts.{All, Apart, cut_len, drop_front, append_more}
 use Rattle.json_protocol.specs.Scan.{Scan, gap, further, shifted, mark_at}
 use Rattle.json_protocol.specs.Grammar.{Tokens, Laid, mark}
+use Rattle.json_laws.specs.Fronts.{BeginsToken}
 
 -- ---- whitespace
 
@@ -143,3 +144,38 @@ module _ (tail : List ℕ) where
 
   pub found_mark : (m n : ℕ) (bytes : List ℕ) (more : Tokens) → is_white m ≡ false → Lies tail (mark m ∷ more) (drop n bytes) → Found (further n (mark_at m)) bytes tt more
   found_mark m n bytes more solid lies = found (mark_at m) n bytes (mark m) more tt (mark_word m more) solid lies
+
+-- ---- where tokens end
+
+-- what is left stands right there
+pub here : (left : List ℕ) → Lies left ([] ∷ []) left
+here left = ([], left, refl, tt, refl)
+
+-- what stands before a place, where these tokens and whitespace stand before it
+pub cut : (tokens : Tokens) (bytes left : List ℕ) → Lies left (tokens ++ ([] ∷ [])) bytes → (before : List ℕ) × (bytes ≡ before ++ left) × Laid tokens before
+cut [] bytes left (white, rest, is, are, lies) = (white, is ∙ ap (λ r. white ++ r) lies, are)
+cut (token ∷ tokens) bytes left (white, rest, is, are, lies) =
+    let c = cut tokens rest left lies in
+    let joined : white ++ (token ++ (c.0 ++ left)) ≡ (white ++ (token ++ c.0)) ++ left = ap (λ r. white ++ r) (sym (append_more token c.0 left)) ∙ sym (append_more white (token ++ c.0) left) in
+    (white ++ (token ++ c.0), is ∙ ap (λ r. white ++ (token ++ r)) c.1 ∙ joined, (white, c.0, refl, are, c.2))
+
+-- it is as long as the place says
+pub cut_at : (bytes before left : List ℕ) (place : ℕ) → bytes ≡ before ++ left → left ≡ drop place bytes → 1 ≤ length left → place ≡ length before
+cut_at bytes before left place is left_is some = omega (arith, some, ap length is, length-append before left, ap length left_is, length-drop place bytes)
+
+-- a solid token begins with no whitespace
+pub solid_begins : (token rest : List ℕ) → IsSolid token → BeginsToken (token ++ rest)
+solid_begins [] rest h = absurd h
+solid_begins (x ∷ xs) rest h = λ white. (let wrong = sym (white_is x white) ∙ h in absurd (cc))
+
+pub begins_some : (bytes : List ℕ) → BeginsToken bytes → 1 ≤ length bytes
+begins_some [] h = absurd h
+begins_some (x ∷ xs) h = omega arith
+
+-- what some of the tokens are, with the whitespace before each
+pub laid_apart : (a b : Tokens) (bytes : List ℕ) → Laid (a ++ b) bytes → (front : List ℕ) × (rest : List ℕ) × (bytes ≡ front ++ rest) × Laid a front
+laid_apart [] b bytes h = ([], bytes, refl, tt)
+laid_apart (token ∷ a) b bytes (white, rest, is, are, laid) =
+    let r = laid_apart a b rest laid in
+    let joined : white ++ (token ++ (r.0 ++ r.1)) ≡ (white ++ (token ++ r.0)) ++ r.1 = ap (λ l. white ++ l) (sym (append_more token r.0 r.1)) ∙ sym (append_more white (token ++ r.0) r.1) in
+    (white ++ (token ++ r.0), r.1, is ∙ ap (λ l. white ++ (token ++ l)) r.2 ∙ joined, (white, r.0, refl, are, r.3))

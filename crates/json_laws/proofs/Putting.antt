@@ -31,7 +31,7 @@ use Rattle.json_protocol.specs.Grammar.{Tokens, mark, comma, name_token, map_tok
 use Rattle.binary_laws.proofs.Walking.{CallsFor}
 use Rattle.json_laws.specs.Written.{put, AreTaken, HaveBytes}
 use Rattle.json_laws.proofs.PlainWords.{text_spells, blob_spells}
-use Rattle.json_laws.proofs.Walking.{leading, field_leading, is_first}
+use Rattle.json_laws.specs.Fronts.{leading, field_leading, is_first}
 
 -- ---- tokens one behind another
 

@@ -59,7 +59,7 @@ moved_back s (Ok x) item next e =
     (x.0.1, x.1, ap (λ i. answer ((i, x.0.1), x.1)) same.0, sym same.1 ∙ ap (λ i. onward s i x.0.1 x.1) same.0)
 moved_back s (Err f) item next e = absurd (no_step _ (item, next) e)
 
-reads_back : (s : State) (p : Position) (nest : List Slot) (opening : Opening) (bytes : List ℕ) (item : Item) (next : State) → At s nest opening bytes → reads s (hint_of p) ≡ is_step (item, next)
+pub reads_back : (s : State) (p : Position) (nest : List Slot) (opening : Opening) (bytes : List ℕ) (item : Item) (next : State) → At s nest opening bytes → reads s (hint_of p) ≡ is_step (item, next)
     → (start : ℕ) × (taken : ℕ) × (scan_at (length nest) opening (hint_of p) (first_of nest) bytes ≡ answer ((item, start), taken)) × (next ≡ onward s item start taken)
 unfolding reads
 reads_back s p nest opening bytes item next a e =
@@ -75,7 +75,7 @@ ended_back : (s : State) (scan : Scan (Unit {0})) (t : State) → ended s scan �
 ended_back s (Ok x) t e = (x.1, refl)
 ended_back s (Err f) t e = absurd (no_step _ (tt, t) e)
 
-end_back : (s t : State) (bytes : List ℕ) → rest s ≡ bytes → reads_end s ≡ is_step (tt, t) → (past : ℕ) × (end_scan bytes ≡ is_read (tt, past))
+pub end_back : (s t : State) (bytes : List ℕ) → rest s ≡ bytes → reads_end s ≡ is_step (tt, t) → (past : ℕ) × (end_scan bytes ≡ is_read (tt, past))
 unfolding reads_end
 end_back s t bytes left e = let r = ended_back s (end_scan (rest s)) t e in (r.0, ap end_scan (sym left) ∙ r.1)
 
@@ -115,7 +115,7 @@ module _ (d : Declarations) where
 
 -- ---- a whole frame
 
-lies_laid : (white : List ℕ) (tokens : Tokens) (bytes : List ℕ) → AreWhite white → Lies white tokens bytes → Laid tokens bytes
+pub lies_laid : (white : List ℕ) (tokens : Tokens) (bytes : List ℕ) → AreWhite white → Lies white tokens bytes → Laid tokens bytes
 lies_laid white [] bytes are lies = subst AreWhite (sym lies) are
 lies_laid white (token ∷ more) bytes are (gap, rest, is, white_too, lies) = (gap, rest, is, white_too, lies_laid white more rest are lies)
 
@@ -124,14 +124,14 @@ headed_back : (s : State) (scan : Scan (Header × ℕ)) (h : Header) (first : St
 headed_back s (Ok x) h first e = let same = same_step x.0.0 h _ first e in (x.0.1, x.1, ap (λ k. is_read ((k, x.0.1), x.1)) same.0, sym same.1)
 headed_back s (Err f) h first e = absurd (no_step _ (h, first) e)
 
-begun_back : (bytes : List ℕ) (h : Header) (first : State) → reads_head (begun bytes) ≡ is_step (h, first) → (place : ℕ) × (past : ℕ) × (head_at bytes ≡ is_read ((h, place), past)) × (first ≡ headed_state bytes place past)
+pub begun_back : (bytes : List ℕ) (h : Header) (first : State) → reads_head (begun bytes) ≡ is_step (h, first) → (place : ℕ) × (past : ℕ) × (head_at bytes ≡ is_read ((h, place), past)) × (first ≡ headed_state bytes place past)
 unfolding reads_head
 begun_back bytes h first e = headed_back (begun bytes) (head_at bytes) h first e
 
 abbrev message_of : Header → Members → Message
 message_of h ms = record { name = h.name; mtype = h.mtype; seq = h.seq; body = ms }
 
-body_stand : (d : Declarations) (body : Option StructId) → Stand d (start d body) (slots.Fields (pos 0) ∷ []) openings.Body (in_struct (body_of body) ∷ []) (body_of body ∷ [])
+pub body_stand : (d : Declarations) (body : Option StructId) → Stand d (start d body) (slots.Fields (pos 0) ∷ []) openings.Body (in_struct (body_of body) ∷ []) (body_of body ∷ [])
 body_stand d body = record { tied = (refl, tt); at = start_is d body; fresh = tt }
 
 pub read_spelled : (d : Declarations) (body : Option StructId) (bytes : List ℕ) (h : Header) (items : List Item) → length bytes < 2 ^ 31 → IsRead (start d body) bytes h items

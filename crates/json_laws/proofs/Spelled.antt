@@ -30,6 +30,7 @@ use Rattle.json_protocol.specs.Writing.{type_digit}
 use Rattle.json_protocol.specs.Grammar.{Tokens, mark, SpellsMessage}
 use Rattle.binary_laws.specs.Reads.{header_of_message}
 use Rattle.json_laws.specs.Positions.{declared_of, body_of}
+use Rattle.json_laws.specs.Fronts.{head_tokens}
 use Rattle.json_laws.specs.Reads.{Reads, IsRead}
 use Rattle.json_laws.proofs.Marks.{all_white, Lies, laid_lies, front, ahead, found, found_mark}
 use Rattle.json_laws.proofs.Words.{IsIn, int_word, int_solid, in_32, text_word, text_solid}
@@ -59,10 +60,6 @@ reads_is s p nest opening bytes item place taken a e =
 pub at_onward : (s : State) (nest : List Slot) (opening : Opening) (bytes : List ℕ) (item : Item) (place taken : ℕ) → At s nest opening bytes → At (onward s item place taken) (after item nest) (opening_after item) (drop taken bytes)
 at_onward s nest opening bytes item place taken a =
     record { open_levels = ap (after item) a.open_levels; begins = refl; left = sym (drop-drop taken s.place s.frame) ∙ ap (drop taken) a.left }
-
--- the tokens of a header
-abbrev pub head_tokens : Message → List ℕ → List ℕ → Tokens → Tokens
-head_tokens m name seq more = mark 91 ∷ mark 49 ∷ mark 44 ∷ name ∷ mark 44 ∷ type_digit m.mtype ∷ mark 44 ∷ seq ∷ mark 44 ∷ more
 
 module _ (tail : List ℕ) where
   walk_reads : (items : List Item) (s : State) (p : Position) (nest : List Slot) (opening : Opening) (bytes : List ℕ) (last : Position) (up : List Slot) (more : Tokens) → At s nest opening bytes
@@ -145,7 +142,7 @@ module _ (tail : List ℕ) where
   unfolding front_at
   front_joined bytes a b c x y z = rw (x, y, z) refl
 
-  pub head_read : (m : Message) (name seq : List ℕ) (more : Tokens) (bytes : List ℕ) → SpellsText m.name name → SpellsInt m.seq seq → FitsSigned w32 m.seq → Lies tail (head_tokens m name seq more) bytes → Headed m bytes more
+  pub head_read : (m : Message) (name seq : List ℕ) (more : Tokens) (bytes : List ℕ) → SpellsText m.name name → SpellsInt m.seq seq → FitsSigned w32 m.seq → Lies tail (head_tokens m.mtype name seq more) bytes → Headed m bytes more
   head_read m name seq more bytes text int fits lies =
       let behind = mark 44 ∷ type_digit m.mtype ∷ mark 44 ∷ seq ∷ mark 44 ∷ more in
       let a = found_mark tail 91 0 bytes (mark 49 ∷ mark 44 ∷ name ∷ behind) refl lies in
@@ -170,9 +167,9 @@ pub spelled_read : (d : Declarations) (body : Option StructId) (m : Message) (by
     → IsRead (start d body) bytes (header_of_message m) (items_of_members m.body)
 spelled_read d body m bytes (name, seq, inner, text, int, fits, are, members, laid) deep =
     let later = mark 123 ∷ (inner ++ (mark 125 ∷ mark 93 ∷ [])) in
-    let l = laid_lies (head_tokens m name seq later) bytes [] laid in
+    let l = laid_lies (head_tokens m.mtype name seq later) bytes [] laid in
     let tail = l.0 in
-    let lies = subst (Lies tail (head_tokens m name seq later)) (append-nil bytes) (subst (λ t. Lies t (head_tokens m name seq later) (bytes ++ [])) (append-nil tail) l.2) in
+    let lies = subst (Lies tail (head_tokens m.mtype name seq later)) (append-nil bytes) (subst (λ t. Lies t (head_tokens m.mtype name seq later) (bytes ++ [])) (append-nil tail) l.2) in
     let h = head_read tail m name seq later bytes text int fits lies in
     let first = headed_state bytes h.place h.past in
     let walk = members_walk tail (λ n. n) d m.body (body_of body) [] (pos 0) [] openings.Body (drop h.past bytes) inner (mark 93 ∷ []) are members h.left (λ k less. omega (arith, less, deep)) in

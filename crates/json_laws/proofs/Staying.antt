@@ -4,13 +4,14 @@ use Rattle.std.specs.Prelude.{nat_lt}
 use Rattle.std.proofs.lemmas.Bool.Decides.{nat_tests}
 use Rattle.thrift_value.specs.Items.{Item}
 use Rattle.protocol_traits.specs.declared.fault.Fault.{Fault}
+use Rattle.protocol_traits.specs.declared.fault.Reason.{Reason}
 use Rattle.protocol_traits.specs.declared.fault.Reason.TheVariants as reasons
 use Rattle.protocol_traits.specs.declared.nest.Slot.{Slot}
 use Rattle.protocol_traits.specs.Heads.{Header}
 use Rattle.protocol_traits.specs.Room.{weight}
 use Rattle.protocol_traits.specs.Steps.{Step}
 use Rattle.protocol_traits.specs.Stack.{first_of}
-use Rattle.type_walk.specs.Positions.{Position, hint_of}
+use Rattle.type_walk.specs.Positions.{Position, hint_of, start}
 use Rattle.type_walk.specs.Positions.{after as position_after}
 use Rattle.json_text_laws.proofs.Choices.{either_way}
 use Rattle.json_text_laws.proofs.Refused.{drop_more}
@@ -20,8 +21,8 @@ use Rattle.json_protocol.specs.Reading.{State, begun, rest, ahead, scan_at, move
 use Rattle.json_protocol.specs.Head.{head_at, headed, reads_head, end_scan, ended, reads_end}
 use Rattle.json_laws.specs.Reads.{Reads}
 use Rattle.json_laws.specs.Refused.{behind, Refuses, IsRefused}
-use Rattle.json_laws.specs.Stated.{IsSame}
-use Rattle.json_laws.proofs.Either.{weighs, same_blame}
+use Rattle.json_laws.specs.Stated.{Known, Begins, IsSame}
+use Rattle.json_laws.proofs.Either.{weighs, same_blame, refused_spells_none}
 use Rattle.json_laws.proofs.Keeping.{Stays, drop_past}
 use Rattle.json_laws.proofs.KeepingCalls.{scan_stable, scan_cut, Blames, end_blames, end_cut, head_stable}
 
@@ -201,3 +202,30 @@ module _ (more : List ℕ) where
           let b = body_goes items p first last f good is_other body refuses in
           (b.0, inr (h, items, longer first, longer last, read, b.1, b.2), subst (λ l. IsSame (length l) f b.0) same b.3)
       by_fits read same (inr none) = absurd (is_other (all_cut items p first last f none body refuses))
+
+-- ---- what begins a message is truncated
+
+cut_or_bad : (f : Fault) (r : Reason) → f.reason ≡ r → (f.reason ≡ reasons.Truncated) ⊎ (f.reason ≡ reasons.Truncated → ⊥)
+cut_or_bad f reasons.Truncated e = inl e
+cut_or_bad f reasons.Trailing e = inr (λ t. let wrong = sym e ∙ t in absurd (cc))
+cut_or_bad f reasons.TooDeep e = inr (λ t. let wrong = sym e ∙ t in absurd (cc))
+cut_or_bad f reasons.BadKind e = inr (λ t. let wrong = sym e ∙ t in absurd (cc))
+cut_or_bad f reasons.BadBool e = inr (λ t. let wrong = sym e ∙ t in absurd (cc))
+cut_or_bad f reasons.BadSize e = inr (λ t. let wrong = sym e ∙ t in absurd (cc))
+cut_or_bad f reasons.BadVersion e = inr (λ t. let wrong = sym e ∙ t in absurd (cc))
+cut_or_bad f reasons.BadType e = inr (λ t. let wrong = sym e ∙ t in absurd (cc))
+cut_or_bad f reasons.BadVarint e = inr (λ t. let wrong = sym e ∙ t in absurd (cc))
+cut_or_bad f reasons.BadId e = inr (λ t. let wrong = sym e ∙ t in absurd (cc))
+cut_or_bad f reasons.BadNumber e = inr (λ t. let wrong = sym e ∙ t in absurd (cc))
+cut_or_bad f reasons.BadString e = inr (λ t. let wrong = sym e ∙ t in absurd (cc))
+cut_or_bad f reasons.BadBase64 e = inr (λ t. let wrong = sym e ∙ t in absurd (cc))
+cut_or_bad f reasons.BadToken e = inr (λ t. let wrong = sym e ∙ t in absurd (cc))
+
+pub front_is_cut : (k : Known) (bytes : List ℕ) (f : Fault) → Begins k bytes → IsRefused (start k.declared k.body) bytes f → f.reason ≡ reasons.Truncated
+front_is_cut k bytes f b refused = by_reason (cut_or_bad f f.reason refl)
+  where
+    by_reason : (f.reason ≡ reasons.Truncated) ⊎ (f.reason ≡ reasons.Truncated → ⊥) → f.reason ≡ reasons.Truncated
+    by_reason (inl e) = e
+    by_reason (inr other) =
+        let r = refused_stays b.more (start k.declared k.body) bytes f refused other in
+        absurd (refused_spells_none k.declared k.body b.message (bytes ++ b.more) r.0 r.1 b.spelled b.shallow)

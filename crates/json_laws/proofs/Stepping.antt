@@ -26,7 +26,7 @@ use Rattle.binary_laws.proofs.Walking.{CallsFor}
 use Rattle.json_laws.specs.Positions.{element_of, key_of, value_of}
 use Rattle.json_laws.proofs.Marks.{Lies}
 use Rattle.json_laws.proofs.Places.{struct_steady, at_type, at_level}
-use Rattle.json_laws.proofs.Walking.{leading, field_leading}
+use Rattle.json_laws.specs.Fronts.{leading, field_leading}
 use Rattle.json_laws.proofs.Inverse.{is_read, same_read, no_fault, bound, past_fault, gap_back, mark_behind}
 use Rattle.json_laws.proofs.Levels.{value_type}
 use Rattle.json_laws.proofs.Begun.{TiedOne, IsGood}
@@ -67,30 +67,31 @@ field_lead openings.Old bytes x place e = one_lead 125 bytes x place e
 
 -- ---- an item behind its marks
 
-pub record LedBack (depth : ℕ) (opening : Opening) (hint : Hint) (slot : Slot) (bytes : List ℕ) (item : Item) (taken : ℕ) : Type 0 where
+pub record LedBack (depth : ℕ) (opening : Opening) (hint : Hint) (slot : Slot) (bytes : List ℕ) (item : Item) (start taken : ℕ) : Type 0 where
   pub place : ℕ
   pub lead : lead_at opening slot bytes ≡ is_read (tt, place)
   pub inner : ℕ
   pub read : item_in depth opening hint slot (drop place bytes) ≡ is_read (item, inner)
   pub sum : place + inner ≡ taken
+  pub begins : place ≡ start
 
 abbrev pub answer : (Item × ℕ) × ℕ → Scan (Item × ℕ)
 answer x = Ok x
 
-begun_back : (place : ℕ) (scan : Scan Item) (item : Item) (start taken : ℕ) → begun_at place (shifted place scan) ≡ answer ((item, start), taken) → (inner : ℕ) × (scan ≡ is_read (item, inner)) × (place + inner ≡ taken)
+begun_back : (place : ℕ) (scan : Scan Item) (item : Item) (start taken : ℕ) → begun_at place (shifted place scan) ≡ answer ((item, start), taken) → (inner : ℕ) × (scan ≡ is_read (item, inner)) × (place + inner ≡ taken) × (place ≡ start)
 begun_back place (Ok x) item start taken e =
     let same = same_read (x.0, place) (item, start) (place + x.1) taken e in
-    (x.1, ap (λ (y : Item × ℕ). is_read (y.0, x.1)) same.0, same.1)
+    (x.1, ap (λ (y : Item × ℕ). is_read (y.0, x.1)) same.0, same.1, ap (λ (y : Item × ℕ). y.1) same.0)
 begun_back place (Err f) item start taken e = absurd (no_fault _ ((item, start), taken) e)
 
 led_by : (depth : ℕ) (opening : Opening) (hint : Hint) (slot : Slot) (bytes : List ℕ) (item : Item) (start taken : ℕ) (lead : Scan (Unit {0})) → lead_at opening slot bytes ≡ lead
-    → led depth opening hint slot bytes lead ≡ answer ((item, start), taken) → LedBack depth opening hint slot bytes item taken
+    → led depth opening hint slot bytes lead ≡ answer ((item, start), taken) → LedBack depth opening hint slot bytes item start taken
 led_by depth opening hint slot bytes item start taken (Ok x) is e =
     let b = begun_back x.1 (item_in depth opening hint slot (drop x.1 bytes)) item start taken e in
-    record { place = x.1; lead = is; inner = b.0; read = b.1; sum = b.2 }
+    record { place = x.1; lead = is; inner = b.0; read = b.1; sum = b.2; begins = b.3 }
 led_by depth opening hint slot bytes item start taken (Err f) is e = absurd (no_fault f ((item, start), taken) e)
 
-pub led_back : (depth : ℕ) (opening : Opening) (hint : Hint) (slot : Slot) (bytes : List ℕ) (item : Item) (start taken : ℕ) → scan_at depth opening hint (Some slot) bytes ≡ answer ((item, start), taken) → LedBack depth opening hint slot bytes item taken
+pub led_back : (depth : ℕ) (opening : Opening) (hint : Hint) (slot : Slot) (bytes : List ℕ) (item : Item) (start taken : ℕ) → scan_at depth opening hint (Some slot) bytes ≡ answer ((item, start), taken) → LedBack depth opening hint slot bytes item start taken
 led_back depth opening hint slot bytes item start taken e = led_by depth opening hint slot bytes item start taken (lead_at opening slot bytes) refl e
 
 -- what is left behind an item is left behind it and its marks
@@ -98,24 +99,25 @@ pub moved_on : (tail : List ℕ) (more : Tokens) (bytes : List ℕ) (place inner
 moved_on tail more bytes place inner taken e lies = subst (Lies tail more) (ap (λ n. drop n bytes) (sym e) ∙ sym (drop-drop inner place bytes)) lies
 
 -- a value behind its marks
-pub record CalledBack (nest : List Slot) (opening : Opening) (hint : Hint) (k : Kind) (bytes : List ℕ) (item : Item) (taken : ℕ) : Type 0 where
+pub record CalledBack (nest : List Slot) (opening : Opening) (hint : Hint) (k : Kind) (bytes : List ℕ) (item : Item) (start taken : ℕ) : Type 0 where
   pub place : ℕ
   pub leads : Leads (leading opening nest) bytes place
   pub inner : ℕ
   pub read : value_in (length nest) (is_key (first_of nest)) hint k (drop place bytes) ≡ is_read (item, inner)
   pub sum : place + inner ≡ taken
+  pub begins : place ≡ start
 
 more_left : (left : ℕ) → 0 < left → (left == 0) ≡ false
 more_left left some = grind (arith, nat_tests)
 
 pub called_back : (nest : List Slot) (opening : Opening) (hint : Hint) (k : Kind) (bytes : List ℕ) (item : Item) (start taken : ℕ) → CallsFor nest k → scan_at (length nest) opening hint (first_of nest) bytes ≡ answer ((item, start), taken)
-    → CalledBack nest opening hint k bytes item taken
+    → CalledBack nest opening hint k bytes item start taken
 unfolding lead_at lead_key item_in
 called_back [] opening hint k bytes item start taken c e = absurd c
 called_back (slots.Fields last ∷ up) opening hint k bytes item start taken c e = absurd c
 called_back (slots.Value kind id ∷ up) opening hint k bytes item start taken c e =
     let l = led_back (suc (length up)) opening hint (slots.Value kind id) bytes item start taken e in
-    record { place = l.place; leads = one_lead 58 bytes tt l.place l.lead; inner = l.inner; read = subst (λ z. value_in (suc (length up)) false hint z (drop l.place bytes) ≡ is_read (item, l.inner)) c l.read; sum = l.sum }
+    record { place = l.place; leads = one_lead 58 bytes tt l.place l.lead; inner = l.inner; read = subst (λ z. value_in (suc (length up)) false hint z (drop l.place bytes) ≡ is_read (item, l.inner)) c l.read; sum = l.sum; begins = l.begins }
 called_back (slots.Elements kind left ∷ up) opening hint k bytes item start taken c e =
     let l = led_back (suc (length up)) opening hint (slots.Elements kind left) bytes item start taken e in
     let t = more_left left c.1 in
@@ -126,6 +128,7 @@ called_back (slots.Elements kind left ∷ up) opening hint k bytes item start ta
       read = subst (λ z. value_in (suc (length up)) false hint z (drop l.place bytes) ≡ is_read (item, l.inner)) c.0
           (subst (λ b. (if b then end_at (drop l.place bytes) else value_in (suc (length up)) false hint kind (drop l.place bytes)) ≡ is_read (item, l.inner)) t l.read);
       sum = l.sum;
+      begins = l.begins;
     }
 called_back (slots.Keys key value left ∷ up) opening hint k bytes item start taken c e =
     let l = led_back (suc (length up)) opening hint (slots.Keys key value left) bytes item start taken e in
@@ -137,6 +140,7 @@ called_back (slots.Keys key value left ∷ up) opening hint k bytes item start t
       read = subst (λ z. value_in (suc (length up)) true hint z (drop l.place bytes) ≡ is_read (item, l.inner)) c.0
           (subst (λ b. (if b then end_at (drop l.place bytes) else value_in (suc (length up)) true hint key (drop l.place bytes)) ≡ is_read (item, l.inner)) t l.read);
       sum = l.sum;
+      begins = l.begins;
     }
   where
     key_lead : (o : Opening) {place : ℕ} → lead_key o bytes ≡ is_read (tt, place) → Leads (leading o (slots.Keys key value left ∷ up)) bytes place
@@ -145,7 +149,7 @@ called_back (slots.Keys key value left ∷ up) opening hint k bytes item start t
     key_lead openings.Old {place} h = one_lead 44 bytes tt place h
 called_back (slots.Values key value left ∷ up) opening hint k bytes item start taken c e =
     let l = led_back (suc (length up)) opening hint (slots.Values key value left) bytes item start taken e in
-    record { place = l.place; leads = one_lead 58 bytes tt l.place l.lead; inner = l.inner; read = subst (λ z. value_in (suc (length up)) false hint z (drop l.place bytes) ≡ is_read (item, l.inner)) c l.read; sum = l.sum }
+    record { place = l.place; leads = one_lead 58 bytes tt l.place l.lead; inner = l.inner; read = subst (λ z. value_in (suc (length up)) false hint z (drop l.place bytes) ≡ is_read (item, l.inner)) c l.read; sum = l.sum; begins = l.begins }
 
 -- a value that is not too deep
 within_depth : (b : Bool) (depth : ℕ) → (b && nat_le 256 depth) ≡ false → b ≡ true → depth < 256

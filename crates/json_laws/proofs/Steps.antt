@@ -25,17 +25,18 @@ use Rattle.json_protocol.specs.Writing.{quoted, is_key}
 use Rattle.json_protocol.specs.Grammar.{Tokens, mark, comma, name_token, IsNamed, Spells}
 use Rattle.binary_laws.proofs.Walking.{CallsFor, length-spent}
 use Rattle.json_laws.specs.Positions.{declared_of, field_of, element_of, key_of, value_of}
-use Rattle.json_laws.proofs.Marks.{Lies}
+use Rattle.json_laws.proofs.Marks.{Lies, solid_begins}
 use Rattle.json_laws.proofs.Places.{IsOf, under_of, field_place, at_type}
-use Rattle.json_laws.proofs.Walking.{leading, field_leading, is_first}
+use Rattle.json_laws.specs.Fronts.{leading, field_leading, is_first, SpellsValue, SpellsItem, IsOfValue, BeginsToken}
 use Rattle.json_laws.proofs.Trees.{tokens_append}
 use Rattle.json_laws.proofs.Inverse.{is_read}
 use Rattle.json_laws.proofs.ItemsBack.{StopRead, FieldRead, first_back, next_back, end_back}
 use Rattle.json_laws.proofs.Levels.{FieldsLeft, Level as Held, Ends, value_type, with_value}
 use Rattle.json_laws.proofs.Begun.{Leaf, Opened, value_next}
+use Rattle.json_laws.proofs.Solid.{value_solid}
 use Rattle.json_laws.proofs.Stepping.{Leads, one_lead, no_lead, field_lead, answer, led_back, moved_on, called_back, value_past, Stand, outer_stand, spent_tied, new_stand}
 
-lead_append : (opening : Opening) (nest : List Slot) (a b : Tokens) → leading opening nest a ++ b ≡ leading opening nest (a ++ b)
+pub lead_append : (opening : Opening) (nest : List Slot) (a b : Tokens) → leading opening nest a ++ b ≡ leading opening nest (a ++ b)
 lead_append opening [] a b = refl
 lead_append opening (slots.Fields last ∷ up) a b = refl
 lead_append opening (slots.Value k id ∷ up) a b = refl
@@ -50,10 +51,16 @@ field_append openings.Body a b = refl
 field_append openings.New a b = refl
 field_append openings.Old a b = refl
 
+-- behind the marks that lead to a value stands its first token
+abbrev pub StandsAt : Opening → List Slot → List ℕ → ℕ → Type 0
+StandsAt opening nest bytes start = Leads (leading opening nest) bytes start × BeginsToken (drop start bytes)
+
 module _ (d : Declarations) where
   -- the tokens of one item, where the walk stands behind it, and what the levels held before it
-  pub record Stepped (p : Position) (nest : List Slot) (opening : Opening) (tys : List Ty) (bytes : List ℕ) (item : Item) (taken : ℕ) : Type 0 where
+  pub record Stepped (p : Position) (nest : List Slot) (opening : Opening) (tys : List Ty) (bytes : List ℕ) (item : Item) (start taken : ℕ) : Type 0 where
     pub tokens : Tokens
+    pub spells : SpellsItem (hint_of p) opening nest item tokens
+    pub value : IsOfValue item → StandsAt opening nest bytes start
     pub lies : (tail : List ℕ) (more : Tokens) → Lies tail more (drop taken bytes) → Lies tail (tokens ++ more) bytes
     pub levels : List Level
     pub types : List Ty
@@ -69,14 +76,21 @@ module _ (d : Declarations) where
   -- ---- a value
 
   module _ (nest : List Slot) (opening : Opening) (p : Position) (levels : List Level) (tys : List Ty) (bytes : List ℕ) (item : Item) (start taken : ℕ) (k : Kind) where
+    own_at : (first : List ℕ) (others : Tokens) → p ≡ at_type d levels (value_type d nest tys) → SpellsValue (is_key (first_of nest)) (hint_at (value_type d nest tys)) item (first ∷ others)
+        → SpellsValue (is_key (first_of nest)) (hint_of p) item (first ∷ others)
+    own_at first others at own = subst (λ h. SpellsValue (is_key (first_of nest)) h item (first ∷ others)) (sym (ap hint_of at)) own
+
     by_leaf : (first : List ℕ) (others : Tokens) → CallsFor nest k → Stand d p nest opening levels tys → p ≡ at_type d levels (value_type d nest tys)
         → ((tail : List ℕ) (more : Tokens) → Lies tail more (drop taken bytes) → Lies tail (leading opening nest (first ∷ (others ++ more))) bytes)
-        → Leaf d (length nest) (is_key (first_of nest)) (value_type d nest tys) k item (first ∷ others) → Stepped p nest opening tys bytes item taken
-    by_leaf first others c s at lies leaf =
+        → SpellsValue (is_key (first_of nest)) (hint_at (value_type d nest tys)) item (first ∷ others) → StandsAt opening nest bytes start
+        → Leaf d (length nest) (is_key (first_of nest)) (value_type d nest tys) k item (first ∷ others) → Stepped p nest opening tys bytes item start taken
+    by_leaf first others c s at lies own there leaf =
         let sp = spent_tied d nest levels tys k c s.tied in
         let moved : position_after p item ≡ standing d sp.new = ap (λ q. position_after q item) at ∙ leaf.moves levels ∙ ap (standing d) sp.is in
         record {
           tokens = leading opening nest (first ∷ others);
+          spells = inr (inr (inr (first ∷ others, own_at first others at own, refl)));
+          value = λ v. there;
           lies = (λ tail more h. subst (λ t. Lies tail t bytes) (sym (lead_append opening nest (first ∷ others) more)) (lies tail more h));
           levels = sp.new;
           types = tys;
@@ -88,13 +102,16 @@ module _ (d : Declarations) where
 
     by_opened : (first : List ℕ) (others : Tokens) → CallsFor nest k → Stand d p nest opening levels tys → p ≡ at_type d levels (value_type d nest tys)
         → ((tail : List ℕ) (more : Tokens) → Lies tail more (drop taken bytes) → Lies tail (leading opening nest (first ∷ (others ++ more))) bytes)
-        → Opened d (length nest) (is_key (first_of nest)) (value_type d nest tys) k item (first ∷ others) → Stepped p nest opening tys bytes item taken
-    by_opened first others c s at lies o =
+        → SpellsValue (is_key (first_of nest)) (hint_at (value_type d nest tys)) item (first ∷ others) → StandsAt opening nest bytes start
+        → Opened d (length nest) (is_key (first_of nest)) (value_type d nest tys) k item (first ∷ others) → Stepped p nest opening tys bytes item start taken
+    by_opened first others c s at lies own there o =
         let sp = spent_tied d nest levels tys k c s.tied in
         let vty = value_type d nest tys in
         let moved : position_after p item ≡ standing d (o.level ∷ sp.new) = ap (λ q. position_after q item) at ∙ o.moves levels ∙ ap (λ l. standing d (o.level ∷ l)) sp.is in
         record {
           tokens = leading opening nest (first ∷ others);
+          spells = inr (inr (inr (first ∷ others, own_at first others at own, refl)));
+          value = λ v. there;
           lies = (λ tail more h. subst (λ t. Lies tail t bytes) (sym (lead_append opening nest (first ∷ others) more)) (lies tail more h));
           levels = o.level ∷ sp.new;
           types = vty ∷ tys;
@@ -110,7 +127,7 @@ module _ (d : Declarations) where
         }
 
     value_step : CallsFor nest k → Stand d p nest opening levels tys → p ≡ at_type d levels (value_type d nest tys) → IsOf (value_type d nest tys) k → IsSized item → length nest ≤ 256
-        → scan_at (length nest) opening (hint_of p) (first_of nest) bytes ≡ answer ((item, start), taken) → Stepped p nest opening tys bytes item taken
+        → scan_at (length nest) opening (hint_of p) (first_of nest) bytes ≡ answer ((item, start), taken) → Stepped p nest opening tys bytes item start taken
     value_step c s at of sized most e =
         let vty = value_type d nest tys in
         let key = is_key (first_of nest) in
@@ -120,18 +137,24 @@ module _ (d : Declarations) where
         let v = value_next d (length nest) key vty most (drop x.place bytes) item x.inner k of sized y.0 y.1 in
         let lies : (tail : List ℕ) (more : Tokens) → Lies tail more (drop taken bytes) → Lies tail (leading opening nest (v.first ∷ (v.others ++ more))) bytes =
         λ tail more h. x.leads tail v.first (v.others ++ more) (v.lies tail more (moved_on tail more bytes x.place x.inner taken x.sum h)) in
-        by_next v.first v.others lies v.next
+        let solid = value_solid key (hint_at vty) item v.first v.others v.spells in
+        let there : StandsAt opening nest bytes start = (
+          subst (Leads (leading opening nest) bytes) x.begins x.leads,
+          subst (λ n. BeginsToken (drop n bytes)) x.begins (subst BeginsToken (sym v.stands) (solid_begins v.first v.rest solid)),
+        ) in
+        by_next v.first v.others lies v.spells there v.next
       where
         by_next : (first : List ℕ) (others : Tokens) → ((tail : List ℕ) (more : Tokens) → Lies tail more (drop taken bytes) → Lies tail (leading opening nest (first ∷ (others ++ more))) bytes)
-            → Leaf d (length nest) (is_key (first_of nest)) (value_type d nest tys) k item (first ∷ others) ⊎ Opened d (length nest) (is_key (first_of nest)) (value_type d nest tys) k item (first ∷ others) → Stepped p nest opening tys bytes item taken
-        by_next first others lies (inl leaf) = by_leaf first others c s at lies leaf
-        by_next first others lies (inr o) = by_opened first others c s at lies o
+            → SpellsValue (is_key (first_of nest)) (hint_at (value_type d nest tys)) item (first ∷ others) → StandsAt opening nest bytes start
+            → Leaf d (length nest) (is_key (first_of nest)) (value_type d nest tys) k item (first ∷ others) ⊎ Opened d (length nest) (is_key (first_of nest)) (value_type d nest tys) k item (first ∷ others) → Stepped p nest opening tys bytes item start taken
+        by_next first others lies own there (inl leaf) = by_leaf first others c s at lies own there leaf
+        by_next first others lies own there (inr o) = by_opened first others c s at lies own there o
 
   -- ---- the end of a container
 
   elements_end : (k : Kind) (left : ℕ) (up : List Slot) (opening : Opening) (p : Position) (level : Level) (levels : List Level) (ty : Ty) (tys : List Ty) (bytes : List ℕ) (item : Item) (start taken : ℕ)
       → (left == 0) ≡ true → Stand d p (slots.Elements k left ∷ up) opening (level ∷ levels) (ty ∷ tys) → suc (length up) ≤ 256
-      → scan_at (suc (length up)) opening (hint_of p) (Some (slots.Elements k left)) bytes ≡ answer ((item, start), taken) → Stepped p (slots.Elements k left ∷ up) opening (ty ∷ tys) bytes item taken
+      → scan_at (suc (length up)) opening (hint_of p) (Some (slots.Elements k left)) bytes ≡ answer ((item, start), taken) → Stepped p (slots.Elements k left ∷ up) opening (ty ∷ tys) bytes item start taken
   unfolding lead_at item_in
   elements_end k left up opening p level levels ty tys bytes item start taken none s most e =
       let nest = slots.Elements k left ∷ up in
@@ -139,8 +162,10 @@ module _ (d : Declarations) where
       let leads = no_lead bytes tt l.place (subst (λ b. (if b then Ok (tt, gap bytes) else lead_by 44 bytes) ≡ is_read (tt, l.place)) none l.lead) in
       let r = end_back (drop l.place bytes) item l.inner (subst (λ b. (if b then end_at (drop l.place bytes) else value_in (suc (length up)) false (hint_of p) k (drop l.place bytes)) ≡ is_read (item, l.inner)) none l.read) in
       let zero_left : 0 ≡ left = grind (arith, nat_tests) in
-      subst (λ i. Stepped p nest opening (ty ∷ tys) bytes i taken) (sym r.0) (record {
+      subst (λ i. Stepped p nest opening (ty ∷ tys) bytes i start taken) (sym r.0) (record {
         tokens = mark 93 ∷ [];
+        spells = inr (inr (inl (refl, refl)));
+        value = λ v. absurd v;
         lies = (λ tail more h. leads tail (mark 93) more (r.1 tail more (moved_on tail more bytes l.place l.inner taken l.sum h)));
         levels = levels;
         types = tys;
@@ -159,7 +184,7 @@ module _ (d : Declarations) where
 
   pairs_end : (k v : Kind) (left : ℕ) (up : List Slot) (p : Position) (level : Level) (levels : List Level) (ty : Ty) (tys : List Ty) (bytes : List ℕ) (item : Item) (start taken : ℕ)
       → (left == 0) ≡ true → Stand d p (slots.Keys k v left ∷ up) openings.Old (level ∷ levels) (ty ∷ tys) → suc (length up) ≤ 256
-      → scan_at (suc (length up)) openings.Old (hint_of p) (Some (slots.Keys k v left)) bytes ≡ answer ((item, start), taken) → Stepped p (slots.Keys k v left ∷ up) openings.Old (ty ∷ tys) bytes item taken
+      → scan_at (suc (length up)) openings.Old (hint_of p) (Some (slots.Keys k v left)) bytes ≡ answer ((item, start), taken) → Stepped p (slots.Keys k v left ∷ up) openings.Old (ty ∷ tys) bytes item start taken
   unfolding lead_at item_in
   pairs_end k v left up p level levels ty tys bytes item start taken none s most e =
       let nest = slots.Keys k v left ∷ up in
@@ -167,8 +192,10 @@ module _ (d : Declarations) where
       let leads = one_lead 125 bytes tt l.place (subst (λ b. (if b then lead_by 125 bytes else lead_key openings.Old bytes) ≡ is_read (tt, l.place)) none l.lead) in
       let r = end_back (drop l.place bytes) item l.inner (subst (λ b. (if b then end_at (drop l.place bytes) else value_in (suc (length up)) true (hint_of p) k (drop l.place bytes)) ≡ is_read (item, l.inner)) none l.read) in
       let zero_left : 0 ≡ left = grind (arith, nat_tests) in
-      subst (λ i. Stepped p nest openings.Old (ty ∷ tys) bytes i taken) (sym r.0) (record {
+      subst (λ i. Stepped p nest openings.Old (ty ∷ tys) bytes i start taken) (sym r.0) (record {
         tokens = mark 125 ∷ mark 93 ∷ [];
+        spells = inr (inr (inl (refl, refl)));
+        value = λ v. absurd v;
         lies = (λ tail more h. leads tail (mark 93) more (r.1 tail more (moved_on tail more bytes l.place l.inner taken l.sum h)));
         levels = levels;
         types = tys;
@@ -198,11 +225,13 @@ module _ (d : Declarations) where
   field_leads openings.New bytes place leads tail digits others h = leads tail (quoted digits) others h
   field_leads openings.Old bytes place leads tail digits others h = leads tail (mark 44) (quoted digits ∷ others) h
 
-  module _ (last : ℤ) (up : List Slot) (opening : Opening) (p : Position) (level : Level) (levels : List Level) (ty : Ty) (tys : List Ty) (bytes : List ℕ) (item : Item) (place inner taken : ℕ) (sum : place + inner ≡ taken)
+  module _ (last : ℤ) (up : List Slot) (opening : Opening) (p : Position) (level : Level) (levels : List Level) (ty : Ty) (tys : List Ty) (bytes : List ℕ) (item : Item) (start place inner taken : ℕ) (sum : place + inner ≡ taken)
       (leads : Leads (field_leading opening) bytes place) (s : Stand d p (slots.Fields last ∷ up) opening (level ∷ levels) (ty ∷ tys)) (most : suc (length up) ≤ 256) where
-    stop_step : StopRead item (drop place bytes) inner → Stepped p (slots.Fields last ∷ up) opening (ty ∷ tys) bytes item taken
-    stop_step r = subst (λ i. Stepped p (slots.Fields last ∷ up) opening (ty ∷ tys) bytes i taken) (sym r.is) (record {
+    stop_step : StopRead item (drop place bytes) inner → Stepped p (slots.Fields last ∷ up) opening (ty ∷ tys) bytes item start taken
+    stop_step r = subst (λ i. Stepped p (slots.Fields last ∷ up) opening (ty ∷ tys) bytes i start taken) (sym r.is) (record {
       tokens = field_leading opening (mark 125 ∷ []);
+      spells = inr (inl (refl, refl));
+      value = λ v. absurd v;
       lies = (λ tail more h. subst (λ t. Lies tail t bytes) (sym (field_append opening (mark 125 ∷ []) more)) (leads tail (mark 125) more (r.lies tail more (moved_on tail more bytes place inner taken sum h))));
       levels = levels;
       types = tys;
@@ -247,14 +276,16 @@ module _ (d : Declarations) where
           },
         )
 
-    field_step : FieldRead (is_first opening) item (drop place bytes) inner → Stepped p (slots.Fields last ∷ up) opening (ty ∷ tys) bytes item taken
+    field_step : FieldRead (is_first opening) item (drop place bytes) inner → Stepped p (slots.Fields last ∷ up) opening (ty ∷ tys) bytes item start taken
     field_step f =
         let first = comma (is_first opening) in
         let head = quoted f.digits ∷ mark 58 ∷ mark 123 ∷ name_token f.kind ∷ [] in
         let at : position_after p (field f.id f.kind) ≡ at_type d (level ∷ levels) (under (field_of d ty f.id) f.kind) =
         ap (λ q. position_after q (field f.id f.kind)) s.at ∙ ap (λ z. at_type d (level ∷ levels) (field_type d (Some z) f.id f.kind)) s.tied.0 ∙ ap (at_type d (level ∷ levels)) (field_place d ty f.id f.kind) in
-        subst (λ i. Stepped p (slots.Fields last ∷ up) opening (ty ∷ tys) bytes i taken) (sym f.is) (record {
+        subst (λ i. Stepped p (slots.Fields last ∷ up) opening (ty ∷ tys) bytes i start taken) (sym f.is) (record {
           tokens = field_leading opening (first ++ head);
+          spells = inl (f.id, f.kind, f.digits, refl, f.spells, f.named, refl);
+          value = λ v. absurd v;
           lies = (λ tail more h.
               subst (λ t. Lies tail t bytes) (sym (field_append opening (first ++ head) more ∙ ap (field_leading opening) (tokens_append first head more)))
               (field_leads opening bytes place leads tail f.digits (mark 58 ∷ mark 123 ∷ name_token f.kind ∷ more) (f.lies tail more (moved_on tail more bytes place inner taken sum h))));
@@ -278,7 +309,7 @@ module _ (d : Declarations) where
   -- ---- one step
 
   pub stepped : (slot : Slot) (up : List Slot) (opening : Opening) (p : Position) (levels : List Level) (tys : List Ty) (bytes : List ℕ) (item : Item) (start taken : ℕ) → Stand d p (slot ∷ up) opening levels tys → IsSized item → suc (length up) ≤ 256
-      → scan_at (suc (length up)) opening (hint_of p) (Some slot) bytes ≡ answer ((item, start), taken) → Stepped p (slot ∷ up) opening tys bytes item taken
+      → scan_at (suc (length up)) opening (hint_of p) (Some slot) bytes ≡ answer ((item, start), taken) → Stepped p (slot ∷ up) opening tys bytes item start taken
   unfolding lead_at item_in
   stepped slot up opening p [] tys bytes item start taken s sized most e = absurd s.tied
   stepped slot up opening p (level ∷ levels) [] bytes item start taken s sized most e = absurd s.tied
@@ -286,26 +317,26 @@ module _ (d : Declarations) where
       let l = led_back (suc (length up)) opening (hint_of p) (slots.Fields last) bytes item start taken e in
       by_field l.place l.inner l.sum (field_lead opening bytes tt l.place l.lead) (fields_back opening (drop l.place bytes) item l.inner l.read)
     where
-      by_field : (place inner : ℕ) → place + inner ≡ taken → Leads (field_leading opening) bytes place → StopRead item (drop place bytes) inner ⊎ FieldRead (is_first opening) item (drop place bytes) inner → Stepped p (slots.Fields last ∷ up) opening (ty ∷ tys) bytes item taken
-      by_field place inner sum leads (inl r) = stop_step last up opening p level levels ty tys bytes item place inner taken sum leads s most r
-      by_field place inner sum leads (inr f) = field_step last up opening p level levels ty tys bytes item place inner taken sum leads s most f
+      by_field : (place inner : ℕ) → place + inner ≡ taken → Leads (field_leading opening) bytes place → StopRead item (drop place bytes) inner ⊎ FieldRead (is_first opening) item (drop place bytes) inner → Stepped p (slots.Fields last ∷ up) opening (ty ∷ tys) bytes item start taken
+      by_field place inner sum leads (inl r) = stop_step last up opening p level levels ty tys bytes item start place inner taken sum leads s most r
+      by_field place inner sum leads (inr f) = field_step last up opening p level levels ty tys bytes item start place inner taken sum leads s most f
   stepped (slots.Value k id) up opening p (level ∷ levels) (ty ∷ tys) bytes item start taken s sized most e =
       value_step (slots.Value k id ∷ up) opening p (level ∷ levels) (ty ∷ tys) bytes item start taken k refl s s.at (under_of (field_of d ty id) k) sized most e
   stepped (slots.Values k v left) up opening p (level ∷ levels) (ty ∷ tys) bytes item start taken s sized most e =
       value_step (slots.Values k v left ∷ up) opening p (level ∷ levels) (ty ∷ tys) bytes item start taken v refl s s.at (under_of (value_of d ty) v) sized most e
   stepped (slots.Elements k left) up opening p (level ∷ levels) (ty ∷ tys) bytes item start taken s sized most e = by_left (either_way (left == 0))
     where
-      by_left : ((left == 0) ≡ true) ⊎ ((left == 0) ≡ false) → Stepped p (slots.Elements k left ∷ up) opening (ty ∷ tys) bytes item taken
+      by_left : ((left == 0) ≡ true) ⊎ ((left == 0) ≡ false) → Stepped p (slots.Elements k left ∷ up) opening (ty ∷ tys) bytes item start taken
       by_left (inl none) = elements_end k left up opening p level levels ty tys bytes item start taken none s most e
       by_left (inr some) = value_step (slots.Elements k left ∷ up) opening p (level ∷ levels) (ty ∷ tys) bytes item start taken k (refl, grind (arith, nat_tests)) s s.at (under_of (element_of d ty) k) sized most e
   stepped (slots.Keys k v left) up opening p (level ∷ levels) (ty ∷ tys) bytes item start taken s sized most e = by_left (either_way (left == 0))
     where
       by_opening : (o : Opening) → (left == 0) ≡ true → Stand d p (slots.Keys k v left ∷ up) o (level ∷ levels) (ty ∷ tys) → scan_at (suc (length up)) o (hint_of p) (Some (slots.Keys k v left)) bytes ≡ answer ((item, start), taken)
-          → Stepped p (slots.Keys k v left ∷ up) o (ty ∷ tys) bytes item taken
+          → Stepped p (slots.Keys k v left ∷ up) o (ty ∷ tys) bytes item start taken
       by_opening openings.Old none t h = pairs_end k v left up p level levels ty tys bytes item start taken none t most h
       by_opening openings.New none t h = let some = t.fresh in absurd (grind (arith, nat_tests))
       by_opening openings.Body none t h = let some = t.fresh in absurd (grind (arith, nat_tests))
 
-      by_left : ((left == 0) ≡ true) ⊎ ((left == 0) ≡ false) → Stepped p (slots.Keys k v left ∷ up) opening (ty ∷ tys) bytes item taken
+      by_left : ((left == 0) ≡ true) ⊎ ((left == 0) ≡ false) → Stepped p (slots.Keys k v left ∷ up) opening (ty ∷ tys) bytes item start taken
       by_left (inl none) = by_opening opening none s e
       by_left (inr some) = value_step (slots.Keys k v left ∷ up) opening p (level ∷ levels) (ty ∷ tys) bytes item start taken k (refl, grind (arith, nat_tests)) s s.at (under_of (key_of d ty) k) sized most e

@@ -24,7 +24,8 @@ use Rattle.json_laws.proofs.Marks.{Lies, IsSolid, IsClear, front}
 use Rattle.json_laws.proofs.Words.{int_solid, number_solid}
 use Rattle.json_laws.proofs.Items.{flag_solid, bool_word, i8_word, i16_word, i32_word, i64_word, struct_word, list_found, set_found, map_found, none_found, double_word, double_solid, string_token, loose_token}
 use Rattle.json_laws.proofs.Places.{IsOf, under_of, struct_steady, field_place, Holds, list_holds, set_holds, HoldsPairs, map_holds, at_type, at_level}
-use Rattle.json_laws.proofs.Walking.{leading, field_leading, is_first, IsShallow, Walks, walks_append, one, begins, ended, ended_pairs, stopped, field_walks}
+use Rattle.json_laws.specs.Fronts.{leading, field_leading, is_first}
+use Rattle.json_laws.proofs.Walking.{IsShallow, Walks, walks_append, one, begins, ended, ended_pairs, stopped, field_walks}
 
 pub tokens_append : (a b c : Tokens) → (a ++ b) ++ c ≡ a ++ (b ++ c)
 tokens_append [] b c = refl

@@ -26,7 +26,8 @@ use Rattle.json_laws.specs.Positions.{declared_of, body_of}
 use Rattle.json_laws.proofs.Marks.{Lies, laid_lies, found_mark}
 use Rattle.json_laws.proofs.Walking.{Walks}
 use Rattle.json_laws.proofs.Trees.{members_walk}
-use Rattle.json_laws.proofs.Spelled.{head_tokens, head_read}
+use Rattle.json_laws.specs.Fronts.{head_tokens}
+use Rattle.json_laws.proofs.Spelled.{head_read}
 use Rattle.json_laws.proofs.Events.{bodies_same}
 
 -- ---- answers
@@ -81,7 +82,7 @@ pub record Read (d : Declarations) (body : Option StructId) (m : Message) (tail 
 pub read_of : (d : Declarations) (body : Option StructId) (m : Message) (bytes more : List ℕ) → SpellsMessage (declared_of d) (body_of body) m bytes → (white : List ℕ) × AreWhite white × Read d body m (white ++ more) (bytes ++ more)
 read_of d body m bytes more (name, seq, inner, text, int, fits, are, members, laid) =
     let later = mark 123 ∷ (inner ++ (mark 125 ∷ mark 93 ∷ [])) in
-    let l = laid_lies (head_tokens m name seq later) bytes more laid in
+    let l = laid_lies (head_tokens m.mtype name seq later) bytes more laid in
     let tail = l.0 ++ more in
     let h = head_read tail m name seq later (bytes ++ more) text int fits l.2 in (
       l.0,

@@ -27,32 +27,10 @@ use Rattle.json_protocol.specs.Reading.{lead_by, lead_pairs, lead_fields, lead_k
 use Rattle.json_protocol.specs.Writing.{quoted, is_key}
 use Rattle.json_protocol.specs.Grammar.{Tokens, mark, IsNamed, name_token, comma}
 use Rattle.binary_laws.proofs.Walking.{CallsFor}
+use Rattle.json_laws.specs.Fronts.{leading, field_leading, is_first}
 use Rattle.json_laws.proofs.Marks.{Lies, IsSolid, IsWord, Found, IsReady, front, ahead, found_mark}
 use Rattle.json_laws.proofs.Items.{first_found, next_found, first_stop, next_stop, end_word}
 use Rattle.json_laws.proofs.Places.{at_type}
-
--- ---- the marks before an item
-
--- before a value, by the level that calls for it
-abbrev pub leading : Opening → List Slot → Tokens → Tokens
-leading opening [] tokens = tokens
-leading opening (slots.Fields last ∷ up) tokens = tokens
-leading opening (slots.Value kind id ∷ up) tokens = mark 58 ∷ tokens
-leading opening (slots.Elements kind left ∷ up) tokens = mark 44 ∷ tokens
-leading openings.Old (slots.Keys key value left ∷ up) tokens = mark 44 ∷ tokens
-leading opening (slots.Keys key value left ∷ up) tokens = mark 44 ∷ mark 123 ∷ tokens
-leading opening (slots.Values key value left ∷ up) tokens = mark 58 ∷ tokens
-
--- before a field or a stop
-abbrev pub field_leading : Opening → Tokens → Tokens
-field_leading openings.Body tokens = mark 123 ∷ tokens
-field_leading openings.New tokens = tokens
-field_leading openings.Old tokens = mark 125 ∷ tokens
-
--- nothing of the level has been read
-abbrev pub is_first : Opening → Bool
-is_first openings.Old = false
-is_first opening = true
 
 -- how deep the reader believes to be in so many levels: as deep as they are, or at the top, where nothing is too deep
 abbrev pub IsShallow : (ℕ → ℕ) → ℕ → Type 0

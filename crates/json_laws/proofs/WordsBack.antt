@@ -52,7 +52,7 @@ good_int low high z bytes n good = record {
   is = record { spells = good.1; least = good.2; most = good.3 };
 }
 
-int_whole : (low high z : ℤ) (bytes : List ℕ) (n : ℕ) → IsRange low high → int_at low high bytes ≡ Whole z n → Token bytes n (IsInt low high z)
+pub int_whole : (low high z : ℤ) (bytes : List ℕ) (n : ℕ) → IsRange low high → int_at low high bytes ≡ Whole z n → Token bytes n (IsInt low high z)
 int_whole low high z bytes n range e = good_int low high z bytes n (subst (Judges (GoodInt low high) bytes) e (int_judged low high range bytes))
 
 pub int_back : (reason : Reason) (low high z : ℤ) (bytes : List ℕ) (n : ℕ) → IsRange low high → int_in reason low high bytes ≡ is_read (z, n) → Token bytes n (IsInt low high z)
@@ -156,7 +156,7 @@ good_number bytes x n good = record {
   is = (good.2, good.0);
 }
 
-number_whole : (bytes : List ℕ) (x n : ℕ) → number_at bytes ≡ Whole x n → Token bytes n (IsLong x)
+pub number_whole : (bytes : List ℕ) (x n : ℕ) → number_at bytes ≡ Whole x n → Token bytes n (IsLong x)
 number_whole bytes x n e = good_number bytes x n (subst (Judges GoodNumber bytes) e (number_judged bytes))
 
 number_back : (bytes : List ℕ) (x n : ℕ) → number_in bytes ≡ is_read (x, n) → Token bytes n (IsLong x)

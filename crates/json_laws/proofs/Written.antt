@@ -30,7 +30,7 @@ use Rattle.json_laws.specs.Stated.{Known, JsonSpells, IsReadAs}
 use Rattle.json_laws.specs.Written.{put, AreTaken, HaveBytes, IsWritten}
 use Rattle.json_laws.proofs.PlainWords.{spells_8, spells_16, spells_32, spells_64, text_spells}
 use Rattle.json_laws.proofs.Places.{IsOf, under_of, struct_steady, field_place, Holds, list_holds, set_holds, HoldsPairs, map_holds, at_type, at_level, start_is}
-use Rattle.json_laws.proofs.Walking.{leading, field_leading, is_first}
+use Rattle.json_laws.specs.Fronts.{leading, field_leading, is_first}
 use Rattle.json_laws.proofs.Trees.{tokens_append, pair_leading, pair_leads, MayStand, some_pair, may_end}
 use Rattle.json_laws.proofs.Spelled.{spelled_read}
 use Rattle.json_laws.proofs.Putting.{flat, lead_is, lead_more, field_more, closing, none_closed, stop_put, field_tokens, field_put, sequence_put, map_front, map_put, named_by, none_tokens, none_put, no_bar, named, both_named, mark_hint, name_valid, string_put, writer, Puts, turned, nothing_put, behind, both, bytes_front, bytes_back}

@@ -11,6 +11,7 @@ use Rattle.type_walk.specs.Positions.{start}
 use Rattle.json_protocol.specs.Grammar.{SpellsMessage}
 use Rattle.binary_laws.specs.Reads.{header_of_message}
 use Rattle.json_laws.specs.Positions.{declared_of, body_of}
+use Rattle.json_laws.specs.Fronts.{SpellsByItems}
 use Rattle.json_laws.specs.Reads as reading
 use Rattle.json_laws.specs.Refused as refusing
 
@@ -47,6 +48,10 @@ pub record IsSpelled (k : Known) (bytes : List ℕ) (header : Header) (items : L
   pub shallow : depth_of_members message.body < 256
   pub spelled : JsonSpells k message bytes
 
+-- they spell the message item by item
+abbrev pub SpellsItems : Known → Message → List ℕ → Type 0
+SpellsItems k m bytes = SpellsByItems (start k.declared k.body) (header_of_message m) (items_of_members m.body) bytes
+
 -- they spell no message of depth at most 256
 abbrev pub NoMessage : Known → List ℕ → Type 0
 NoMessage k bytes = (m : Message) → depth_of_members m.body < 256 → JsonSpells k m bytes → ⊥
@@ -66,3 +71,10 @@ IsSame size f g = (g.reason ≡ f.reason) × (f.place < size → g ≡ f)
 -- with more bytes behind they are refused with the same fault
 abbrev pub StaysBad : Known → List ℕ → List ℕ → Fault → Type 0
 StaysBad k bytes more f = (g : Fault) × IsRefused k (bytes ++ more) g × IsSame (length bytes) f g
+
+-- some message of depth at most 256 begins with them
+pub record Begins (k : Known) (bytes : List ℕ) : Type 0 where
+  pub more : List ℕ
+  pub message : Message
+  pub shallow : depth_of_members message.body < 256
+  pub spelled : JsonSpells k message (bytes ++ more)

@@ -8,9 +8,10 @@ ghost use Rattle.thrift_value.specs.Items.{Item};
 ghost use Rattle.thrift_value.specs.Trees.{Message, depth_of_members};
 ghost use Rattle.protocol_traits.specs.Heads.{Header};
 ghost use Rattle.protocol_traits.specs.declared.fault.Fault.{Fault};
+ghost use Rattle.protocol_traits.specs.declared.fault.Reason.TheVariants as reasons;
 ghost use Rattle.json_text.specs.Grammar.{AreWhite};
 ghost use Rattle.binary_laws.specs.Written.{IsMessage};
-ghost use Rattle.json_laws.specs.Stated.{Known, JsonSpells, IsRead, IsReadWhole, IsReadAs, IsRefused, IsSpelled, NoMessage, IsTooDeep, IsBad, StaysBad};
+ghost use Rattle.json_laws.specs.Stated.{Known, JsonSpells, IsRead, IsReadWhole, IsReadAs, IsRefused, IsSpelled, SpellsItems, NoMessage, IsTooDeep, IsBad, StaysBad, Begins};
 ghost use Rattle.json_laws.specs.Written.{IsWritten};
 
 /// What the grammar spells is read: the header of the message, the items of its body and the end, for every message of depth
@@ -35,6 +36,13 @@ pub fn written_is_spelled()
     ensures again { (k : Known) (m : Message) (bytes : List ℕ) → IsMessage m → IsWritten k m bytes → depth_of_members m.body < 256 → IsReadAs k m bytes }
 {}
 
+/// A message is spelled item by item: behind its header the items of its body stand one behind another, each behind the marks that the open
+/// levels call for and as what is declared of its position tells, and a bracket closes it. So an item stands where those before it and its
+/// marks end.
+pub fn each_item_is_spelled()
+    ensures { (k : Known) (m : Message) (bytes : List ℕ) → JsonSpells k m bytes → length bytes < 2 ^ 31 → depth_of_members m.body < 256 → SpellsItems k m bytes }
+{}
+
 /// Bytes spell one message at most, of any depth, where the same is declared of its body. Of two spellings of messages one begins the
 /// other only where they spell the same message and whitespace alone follows.
 pub fn one_message_is_spelled()
@@ -57,8 +65,11 @@ pub fn each_frame_is_read_or_refused()
 {}
 
 /// A frame that is refused, other than as truncated, is refused whatever comes behind: with the same fault if that stands before the
-/// frame's end, else for the same reason. So it begins no message of depth at most 256.
+/// frame's end, else for the same reason. So it begins no message of depth at most 256, and one that begins such a message and is none is
+/// refused as truncated, which is said at the frame's end.
 pub fn refused_stays_refused()
     ensures stays { (k : Known) (bytes more : List ℕ) (f : Fault) → IsBad k bytes f → StaysBad k bytes more f }
     ensures none { (k : Known) (bytes more : List ℕ) (f : Fault) → IsBad k bytes f → NoMessage k (bytes ++ more) }
+    ensures front { (k : Known) (bytes : List ℕ) (f : Fault) → Begins k bytes → IsRefused k bytes f → f.reason ≡ reasons.Truncated }
+    ensures cut { (k : Known) (bytes : List ℕ) (f : Fault) → IsRefused k bytes f → f.reason ≡ reasons.Truncated → f.place ≡ length bytes }
 {}

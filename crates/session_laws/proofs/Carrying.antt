@@ -12,7 +12,7 @@ use Rattle.session_core.proofs.Fronts.{fronts}
 use Rattle.session_judge.specs.Setting.{Setting}
 use Rattle.session_judge.specs.Rules.{rules_of}
 use Rattle.gate_base.specs.Bytes.{AreBytes}
-use Rattle.session_laws.specs.Saying.{HasLaws, Said}
+use Rattle.session_laws.specs.Saying.{Said}
 use Rattle.session_laws.specs.Exchange.{Ends, done, calls, EndsUpstream}
 use Rattle.session_laws.specs.Carrying.{Carries}
 use Rattle.session_laws.proofs.Fates.{IsFate, Opens, Goes, IsAnswered, IsDropped, Halts}
@@ -33,8 +33,8 @@ pub reply_halts_is : (s : Setting) (call : Header) (y : List ℕ) (r : Said) (h 
 reply_halts_is s call y r h (Answers v e none) is = let wrong = sym v ∙ is in absurd (cc)
 reply_halts_is s call y r h (HaltsReply k v e ends) is = let same : upstream.Halts k ≡ upstream.Halts h = sym v ∙ is in subst (EndsUpstream r) (cc) ends
 
-module _ (s : Setting) (limit : ℕ) (from : HasLaws s.client) (to : HasLaws s.upstream) (law : StandsAtFront) (small : limit < 2 ^ 31) where
-  pub client_is : (bytes : List ℕ) (c : AllOfClient s limit from to law small bytes) → session.IsAllOfClient (rules_of s) limit bytes c.are.frames
+module _ (s : Setting) (limit : ℕ) (law : StandsAtFront) (small : limit < 2 ^ 31) where
+  pub client_is : (bytes : List ℕ) (c : AllOfClient s limit law small bytes) → session.IsAllOfClient (rules_of s) limit bytes c.are.frames
   client_is bytes c = record {
     rest = c.are.rest;
     taken = c.are.taken;
@@ -44,7 +44,7 @@ module _ (s : Setting) (limit : ℕ) (from : HasLaws s.client) (to : HasLaws s.u
     last = c.ends;
   }
 
-  pub upstream_is : (bytes : List ℕ) (frames : List (List ℕ)) (asked : List Said) (u : AllOfUpstream s limit from to law small (calls s asked) bytes) → session.calls_of (rules_of s) frames ≡ map (kept s) (calls s asked)
+  pub upstream_is : (bytes : List ℕ) (frames : List (List ℕ)) (asked : List Said) (u : AllOfUpstream s limit law small (calls s asked) bytes) → session.calls_of (rules_of s) frames ≡ map (kept s) (calls s asked)
       → session.IsAllOfUpstream (rules_of s) limit (session.calls_of (rules_of s) frames) bytes u.are.frames
   upstream_is bytes frames asked u same = record {
     rest = u.are.rest;
@@ -63,13 +63,13 @@ module _ (s : Setting) (limit : ℕ) (from : HasLaws s.client) (to : HasLaws s.u
 
   -- all frames of both sides, and what was sent of what they give
   pub record Both (h : History) : Type 0 where
-    pub client : AllOfClient s limit from to law small h.from_client
-    pub upstream : AllOfUpstream s limit from to law small (calls s client.asked) h.from_upstream
+    pub client : AllOfClient s limit law small h.from_client
+    pub upstream : AllOfUpstream s limit law small (calls s client.asked) h.from_upstream
 
   pub both : IsSplit → (h : History) → AreBytes h.from_client → AreBytes h.from_upstream → Both h
   both split h client upstream =
-      let c = all_of_client s limit from to law small split h.from_client client in
-      record { client = c; upstream = all_of_upstream s limit from to law small split (calls s c.asked) h.from_upstream upstream }
+      let c = all_of_client s limit law small split h.from_client client in
+      record { client = c; upstream = all_of_upstream s limit law small split (calls s c.asked) h.from_upstream upstream }
 
   abbrev pub carried : (max_calls : ℕ) (h : History) (t : Standing) → Both h → Fits (rules_of s) limit max_calls h t → Carries s limit h
   carried max_calls h t b fits =

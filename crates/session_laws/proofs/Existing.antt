@@ -1,5 +1,5 @@
 -- Each side's bytes are frames up to the first that ends it.
-use Rattle.std.proofs.Common.{◌≡◌, ℕ, zero, suc, ◌<◌, ◌≤◌, ◌^◌, List, [], ◌∷◌, ◌++◌, length, true, false, Some, slice_get, refl, ap, ◌∙◌, sym, subst, append_assoc, arith}
+use Rattle.std.proofs.Common.{◌≡◌, ℕ, ◌<◌, ◌≤◌, ◌^◌, List, [], ◌∷◌, ◌++◌, length, true, false, Some, slice_get, refl, ap, ◌∙◌, sym, subst, append_assoc, arith}
 use Rattle.std.specs.List.{All, flat_map}
 use Rattle.std.specs.Int.{to_be_bytes, w32}
 use Rattle.std.proofs.lemmas.List.Elements.{All-nil, All-cons, All-head, All-tail}
@@ -14,7 +14,7 @@ use Rattle.session_judge.specs.Setting.{Setting}
 use Rattle.session_judge.specs.Rules.{rules_of}
 use Rattle.gate_base.specs.Bytes.{AreBytes}
 use Rattle.binary_laws.proofs.Inverse.{bytes_front}
-use Rattle.session_laws.specs.Saying.{HasLaws, Said, Says}
+use Rattle.session_laws.specs.Saying.{Said, Says}
 use Rattle.session_laws.specs.Exchange.{Done, Waits, Tells, Ends, done, calls, asking, replying, EndsUpstream}
 use Rattle.session_laws.specs.Exchange as exchange
 use Rattle.session_laws.specs.Streaming.{ClientHalts, UpstreamHalts, IsAsked, IsReplied}
@@ -39,7 +39,7 @@ same_frame x y more behind e = cc
 joined : (x rest more : List ℕ) (frames : List (List ℕ)) (bytes : List ℕ) → bytes ≡ flat_map framed frames ++ rest → more ≡ framed x ++ bytes → more ≡ flat_map framed (x ∷ frames) ++ rest
 joined x rest more frames bytes e f = f ∙ (ap (λ t. framed x ++ t) e ∙ sym (append_assoc (framed x) (flat_map framed frames) rest))
 
-module _ (s : Setting) (limit : ℕ) (from : HasLaws s.client) (to : HasLaws s.upstream) (law : StandsAtFront) (small : limit < 2 ^ 31) where
+module _ (s : Setting) (limit : ℕ) (law : StandsAtFront) (small : limit < 2 ^ 31) where
   -- ---- the client
 
   pub record AllOfClient (bytes : List ℕ) : Type 0 where
@@ -107,8 +107,9 @@ module _ (s : Setting) (limit : ℕ) (from : HasLaws s.client) (to : HasLaws s.u
   client_from (x ∷ xs) rest each are none =
       let laid : (framed x ++ flat_map framed xs) ++ rest ≡ framed x ++ (flat_map framed xs ++ rest) = append_assoc (framed x) (flat_map framed xs) rest in
       let parts = frame_bytes x (flat_map framed xs ++ rest) (subst AreBytes laid are) in
-      let f = fate s x parts.0 from to in
-      subst AllOfClient (sym laid) (by_fate x (flat_map framed xs ++ rest) f.0 (All-head (λ frame. length frame ≤ limit) x xs each) f.1 f.2
+      let within = All-head (λ frame. length frame ≤ limit) x xs each in
+      let f = fate s x parts.0 (omega (arith, within, small)) in
+      subst AllOfClient (sym laid) (by_fate x (flat_map framed xs ++ rest) f.0 within f.1 f.2
       (client_from xs rest (All-tail (λ frame. length frame ≤ limit) x xs each) parts.1 none))
 
   pub all_of_client : IsSplit → (bytes : List ℕ) → AreBytes bytes → AllOfClient bytes
@@ -172,8 +173,9 @@ module _ (s : Setting) (limit : ℕ) (from : HasLaws s.client) (to : HasLaws s.u
   upstream_from (call ∷ hs) (y ∷ ys) rest each are none =
       let laid : (framed y ++ flat_map framed ys) ++ rest ≡ framed y ++ (flat_map framed ys ++ rest) = append_assoc (framed y) (flat_map framed ys) rest in
       let parts = frame_bytes y (flat_map framed ys ++ rest) (subst AreBytes laid are) in
-      let f = reply_fate s call y parts.0 from to in
-      subst (AllOfUpstream (call ∷ hs)) (sym laid) (by_reply call hs y (flat_map framed ys ++ rest) f.0 (All-head (λ frame. length frame ≤ limit) y ys each) f.1 f.2
+      let within = All-head (λ frame. length frame ≤ limit) y ys each in
+      let f = reply_fate s call y parts.0 (omega (arith, within, small)) in
+      subst (AllOfUpstream (call ∷ hs)) (sym laid) (by_reply call hs y (flat_map framed ys ++ rest) f.0 within f.1 f.2
       (upstream_from hs ys rest (All-tail (λ frame. length frame ≤ limit) y ys each) parts.1 none))
 
   pub all_of_upstream : IsSplit → (hs : List Header) (bytes : List ℕ) → AreBytes bytes → AllOfUpstream hs bytes

@@ -1,5 +1,5 @@
 -- What the session's judge makes of a frame of the client, by what the frame says.
-use Rattle.std.proofs.Common.{◌≡◌, ℕ, List, [], ◌∷◌, Bool, true, false, refl, ap, ◌∙◌, sym, subst}
+use Rattle.std.proofs.Common.{◌≡◌, ℕ, ◌<◌, ◌^◌, List, [], ◌∷◌, ◌++◌, length, Bool, true, false, refl, ap, ◌∙◌, sym, subst}
 use Rattle.std.specs.Prelude.{if◌then◌else◌}
 use Rattle.thrift_value.specs.declared.kind.MessageType.{MessageType}
 use Rattle.thrift_value.specs.declared.kind.MessageType.TheVariants as types
@@ -29,10 +29,14 @@ use Rattle.gate_base.specs.Bytes.{AreBytes}
 use Rattle.binary_laws.specs.Reads.{header_of_message}
 use Rattle.verdict_laws.specs.Verdicts.{IsVerdict, IsPlain}
 use Rattle.verdict_laws.specs.Verdicts.IsVerdict.{Passes, IsBarred, IsFaulty, IsUnread}
-use Rattle.verdict_laws.specs.Rounds.{SpellsIn, plain_in}
-use Rattle.verdict_laws.proofs.Faulted.{binary_told, compact_told}
-use Rattle.verdict_laws.proofs.Round.{round}
-use Rattle.session_laws.specs.Saying.{PlaceBy, BeginsWith, HasLaws, Passage, SpellsHead, FaultBy, IsShallow, SpellsPlainly, Said, GoesOn, Says, failure_of}
+use Rattle.json_protocol.specs.Grammar.{mark}
+use Rattle.json_laws.specs.Fronts.{head_tokens}
+use Rattle.json_laws.proofs.Marks.{laid_apart}
+use Rattle.verdict_laws.specs.Rounds.{plain_in}
+use Rattle.verdict_laws.specs.Spellings.{SpellsBy, IsShort}
+use Rattle.verdict_laws.proofs.Faulted.{binary_told, compact_told, json_told}
+use Rattle.verdict_laws.proofs.Round.{held_round}
+use Rattle.session_laws.specs.Saying.{PlaceBy, BeginsWith, Passage, Spells, SpellsHead, FaultBy, IsShallow, SpellsPlainly, Said, GoesOn, Says, failure_of}
 use Rattle.session_laws.specs.Saying as saying
 use Rattle.session_laws.specs.Exchange.{asking, method_of, way_by, way_of, done, Waits, Tells, Ends, passed, done_for_message, done_for_refused, passed_by}
 use Rattle.session_laws.specs.Exchange as exchange
@@ -46,41 +50,50 @@ pub data IsSaidBy (p : Passage) (answer : Cause → List ℕ) (frame : List ℕ)
   ByCause : (h : Header) (cause : Cause) → Says p frame (saying.IsRefused h cause (answer cause)) → j ≡ judged (Refused (info_of p.declarations p.route h) cause) [] → IsSaidBy p answer frame j
   ByFault : (f : Fault) → Says p frame (saying.IsUnread f) → j ≡ judged (Unread f) [] → IsSaidBy p answer frame j
 
-is_plain : (to : Proto) (d : Declarations) (route : Route) (m : Message) (bytes : List ℕ) → HasLaws to → IsPlain to d route m bytes → bytes ≡ plain_in to d route m
-is_plain protocols.Binary d route m bytes laws e = e
-is_plain protocols.Compact d route m bytes laws e = e
-is_plain protocols.Json d route m bytes laws e = absurd (laws refl)
+is_plain : (to : Proto) (d : Declarations) (route : Route) (m : Message) (bytes : List ℕ) → IsPlain to d route m bytes → bytes ≡ plain_in to d route m
+is_plain protocols.Binary d route m bytes e = e
+is_plain protocols.Compact d route m bytes e = e
+is_plain protocols.Json d route m bytes e = e
 
 -- a frame that spells a message begins with its header
-headed : (from : Proto) (m : Message) (frame : List ℕ) → SpellsIn from m frame → BeginsWith from (header_of_message m) frame
-headed protocols.Binary m frame (small, fits, (header, body, head, members, laid)) = (header, body, laid, (small, fits, head))
-headed protocols.Compact m frame (header, body, head, members, laid) = (header, body, laid, head)
-headed protocols.Json m frame spells = absurd spells
+headed : (d : Declarations) (route : Route) (from : Proto) (m : Message) (frame : List ℕ) → SpellsBy d route from m frame → BeginsWith from (header_of_message m) frame
+headed d route protocols.Binary m frame (small, fits, (header, body, head, members, laid)) = (header, body, laid, (small, fits, head))
+headed d route protocols.Compact m frame (header, body, head, members, laid) = (header, body, laid, head)
+headed d route protocols.Json m frame (name, seq, inner, text, int, fits, are, members, laid) =
+    let x = laid_apart (head_tokens m.mtype name seq []) (mark 123 ∷ (inner ++ (mark 125 ∷ mark 93 ∷ []))) frame laid in
+    (x.0, x.1, x.2, (name, seq, text, int, fits, x.3))
 
-pub verdict_is : (p : Passage) (frame : List ℕ) → AreBytes frame → HasLaws p.from
-    → IsVerdict (SpellsHead p.from) (SpellsIn p.from) (FaultBy p p.from) (PlaceBy p.from) p.declarations p.route p.to frame (pairs.judged p.declarations p.route p.from p.to frame)
-verdict_is p frame are from = by_protocol p.from from
-  where
-    by_protocol : (protocol : Proto) → HasLaws protocol → IsVerdict (SpellsHead protocol) (SpellsIn protocol) (FaultBy p protocol) (PlaceBy protocol) p.declarations p.route p.to frame (pairs.judged p.declarations p.route protocol p.to frame)
-    by_protocol protocols.Binary laws = binary_told p.declarations p.route p.to frame are
-    by_protocol protocols.Compact laws = compact_told p.declarations p.route p.to frame are
-    by_protocol protocols.Json laws = absurd (laws refl)
+-- a frame of less than 2^31 bytes is short in every protocol
+pub short_in : (protocol : Proto) (frame : List ℕ) → length frame < 2 ^ 31 → IsShort protocol frame
+short_in protocols.Binary frame small = tt
+short_in protocols.Compact frame small = tt
+short_in protocols.Json frame small = small
 
-pub said_by : (p : Passage) (frame : List ℕ) → AreBytes frame → HasLaws p.from → HasLaws p.to → HasLaws p.teller
-    → IsSaidBy p (answered p.from p.teller frame) frame (pairs.judged p.declarations p.route p.from p.to frame)
-said_by p frame are from to teller = by_verdict (verdict_is p frame are from)
+pub verdict_is : (p : Passage) (frame : List ℕ) → AreBytes frame → IsShort p.from frame
+    → IsVerdict (SpellsHead p.from) (Spells p p.from) (FaultBy p p.from) (PlaceBy p p.from) p.declarations p.route p.to frame (pairs.judged p.declarations p.route p.from p.to frame)
+verdict_is p frame are short = by_protocol p.from short
   where
-    by_verdict : IsVerdict (SpellsHead p.from) (SpellsIn p.from) (FaultBy p p.from) (PlaceBy p.from) p.declarations p.route p.to frame (pairs.judged p.declarations p.route p.from p.to frame)
+    by_protocol : (protocol : Proto) → IsShort protocol frame
+        → IsVerdict (SpellsHead protocol) (Spells p protocol) (FaultBy p protocol) (PlaceBy p protocol) p.declarations p.route p.to frame (pairs.judged p.declarations p.route protocol p.to frame)
+    by_protocol protocols.Binary short = binary_told p.declarations p.route p.to frame are
+    by_protocol protocols.Compact short = compact_told p.declarations p.route p.to frame are
+    by_protocol protocols.Json short = json_told p.declarations p.route p.to frame short
+
+pub said_by : (p : Passage) (frame : List ℕ) → AreBytes frame → IsShort p.from frame → IsSaidBy p (answered p.from p.teller frame) frame (pairs.judged p.declarations p.route p.from p.to frame)
+said_by p frame are short = by_verdict (verdict_is p frame are short)
+  where
+    by_verdict : IsVerdict (SpellsHead p.from) (Spells p p.from) (FaultBy p p.from) (PlaceBy p p.from) p.declarations p.route p.to frame (pairs.judged p.declarations p.route p.from p.to frame)
         → IsSaidBy p (answered p.from p.teller frame) frame (pairs.judged p.declarations p.route p.from p.to frame)
     by_verdict (Passes m out spells deep holds plain e) =
-        let is = is_plain p.to p.declarations p.route m out to plain in
-        ByMessage m out (spells, deep, holds, (subst (λ b. SpellsIn p.to m b) (sym is) (round p.declarations p.route p.from p.to m frame spells deep to).spells, is)) e
+        let is = is_plain p.to p.declarations p.route m out plain in
+        let over = (held_round p.declarations p.route p.from p.to m frame spells deep are short holds).spells in
+        ByMessage m out (spells, deep, holds, (subst (λ b. SpellsBy p.declarations p.route p.to m b) (sym is) over, is)) e
     by_verdict (IsBarred m spot place bar spells deep first at e) =
-        let begins = headed p.from m frame spells in
+        let begins = headed p.declarations p.route p.from m frame spells in
         ByCause (header_of_message m) (Barred place bar)
-        (begins, record { message = m; spot = spot; spells = spells; shallow = deep; first = first; stands = at }, answer_spells p.declarations p.route p.from p.teller frame (header_of_message m) (Barred place bar) teller begins) e
+        (begins, record { message = m; spot = spot; spells = spells; shallow = deep; first = first; stands = at }, answer_spells p.route p.from p.teller frame (header_of_message m) (Barred place bar) begins short) e
     by_verdict (IsFaulty header front rest f laid head stands e) =
-        ByCause header (Grammar f) ((front, rest, laid, head), stands, answer_spells p.declarations p.route p.from p.teller frame header (Grammar f) teller (front, rest, laid, head)) e
+        ByCause header (Grammar f) ((front, rest, laid, head), stands, answer_spells p.route p.from p.teller frame header (Grammar f) (front, rest, laid, head) short) e
     by_verdict (IsUnread f none stands e) = ByFault f ((λ header begins. none header begins.0 begins.1 begins.2 begins.3), stands) e
 
 -- ---- a frame of the client
@@ -144,9 +157,9 @@ module _ (s : Setting) (x : List ℕ) where
       Halts halt.WrongWay (j ∙ ap (refused (method_of s h) cause) e) (ap (λ w. done_for_refused w (answered s.client s.client x cause)) (ap (way_by (method_of s h)) e)) refl
 
   -- each frame of the client says something, and the judge agrees
-  pub fate : AreBytes x → HasLaws s.client → HasLaws s.upstream → (a : Said) × Says (asking s) x a × IsFate s x a
+  pub fate : AreBytes x → length x < 2 ^ 31 → (a : Said) × Says (asking s) x a × IsFate s x a
   unfolding info_of
-  fate are from to = by_said (said_by (asking s) x are from to from)
+  fate are small = by_said (said_by (asking s) x are (short_in s.client x small))
     where
       by_said : IsSaidBy (asking s) (answered s.client s.client x) x (asked s x) → (a : Said) × Says (asking s) x a × IsFate s x a
       by_said (ByMessage m out says e) = (

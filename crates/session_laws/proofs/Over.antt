@@ -1,6 +1,7 @@
 -- Why a session ended, by what its frames say.
-use Rattle.std.proofs.Common.{◌≡◌, ℕ, ℤ, ◌+◌, ◌-◌, ◌<◌, ◌^◌, List, [], ◌∷◌, ◌++◌, length, take, drop, map, Bool, true, false, nat_lt, if◌then◌else◌, Some, slice_get, ap, ◌∙◌, sym, subst, arith}
+use Rattle.std.proofs.Common.{◌≡◌, ℕ, ℤ, ◌+◌, ◌-◌, ◌<◌, ◌≤◌, ◌^◌, List, [], ◌∷◌, ◌++◌, length, take, drop, map, Bool, true, false, nat_lt, if◌then◌else◌, Some, slice_get, refl, ap, ◌∙◌, sym, subst, arith, length-take}
 use Rattle.std.specs.List.{flat_map}
+use Rattle.std.proofs.lemmas.Bool.Decides.{nat_tests}
 use Rattle.std.specs.Int.{from_be_bytes, cast_signed, w32}
 use Rattle.std.proofs.lemmas.List.{append-nil, length-map, length-drop, take-append-drop}
 use Rattle.protocol_traits.specs.Heads.{Header}
@@ -20,7 +21,6 @@ use Rattle.session_judge.specs.Setting.{Setting}
 use Rattle.session_judge.specs.Rules.{rules_of}
 use Rattle.gate_base.specs.Bytes.{AreBytes}
 use Rattle.binary_laws.proofs.Inverse.{bytes_front}
-use Rattle.session_laws.specs.Saying.{HasLaws}
 use Rattle.session_laws.specs.Exchange.{calls}
 use Rattle.session_laws.specs.Streaming.{ClientHalts, UpstreamHalts}
 use Rattle.session_laws.specs.Carrying.{Halted, ByFrame, ByLength, WithinAFrame, Why, ByClient, ByUpstream, WithoutUpstream, AtTheEnd, WithOneMore, IsEnded}
@@ -53,6 +53,24 @@ frame_of limit bytes frame behind e are =
     (take (from_be_bytes w32 (take 4 bytes)) (drop 4 bytes)) (drop (from_be_bytes w32 (take 4 bytes)) (drop 4 bytes)) frame behind e)
     (bytes_taken (from_be_bytes w32 (take 4 bytes)) (drop 4 bytes) (bytes_dropped 4 bytes are))
 
+-- and no longer than the limit
+within_by : (short cut large : Bool) (limit n : ℕ) (z : ℤ) (inner outer frame behind : List ℕ) → nat_lt limit n ≡ large → length inner ≤ n
+    → (if short then Part else if large then Large z else if cut then Part else Whole inner outer) ≡ Whole frame behind → length frame ≤ limit
+within_by true cut large limit n z inner outer frame behind few most e = absurd (cc)
+within_by false cut true limit n z inner outer frame behind few most e = absurd (cc)
+within_by false true false limit n z inner outer frame behind few most e = absurd (cc)
+within_by false false false limit n z inner outer frame behind few most e =
+    let same : inner ≡ frame = cc in
+    let size = ap length same in
+    grind (arith, nat_tests)
+
+small_of : (limit : ℕ) → limit < 2 ^ 31 → (bytes frame behind : List ℕ) → front limit bytes ≡ Whole frame behind → length frame < 2 ^ 31
+unfolding front
+small_of limit small bytes frame behind e =
+    let n = from_be_bytes w32 (take 4 bytes) in
+    let within = within_by (nat_lt (length bytes) 4) (nat_lt (length bytes - 4) n) (nat_lt limit n) limit n (cast_signed w32 n) (take n (drop 4 bytes)) (drop n (drop 4 bytes)) frame behind refl (omega (arith, length-take n (drop 4 bytes))) e in
+    omega (arith, within, small)
+
 rest_bytes : (limit : ℕ) (bytes : List ℕ) (frames : List (List ℕ)) (rest : List ℕ) → session.IsTaken limit bytes frames rest → AreBytes bytes → AreBytes rest
 rest_bytes limit bytes frames rest taken are = (bytes_front (flat_map framed frames) rest (subst AreBytes taken.whole are)).1
 
@@ -67,7 +85,7 @@ none_due sent due whole e h = sym (append-nil sent) ∙ (ap (λ b. sent ++ b) (s
 next_is : (n m : ℕ) → n ≡ told m → told (n + 1) ≡ told (m + 1)
 next_is n m e = omega (arith, e)
 
-module _ (s : Setting) (limit max_calls : ℕ) (from : HasLaws s.client) (to : HasLaws s.upstream) (law : StandsAtFront) (small : limit < 2 ^ 31) (h : History) (b : Both s limit from to law small h)
+module _ (s : Setting) (limit max_calls : ℕ) (law : StandsAtFront) (small : limit < 2 ^ 31) (h : History) (b : Both s limit law small h)
     (client : AreBytes h.from_client) (upstream : AreBytes h.from_upstream) (t : Standing) (f : Fits (rules_of s) limit max_calls h t) where
   abbrev st : session.Stand (rules_of s) limit max_calls h.from_client h.from_upstream
   st = record { xs = f.xs; ys = f.ys; client_rest = t.client; upstream_rest = t.upstream; lawful = f.lawful; client = f.client; upstream = f.upstream }
@@ -82,7 +100,7 @@ module _ (s : Setting) (limit max_calls : ℕ) (from : HasLaws s.client) (to : H
   opened = calls s (take i b.client.asked)
 
   calls_by : session.calls_of (rules_of s) f.xs ≡ map (kept s) opened
-  calls_by = calls_are_taken s limit max_calls from to law small h b st
+  calls_by = calls_are_taken s limit max_calls law small h b st
 
   open_count : length t.calls ≡ length opened - j
   open_count = omega (arith, ap length f.calls, length-drop j (session.calls_of (rules_of s) f.xs), ap length calls_by, length-map opened (kept s))
@@ -94,14 +112,14 @@ module _ (s : Setting) (limit max_calls : ℕ) (from : HasLaws s.client) (to : H
   client_halts x halted =
       subst (λ e. Halted (ClientHalts s) limit t.client e x) f.client_ended
       (halted_too (ClientHaltsBy (rules_of s)) (ClientHalts s) limit t.client t.client_ended x
-      (λ frame behind y e halts. let z = fate s frame (frame_of limit t.client frame behind e (rest_bytes limit h.from_client f.xs t.client f.client client)) from to in (z.0, z.1, halts_is s frame z.0 y z.2 halts)) halted)
+      (λ frame behind y e halts. let z = fate s frame (frame_of limit t.client frame behind e (rest_bytes limit h.from_client f.xs t.client f.client client)) (small_of limit small t.client frame behind e) in (z.0, z.1, halts_is s frame z.0 y z.2 halts)) halted)
 
   upstream_halts : (call : Call) (g : Header) (x : Halt) → call ≡ kept s g → Halted (UpstreamHaltsBy (rules_of s) call) limit t.upstream t.upstream_ended x → Halted (UpstreamHalts s g) limit t.upstream h.upstream_ended x
   upstream_halts call g x same halted =
       subst (λ e. Halted (UpstreamHalts s g) limit t.upstream e x) f.upstream_ended
       (halted_too (UpstreamHaltsBy (rules_of s) call) (UpstreamHalts s g) limit t.upstream t.upstream_ended x
       (λ frame behind y e halts.
-      let z = reply_fate s g frame (frame_of limit t.upstream frame behind e (rest_bytes limit h.from_upstream f.ys t.upstream f.upstream upstream)) from to in
+      let z = reply_fate s g frame (frame_of limit t.upstream frame behind e (rest_bytes limit h.from_upstream f.ys t.upstream f.upstream upstream)) (small_of limit small t.upstream frame behind e) in
       (z.0, z.1, reply_halts_is s g frame z.0 y z.2 (ap (λ c. (rules_of s).replied c frame) (sym same) ∙ halts))) halted)
 
   next_call : (call : Call) (rest : List Call) → t.calls ≡ call ∷ rest → (g : Header) × (slice_get opened j ≡ Some g) × (call ≡ kept s g)
@@ -122,7 +140,7 @@ module _ (s : Setting) (limit max_calls : ℕ) (from : HasLaws s.client) (to : H
       (subst (λ n. Why s limit h opened i j t.client t.upstream (outcome.Unsolicited n (told j))) (sym (next_is t.answered j f.answered)) (WithOneMore (all_answered none) (sym f.client_ended ∙ ended) empty part))
 
   -- a session with an outcome of its own
-  pub ended : (o : Outcome) → 0 < max_calls → outcome_of (rules_of s) limit max_calls t ≡ Some o → IsEnded s limit max_calls h (carried s limit from to law small max_calls h t b f) o
+  pub ended : (o : Outcome) → 0 < max_calls → outcome_of (rules_of s) limit max_calls t ≡ Some o → IsEnded s limit max_calls h (carried s limit law small max_calls h t b f) o
   ended o some e =
       let over = over_by (rules_of s) limit max_calls t o some e in
       record {
@@ -130,12 +148,12 @@ module _ (s : Setting) (limit max_calls : ℕ) (from : HasLaws s.client) (to : H
         j = j;
         client_rest = t.client;
         upstream_rest = t.upstream;
-        client = subst (λ xs. session.IsTaken limit h.from_client xs t.client) (xs_are s limit max_calls from to law small h b st) f.client;
-        upstream = subst (λ ys. session.IsTaken limit h.from_upstream ys t.upstream) (ys_are s limit max_calls from to law small h b st) f.upstream;
+        client = subst (λ xs. session.IsTaken limit h.from_client xs t.client) (xs_are s limit max_calls law small h b st) f.client;
+        upstream = subst (λ ys. session.IsTaken limit h.from_upstream ys t.upstream) (ys_are s limit max_calls law small h b st) f.upstream;
         sent = record {
-          stand = numbers_stand s limit max_calls from to law small h b st;
-          to_upstream = none_due h.to_upstream t.to_upstream (session.onward (rules_of s) f.xs) over.upstream f.to_upstream ∙ onward_taken s limit max_calls from to law small h b st;
-          to_client = none_due h.to_client t.to_client (session.back (rules_of s) f.xs f.ys) over.client f.to_client ∙ back_taken s limit max_calls from to law small h b st;
+          stand = numbers_stand s limit max_calls law small h b st;
+          to_upstream = none_due h.to_upstream t.to_upstream (session.onward (rules_of s) f.xs) over.upstream f.to_upstream ∙ onward_taken s limit max_calls law small h b st;
+          to_client = none_due h.to_client t.to_client (session.back (rules_of s) f.xs f.ys) over.client f.to_client ∙ back_taken s limit max_calls law small h b st;
         };
         why = why_is o over.why;
       }

@@ -1,5 +1,5 @@
 -- What the session's judge makes of a frame of the upstream, by what the frame says.
-use Rattle.std.proofs.Common.{◌≡◌, ℕ, List, [], false, refl, ap, ◌∙◌, sym}
+use Rattle.std.proofs.Common.{◌≡◌, ℕ, ◌<◌, ◌^◌, List, [], length, false, refl, ap, ◌∙◌, sym}
 use Rattle.std.specs.Prelude.{if◌then◌else◌}
 use Rattle.thrift_value.specs.declared.kind.MessageType.{MessageType}
 use Rattle.thrift_value.specs.declared.kind.MessageType.TheVariants as types
@@ -16,10 +16,10 @@ use Rattle.session_judge.specs.Upstream.{of_type, of_upstream, back}
 use Rattle.session_judge.specs.Upstream as judging
 use Rattle.session_judge.specs.Rules.{told, rules_of}
 use Rattle.gate_base.specs.Bytes.{AreBytes}
-use Rattle.session_laws.specs.Saying.{HasLaws, Said, GoesOn, Says}
+use Rattle.session_laws.specs.Saying.{Said, GoesOn, Says}
 use Rattle.session_laws.specs.Saying as saying
 use Rattle.session_laws.specs.Exchange.{replying, method_of, is_reply, returned, EndsUpstream}
-use Rattle.session_laws.proofs.Fates.{IsSaidBy, ByMessage, ByCause, ByFault, said_by}
+use Rattle.session_laws.proofs.Fates.{IsSaidBy, ByMessage, ByCause, ByFault, said_by, short_in}
 
 -- an open call keeps what its method returns
 abbrev pub kept : Setting → Header → Call
@@ -40,9 +40,9 @@ module _ (s : Setting) (call : Header) (y : List ℕ) where
   by_type r types.Exception bytes v e is ends end = Answers v (e ∙ sym is) (λ h x. let wrong = (ends h x).0 in absurd (cc))
 
   -- each frame of the upstream says something in the place of a reply, and the judge agrees
-  pub reply_fate : AreBytes y → HasLaws s.client → HasLaws s.upstream → (r : Said) × Says (replying s call) y r × IsReplyFate s call y r
+  pub reply_fate : AreBytes y → length y < 2 ^ 31 → (r : Said) × Says (replying s call) y r × IsReplyFate s call y r
   unfolding info_of
-  reply_fate are to from = by_said (said_by (replying s call) y are from to to)
+  reply_fate are small = by_said (said_by (replying s call) y are (short_in s.upstream y small))
     where
       by_said : IsSaidBy (replying s call) (answered s.upstream s.client y) y (told s (kept s call) y) → (r : Said) × Says (replying s call) y r × IsReplyFate s call y r
       by_said (ByMessage m out says e) =

@@ -18,7 +18,6 @@ use Rattle.proxy_server.specs.Matching.{history_of}
 use Rattle.proxy_server.specs.Serving.{Entry, Closing, IsHeld, IsOutcome, NotOpened, LinkFailed, OfItself, IsAmong, IsOpenOne, IsEndedOne, Stands, no_more}
 use Rattle.proxy_server.specs.Steps.{Outside, Serves, IsLeft}
 use Rattle.proxy_server.specs.Turning.{IsSettled}
-use Rattle.session_laws.specs.Saying.{HasLaws}
 use Rattle.session_laws.specs.Serving.{sessions_of, IsWritable, Course, HasCourse, CarriesAll}
 use Rattle.session_laws.specs.Serving as course
 use Rattle.session_laws.proofs.Existing.{IsSplit}
@@ -34,9 +33,9 @@ by_either : (due : List ℕ) (t : Told) (x : Side) → IsWritable t → (due ≡
 by_either due t x writable (inl e) = e
 by_either due t x writable (inr e) = absurd (writable x e)
 
-module _ (s : Setting) (limit max_calls sessions events : ℕ) (from : HasLaws s.client) (to : HasLaws s.upstream) (law : StandsAtFront) (split : IsSplit) (small : limit < 2 ^ 31) (some : 0 < max_calls) where
-  all : (m : Meaning) (k : ℕ) → ReceivesBytes m → Both s limit from to law small (history_of (m.session k))
-  all m k bytes = both s limit from to law small split (history_of (m.session k)) (bytes k side.Client) (bytes k side.Upstream)
+module _ (s : Setting) (limit max_calls sessions events : ℕ) (law : StandsAtFront) (split : IsSplit) (small : limit < 2 ^ 31) (some : 0 < max_calls) where
+  all : (m : Meaning) (k : ℕ) → ReceivesBytes m → Both s limit law small (history_of (m.session k))
+  all m k bytes = both s limit law small split (history_of (m.session k)) (bytes k side.Client) (bytes k side.Upstream)
 
   -- ---- a session that is open
 
@@ -58,10 +57,10 @@ module _ (s : Setting) (limit max_calls sessions events : ℕ) (from : HasLaws s
   left_open result m k session bytes is settled =
       let t = m.session k in
       let fits = session_fits session t is in
-      course.LeftOpen (carried s limit from to law small max_calls (history_of t) session.standing (all m k bytes) fits)
+      course.LeftOpen (carried s limit law small max_calls (history_of t) session.standing (all m k bytes) fits)
       (λ whole writable.
       let rests = settled whole in
-      completed s limit max_calls from to law small (history_of t) (all m k bytes) session.standing some fits (session_rests session t is rests.going)
+      completed s limit max_calls law small (history_of t) (all m k bytes) session.standing some fits (session_rests session t is rests.going)
       (by_either session.standing.to_client t side.Client writable (rests.writes side.Client)) (by_either session.standing.to_upstream t side.Upstream writable (rests.writes side.Upstream)))
 
   -- ---- a session that has ended
@@ -70,10 +69,10 @@ module _ (s : Setting) (limit max_calls sessions events : ℕ) (from : HasLaws s
   by_outcome result m k o bytes (NotOpened why none unfailed) = course.NotOpened o why none
   by_outcome result m k o bytes (LinkFailed x st e failed others fits) =
       subst (λ p. Course s limit max_calls result (m.session k) (Some p)) (sym e)
-      (course.Broken x failed (carried s limit from to law small max_calls (history_of (m.session k)) st (all m k bytes) fits))
+      (course.Broken x failed (carried s limit law small max_calls (history_of (m.session k)) st (all m k bytes) fits))
   by_outcome result m k o bytes (OfItself st is unfailed fits) =
-      course.CameToAnEnd o (carried s limit from to law small max_calls (history_of (m.session k)) st (all m k bytes) fits)
-      (ended s limit max_calls from to law small (history_of (m.session k)) (all m k bytes) (bytes k side.Client) (bytes k side.Upstream) st fits o some is)
+      course.CameToAnEnd o (carried s limit law small max_calls (history_of (m.session k)) st (all m k bytes) fits)
+      (ended s limit max_calls law small (history_of (m.session k)) (all m k bytes) (bytes k side.Client) (bytes k side.Upstream) st fits o some is)
 
   -- ---- all of them
 

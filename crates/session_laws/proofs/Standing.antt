@@ -17,7 +17,7 @@ use Rattle.session_core.proofs.Greatest.{StandsAtFront, Compared, compared, all_
 use Rattle.session_judge.specs.Setting.{Setting}
 use Rattle.session_judge.specs.Rules.{rules_of}
 use Rattle.translate_core.specs.declared.verdict.Cause.{Cause}
-use Rattle.session_laws.specs.Saying.{HasLaws, Said}
+use Rattle.session_laws.specs.Saying.{Said}
 use Rattle.session_laws.specs.Exchange.{Waits, Tells, Ends, opened, done, calls, onward, back, EndsUpstream}
 use Rattle.session_laws.specs.Exchange as exchange
 use Rattle.session_laws.specs.Carrying.{IsStand, IsComplete}
@@ -63,7 +63,7 @@ taken_front limit n bytes frames rest taken = record {
       ∙ (ap (λ t. t ++ rest) (flat_map-append framed (take n frames) (drop n frames)) ∙ append_assoc (flat_map framed (take n frames)) (flat_map framed (drop n frames)) rest));
 }
 
-module _ (s : Setting) (limit max_calls : ℕ) (from : HasLaws s.client) (to : HasLaws s.upstream) (law : StandsAtFront) (small : limit < 2 ^ 31) (h : History) (b : Both s limit from to law small h) where
+module _ (s : Setting) (limit max_calls : ℕ) (law : StandsAtFront) (small : limit < 2 ^ 31) (h : History) (b : Both s limit law small h) where
   abbrev xs_all : List (List ℕ)
   xs_all = b.client.are.frames
 

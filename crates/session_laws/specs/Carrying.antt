@@ -16,15 +16,13 @@ use Rattle.session_core.specs.declared.outcome.Outcome.{Outcome}
 use Rattle.session_core.specs.declared.outcome.Outcome.TheVariants as outcome
 use Rattle.session_judge.specs.Setting.{Setting}
 use Rattle.session_judge.specs.Rules.{rules_of}
-use Rattle.session_laws.specs.Saying.{HasLaws, Said}
+use Rattle.session_laws.specs.Saying.{Said}
 use Rattle.session_laws.specs.Exchange.{done, Tells, calls, onward, back}
 use Rattle.session_laws.specs.Streaming.{ClientHalts, UpstreamHalts, IsAsked, IsReplied}
 
--- The laws cover sessions of this setting: they speak of both sides' protocols, and a frame is shorter than 2^31 bytes.
-pub record IsCovered (s : Setting) (limit : ℕ) : Type 0 where
-  pub client : HasLaws s.client
-  pub upstream : HasLaws s.upstream
-  pub small : limit < 2 ^ 31
+-- The laws cover sessions of this limit: a frame is shorter than 2^31 bytes.
+abbrev pub IsCovered : ℕ → Type 0
+IsCovered limit = limit < 2 ^ 31
 
 -- what came of both sides consists of bytes
 pub record IsOfBytes (h : History) : Type 0 where
@@ -106,7 +104,7 @@ pub record Session : Type 0 where
   pub max_calls : ℕ
   pub history : History
   pub standing : Standing
-  pub covered : IsCovered setting limit
+  pub covered : IsCovered limit
   pub bytes : IsOfBytes history
   pub fits : Fits (rules_of setting) limit max_calls history standing
 

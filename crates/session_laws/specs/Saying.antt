@@ -9,6 +9,7 @@ use Rattle.protocol_traits.specs.declared.proto.Proto.{Proto}
 use Rattle.protocol_traits.specs.declared.proto.Proto.TheVariants as protocols
 use Rattle.protocol_traits.specs.Heads.{Header}
 use Rattle.type_tables.specs.Declarations.{Declarations}
+use Rattle.type_tables.specs.Known.{built_in}
 use Rattle.translate_core.specs.declared.route.Route.{Route}
 use Rattle.translate_core.specs.declared.verdict.Cause.{Cause}
 use Rattle.translate_core.specs.declared.verdict.Cause.TheVariants.{Grammar, Barred, NoRoute}
@@ -16,14 +17,12 @@ use Rattle.translate_core.specs.Answers.{method_name}
 use Rattle.translate_core.specs.Texts.{cause_text, failure_type}
 use Rattle.binary_laws.specs.Faults as binary_faults
 use Rattle.compact_laws.specs.Faults as compact_faults
-use Rattle.verdict_laws.specs.Bars.{Spot, IsFirstBar, HoldsAll, BinaryPlace, CompactPlace}
-use Rattle.verdict_laws.specs.Rounds.{SpellsIn, plain_in}
-use Rattle.verdict_laws.specs.Verdicts.{BinaryHead, CompactHead}
+use Rattle.json_laws.specs.Fronts.{SpellsHeader as JsonHead}
+use Rattle.verdict_laws.specs.Bars.{Spot, IsFirstBar, HoldsAll, BinaryPlace, CompactPlace, JsonPlace}
+use Rattle.verdict_laws.specs.Rounds.{plain_in}
+use Rattle.verdict_laws.specs.Spellings.{SpellsBy, IsShort}
+use Rattle.verdict_laws.specs.Verdicts.{BinaryHead, CompactHead, JsonFault}
 use Rattle.protocol_pairs.specs.Pairs.{answered}
-
--- the protocols of which the laws are proved
-abbrev pub HasLaws : Proto → Type 0
-HasLaws protocol = protocol ≡ protocols.Json → ⊥
 
 -- from one protocol to another, by what is declared and by the route that names a body's struct; refusals are told in the third
 pub record Passage : Type 0 where
@@ -35,7 +34,7 @@ pub record Passage : Type 0 where
 
 -- the bytes spell the message
 abbrev pub Spells : Passage → Proto → Message → List ℕ → Type 0
-Spells p protocol m bytes = SpellsIn protocol m bytes
+Spells p protocol m bytes = SpellsBy p.declarations p.route protocol m bytes
 
 -- the bytes are the message's plain spelling, and spell it
 abbrev pub SpellsPlainly : Passage → Proto → Message → List ℕ → Type 0
@@ -52,26 +51,30 @@ IsShallow m = depth_of_members m.body < most_levels
 abbrev pub SpellsHead : Proto → Header → List ℕ → Type 0
 SpellsHead protocols.Binary header bytes = BinaryHead header bytes
 SpellsHead protocols.Compact header bytes = CompactHead header bytes
-SpellsHead protocols.Json header bytes = ⊥
+SpellsHead protocols.Json header bytes = JsonHead header bytes
 
 -- the frame begins with the whole header
 abbrev pub BeginsWith : Proto → Header → List ℕ → Type 0
 BeginsWith protocol header frame = (front : List ℕ) × (rest : List ℕ) × (frame ≡ front ++ rest) × SpellsHead protocol header front
 
--- the fault that stands in a frame of this protocol
+-- the frame, of less than 2^31 bytes in JSON, begins with the whole header
+abbrev pub IsHeadedBy : Passage → Header → List ℕ → Type 0
+IsHeadedBy p header frame = BeginsWith p.from header frame × IsShort p.from frame
+
+-- the fault that stands in a frame of this protocol; in one of JSON it is the one with which its reader refuses it
 abbrev pub FaultBy : Passage → Proto → List ℕ → Fault → Type 0
 FaultBy p protocols.Binary frame f = binary_faults.FaultAt frame f
 FaultBy p protocols.Compact frame f = compact_faults.FaultAt frame f
-FaultBy p protocols.Json frame f = ⊥
+FaultBy p protocols.Json frame f = JsonFault p.declarations p.route frame f
 
 abbrev pub FaultIn : Passage → List ℕ → Fault → Type 0
 FaultIn p frame f = FaultBy p p.from frame f
 
 -- where a spot of the message stands in the frame
-abbrev pub PlaceBy : Proto → Message → List ℕ → Spot → ℕ → Type 0
-PlaceBy protocols.Binary m frame spot place = BinaryPlace m frame spot place
-PlaceBy protocols.Compact m frame spot place = CompactPlace m frame spot place
-PlaceBy protocols.Json m frame spot place = ⊥
+abbrev pub PlaceBy : Passage → Proto → Message → List ℕ → Spot → ℕ → Type 0
+PlaceBy p protocols.Binary m frame spot place = BinaryPlace m frame spot place
+PlaceBy p protocols.Compact m frame spot place = CompactPlace m frame spot place
+PlaceBy p protocols.Json m frame spot place = JsonPlace p.declarations p.route m frame spot place
 
 -- the frame spells a message of which the other protocol can't hold this, at this place, nor is there anything earlier
 pub record BarIn (p : Passage) (frame : List ℕ) (place : ℕ) (bar : Bar) : Type 0 where
@@ -80,7 +83,7 @@ pub record BarIn (p : Passage) (frame : List ℕ) (place : ℕ) (bar : Bar) : Ty
   pub spells : Spells p p.from message frame
   pub shallow : IsShallow message
   pub first : IsFirstBar p.to p.declarations p.route message spot bar
-  pub stands : PlaceBy p.from message frame spot place
+  pub stands : PlaceBy p p.from message frame spot place
 
 -- why a message with a whole header can't go on: a fault stands in the frame, or else something is barred
 abbrev pub StandsIn : Passage → List ℕ → Cause → Type 0
@@ -111,6 +114,11 @@ abbrev pub failure_of : Proto → Header → Cause → Message
 failure_of teller h cause =
     record { name = told_name teller (method_name h.mtype h.name); mtype = types.Exception; seq = h.seq; body = failure_body (cause_text cause) (failure_type cause) }
 
+-- The bytes are the plain spelling of an exception that tells a refusal, and spell it, by what is built in: that a TApplicationException has
+-- a text and a type, whatever else is declared.
+abbrev pub TellsPlainly : Passage → Proto → Message → List ℕ → Type 0
+TellsPlainly p protocol m bytes = SpellsBy built_in p.route protocol m bytes × (bytes ≡ plain_in protocol built_in p.route m)
+
 -- ---- a frame
 
 -- a message that goes on, with its spelling in the other protocol; one that is refused, with its header, the cause and the exception
@@ -124,9 +132,9 @@ pub data Said : Type 0 where
 abbrev pub Says : Passage → List ℕ → Said → Type 0
 Says p frame (GoesOn m out) = Spells p p.from m frame × IsShallow m × HoldsAll p.to p.declarations p.route m × SpellsPlainly p p.to m out
 Says p frame (IsRefused header cause answer) =
-    BeginsWith p.from header frame × StandsIn p frame cause × SpellsPlainly p p.teller (failure_of p.teller header cause) answer
+    BeginsWith p.from header frame × StandsIn p frame cause × TellsPlainly p p.teller (failure_of p.teller header cause) answer
 Says p frame (IsUnread f) = ((header : Header) → BeginsWith p.from header frame → ⊥) × FaultIn p frame f
 
 -- the answer to the message with this header, refused for this cause, is the plain spelling of the exception that tells it
 abbrev pub AnswerSpells : Passage → List ℕ → Header → Cause → Type 0
-AnswerSpells p frame header cause = SpellsPlainly p p.to (failure_of p.to header cause) (answered p.from p.to frame cause)
+AnswerSpells p frame header cause = TellsPlainly p p.to (failure_of p.to header cause) (answered p.from p.to frame cause)

@@ -1,7 +1,7 @@
 -- What a server has carried over each session that its hub announced.
-use Rattle.std.specs.Prelude.{◌≡◌, ◌⊎◌, ℕ, List, true, Option, Some, None, slice_get}
+use Rattle.std.specs.Prelude.{◌≡◌, ◌<◌, ◌⊎◌, ℕ, List, true, Option, Some, None, slice_get}
 use Rattle.gate_hub.specs.Meaning.{Told, Meaning, link_of}
-use Rattle.gate_hub.specs.Hubs.{Counts}
+use Rattle.gate_hub.specs.declared.hub.Hub.{Ghosts as Hub}
 use Rattle.gate_hub.specs.declared.hub.Side.{Side}
 use Rattle.gate_hub.specs.declared.hub.LinkPut.TheVariants as put
 use Rattle.gate_hub.specs.declared.hub.Served.{Served}
@@ -14,23 +14,41 @@ use Rattle.session_judge.specs.Rules.{rules_of}
 use Rattle.proxy_server.specs.Matching.{history_of}
 use Rattle.proxy_server.specs.Serving.{Entry, Closing, KeepsFrom, IsFresh}
 use Rattle.proxy_server.specs.Serving.{Setting as Sessions}
-use Rattle.proxy_server.specs.Steps.{Outside, LinesEnd, WritesLines, AnswersLines}
+use Rattle.proxy_server.specs.Steps.{Outside, Serves, LinesEnd, WritesLines, AnswersLines}
 use Rattle.proxy_server.specs.Turning.{HasFailed}
-use Rattle.session_laws.specs.Carrying.{Carries, IsComplete, IsEnded}
+use Rattle.session_laws.specs.Carrying.{IsCovered, Carries, IsComplete, IsEnded}
 
 -- the sessions of a server go between these protocols, each with frames of so many bytes and so many open calls at most; so many are
 -- open at a time, and so much may be spent
 abbrev pub sessions_of : Setting → ℕ → ℕ → ℕ → ℕ → Sessions
 sessions_of s limit max_calls sessions events = record { rules = rules_of s; limit = limit; max_calls = max_calls; sessions = sessions; events = events }
 
--- what was written to an output, where it tells it, and its faults
-pub record Output : Type 0 where
+-- the same in one: between whom a server's sessions go, and within which bounds
+pub record ServerTerms : Type 0 where
+  pub setting : Setting
+  pub limit : ℕ
+  pub max_calls : ℕ
+  pub sessions : ℕ
+  pub events : ℕ
+
+-- the laws cover these sessions, and a call may be open in them
+pub record AreCovered (k : ServerTerms) : Type 0 where
+  pub covered : IsCovered k.limit
+  pub some : 0 < k.max_calls
+
+-- a hub, and what was written to an output, where it tells it, with its faults
+pub record Moment (H : Type 0) : Type 0 where
+  pub hub : H
   pub written : Option (List ℕ)
   pub faults : ℕ
 
--- a hub and an output, as they tell
-abbrev pub leaving : (Meaning → Type 0) → Counts → Output → Outside
-leaving told counts x = record { told = told; counts = counts; written = x.written; faults = x.faults }
+-- what stands outside of a server then, as the hub tells of itself
+abbrev pub told_at : {H : Type 0} → Hub H → Moment H → Outside
+told_at hubs a = record { told = hubs.tells a.hub; counts = hubs.counts a.hub; written = a.written; faults = a.faults }
+
+-- a server on these terms served from the one moment to the other
+abbrev pub ServesOn : {H : Type 0} → Hub H → ServerTerms → Moment H → Moment H → Served → Type 0
+ServesOn hubs k a b result = Serves Setting rules_of (sessions_of k.setting k.limit k.max_calls k.sessions k.events) (told_at hubs a) (told_at hubs b) result
 
 -- neither side's last write was refused for want of room
 abbrev pub IsWritable : Told → Type 0
@@ -63,3 +81,7 @@ pub record CarriesAll (s : Setting) (limit max_calls : ℕ) (a b : Outside) (res
   pub writes : WritesLines lines a.written b.written a.faults b.faults ended held
   pub answers : AnswersLines result lines
   pub sessions : KeepsFrom a.told b.told IsFresh (λ m n. (k : ℕ) → (n.session k).announced ≡ true → HasCourse s limit max_calls result held ended n k)
+
+-- the same from the one moment to the other, for a server on these terms
+abbrev pub CarriesOn : {H : Type 0} → Hub H → ServerTerms → Moment H → Moment H → Served → Type 0
+CarriesOn hubs k a b result = CarriesAll k.setting k.limit k.max_calls (told_at hubs a) (told_at hubs b) result

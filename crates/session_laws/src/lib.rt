@@ -9,12 +9,9 @@ ghost use Rattle.translate_core.specs.declared.verdict.Cause.{Cause};
 ghost use Rattle.protocol_pairs.specs.Pairs.{answered};
 ghost use Rattle.gate_hub.specs.declared.hub.Served.{Served};
 ghost use Rattle.session_core.specs.declared.outcome.Outcome.{Outcome};
-ghost use Rattle.session_judge.specs.Setting.{Setting};
-ghost use Rattle.session_judge.specs.Rules.{rules_of};
-ghost use Rattle.proxy_server.specs.Steps.{Serves};
-ghost use Rattle.session_laws.specs.Saying.{HasLaws, Passage, BeginsWith, AnswerSpells};
-ghost use Rattle.session_laws.specs.Carrying.{IsCovered, Session, HasCarried, IsPaid, HasCarriedAll, EndsWith, HasEndedWith};
-ghost use Rattle.session_laws.specs.Serving.{sessions_of, Output, leaving, CarriesAll};
+ghost use Rattle.session_laws.specs.Saying.{Passage, IsHeadedBy, AnswerSpells};
+ghost use Rattle.session_laws.specs.Carrying.{Session, HasCarried, IsPaid, HasCarriedAll, EndsWith, HasEndedWith};
+ghost use Rattle.session_laws.specs.Serving.{ServerTerms, Moment, AreCovered, ServesOn, CarriesOn};
 
 use framed_transport::{a_stream_is_split, frame_stands_at_the_front};
 use gate_hub::Hub;
@@ -22,8 +19,7 @@ use gate_hub::Hub;
 /// The answer to a refused message is the plain spelling of an exception with its sequence number and its name without the service
 /// before it. Field 1 of the exception is the text of the cause, field 2 the type 7, a protocol error.
 pub fn an_answer_spells_an_exception()
-    ensures { (p : Passage) (frame : List ℕ) (header : Header) (cause : Cause) → HasLaws p.to → BeginsWith p.from header frame
-        → AnswerSpells p frame header cause }
+    ensures { (p : Passage) (frame : List ℕ) (header : Header) (cause : Cause) → IsHeadedBy p header frame → AnswerSpells p frame header cause }
 {}
 
 /// What each side of a session was sent is a front of what all frames of the other give.
@@ -59,9 +55,7 @@ pub fn an_outcome_says_why()
 /// frame, length or end was met. One that was left open was sent all that the order of the calls and the most of them that may be open
 /// allow, where both sides can be written to and the budget isn't spent.
 pub fn a_server_carries_messages<H: Hub>()
-    ensures { (s : Setting) (limit max_calls sessions events : ℕ) (h h' : H) (x x' : Output) (result : Served) → IsCovered s limit → 0 < max_calls
-        → let a = leaving (H.tells h) (H.counts h) x in let b = leaving (H.tells h') (H.counts h') x' in
-        Serves Setting rules_of (sessions_of s limit max_calls sessions events) a b result → CarriesAll s limit max_calls a b result }
+    ensures { (k : ServerTerms) (a b : Moment H) (result : Served) → AreCovered k → ServesOn H.Hub k a b result → CarriesOn H.Hub k a b result }
 {
     frame_stands_at_the_front();
     a_stream_is_split();

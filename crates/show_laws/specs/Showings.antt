@@ -17,7 +17,9 @@ use Rattle.compact_protocol.specs.Grammar.{CompactSpells}
 use Rattle.binary_laws.specs.Reads.{header_of_message}
 use Rattle.binary_laws.specs.Faults as binary_faults
 use Rattle.compact_laws.specs.Faults as compact_faults
-use Rattle.verdict_laws.specs.Verdicts.{BinaryHead, CompactHead}
+use Rattle.json_laws.specs.Fronts.{SpellsHeader as JsonHead}
+use Rattle.verdict_laws.specs.Spellings.{SpellsBy}
+use Rattle.verdict_laws.specs.Verdicts.{BinaryHead, CompactHead, JsonFault}
 
 -- what is known of the beginning of a body, where names without a service before them are those of this service
 abbrev pub body_start : Declarations → Option ServiceId → Header → Position
@@ -42,9 +44,13 @@ pub data IsShowing (SpellsHead : Header → List ℕ → Type 0) (Spells : Messa
   TellsNoHeader : (f : Fault) → ((header : Header) (front rest : List ℕ) → frame ≡ front ++ rest → SpellsHead header front → ⊥)
       → FaultAt frame f → s ≡ Unread f → IsShowing SpellsHead Spells FaultAt d service frame s
 
--- what is shown of a frame of Binary, and of Compact
+-- what is shown of a frame of Binary, of Compact, and of JSON
 abbrev pub IsBinaryShowing : Declarations → Option ServiceId → List ℕ → Type 0
 IsBinaryShowing d service frame = IsShowing BinaryHead BinarySpells binary_faults.FaultAt d service frame (shown d service protocols.Binary frame)
 
 abbrev pub IsCompactShowing : Declarations → Option ServiceId → List ℕ → Type 0
 IsCompactShowing d service frame = IsShowing CompactHead CompactSpells compact_faults.FaultAt d service frame (shown d service protocols.Compact frame)
+
+abbrev pub IsJsonShowing : Declarations → Option ServiceId → List ℕ → Type 0
+IsJsonShowing d service frame =
+    IsShowing JsonHead (SpellsBy d (ByName service) protocols.Json) (JsonFault d (ByName service)) d service frame (shown d service protocols.Json frame)

@@ -1,12 +1,14 @@
 -- What a stream gives, from its clause.
-use Rattle.std.proofs.Common.{◌≡◌, ℕ, ◌+◌, Bool, true, false, List, [], ◌∷◌, ◌++◌, Option, None, Some, refl, ap, ◌∙◌, sym, subst}
+use Rattle.std.proofs.Common.{◌≡◌, ℕ, ◌+◌, ◌≤◌, Bool, true, false, List, [], ◌∷◌, ◌++◌, length, arith, Option, None, Some, refl, ap, ◌∙◌, sym, subst}
 use Rattle.std.proofs.lemmas.List.{append-nil}
 use Rattle.std.specs.Prelude.{⊤, not, ◌||◌, IfSome, IsSome}
-use Rattle.std.specs.List.{flat_map}
+use Rattle.std.specs.List.{All, flat_map}
+use Rattle.std.proofs.lemmas.List.Elements.{All-head, All-tail}
 use Rattle.std.specs.Io.KnownBytes.{Consumes}
 use Rattle.type_tables.specs.declared.declared.ServiceId.{ServiceId}
 use Rattle.type_tables.specs.Declarations.{Declarations}
 use Rattle.protocol_traits.specs.declared.proto.Proto.{Proto}
+use Rattle.protocol_traits.specs.declared.proto.Proto.TheVariants as protocols
 use Rattle.translate_core.specs.declared.route.Route.TheVariants.{ByName}
 use Rattle.translate_core.specs.declared.verdict.Cause.TheVariants.{Grammar}
 use Rattle.protocol_pairs.specs.Pairs.{answered}
@@ -14,8 +16,8 @@ use Rattle.framed_transport.specs.Frames.{framed}
 use Rattle.message_show.specs.Shown.{Showing, shown}
 use Rattle.gate_base.specs.Bytes.{AreBytes}
 use Rattle.binary_laws.proofs.Inverse.{bytes_front}
-use Rattle.verdict_laws.specs.Rounds.{SpellsIn}
-use Rattle.session_laws.specs.Saying.{HasLaws, FaultBy, SpellsHead}
+use Rattle.verdict_laws.specs.Spellings.{SpellsBy, IsShort}
+use Rattle.session_laws.specs.Saying.{FaultBy, SpellsHead}
 use Rattle.session_laws.proofs.Fates.{IsSaidBy, ByMessage, ByCause, ByFault, said_by}
 use Rattle.session_laws.proofs.Existing.{frame_bytes}
 use Rattle.show_laws.specs.Showings.{IsShowing, ShowsMessage, TellsFault, TellsNoHeader}
@@ -30,8 +32,7 @@ use Rattle.gate_run.specs.declared.stream.TheConstants.{MOST_BYTES}
 use Rattle.gate_run.specs.declared.status.Ending.{Ending}
 use Rattle.gate_run.specs.declared.status.Ending.TheVariants as endings
 use Rattle.gate_run.specs.Terms.{Terms, judged_by, shown_by, found_by}
-use Rattle.stream_laws.specs.Streams.{AreFrames}
-use Rattle.stream_laws.specs.Covering.{passage_of, IsConverted, IsWritten, IsReported, IsListed, HasLine, HasFault, IsConformed, IsMet, IsBroken, IsFaulty, GiveInOrder, CoversBy, GivesSome, GivesBy}
+use Rattle.stream_laws.specs.Covering.{passage_of, IsLow, IsConverted, IsWritten, IsReported, IsListed, HasLine, HasFault, IsConformed, IsMet, IsBroken, IsFaulty, GiveInOrder, CoversBy, GivesSome, GivesBy}
 
 -- what is read of a source that tells what is left of it consists of bytes
 pub are_read : {source : Option (List ℕ)} (left now : Option (List ℕ)) → IfSome source AreBytes → left ≡ source → IsSome left → (read : List ℕ) → Consumes left now read → AreBytes read
@@ -45,47 +46,53 @@ Holds Each number frame t = Each number frame (bytes_for number t) (line_for num
 
 -- ---- one frame that is converted
 
-module _ (k : Terms) (from to : Proto) (doing : k.doing ≡ Convert from to) (source : HasLaws from) (target : HasLaws to) (number : ℕ) (frame : List ℕ) (are : AreBytes frame) where
+-- a frame within a low limit is short
+pub short_frame : (from : Proto) (limit : ℕ) (frame : List ℕ) → IsLow from limit → length frame ≤ limit → IsShort from frame
+short_frame protocols.Binary limit frame low within = tt
+short_frame protocols.Compact limit frame low within = tt
+short_frame protocols.Json limit frame low within = omega (arith, low, within)
+
+module _ (k : Terms) (from to : Proto) (doing : k.doing ≡ Convert from to) (number : ℕ) (frame : List ℕ) (are : AreBytes frame) (short : IsShort from frame) where
   by_said : IsSaidBy (passage_of k from to) (answered from from frame) frame (judged_by k from to frame) → Holds (IsConverted (passage_of k from to)) number frame (translated (judged_by k from to frame))
   by_said (ByMessage m out says e) = subst (λ j. Holds (IsConverted (passage_of k from to)) number frame (translated j)) (sym e) (IsWritten m out says.0 says.1 says.2 says.3 refl refl)
   by_said (ByCause h cause says e) = subst (λ j. Holds (IsConverted (passage_of k from to)) number frame (translated j)) (sym e) (IsReported cause says.1 refl refl)
   by_said (ByFault f says e) = subst (λ j. Holds (IsConverted (passage_of k from to)) number frame (translated j)) (sym e) (IsReported (Grammar f) says.1 refl refl)
 
   pub converted : Holds (IsConverted (passage_of k from to)) number frame (treated k frame)
-  converted = subst (λ d. Holds (IsConverted (passage_of k from to)) number frame (treated_by k d frame)) (sym doing) (by_said (said_by (passage_of k from to) frame are source target source))
+  converted = subst (λ d. Holds (IsConverted (passage_of k from to)) number frame (treated_by k d frame)) (sym doing) (by_said (said_by (passage_of k from to) frame are short))
 
 -- ---- one frame that is shown
 
 -- the law of what is shown
 abbrev pub IsShowLaw : Type 0
-IsShowLaw = (d : Declarations) (service : Option ServiceId) (protocol : Proto) (frame : List ℕ) → AreBytes frame → HasLaws protocol
-    → IsShowing (SpellsHead protocol) (SpellsIn protocol) (λ l f. FaultBy (record { declarations = d; route = ByName service; from = protocol; to = protocol; teller = protocol }) protocol l f) d service frame (shown d service protocol frame)
+IsShowLaw = (d : Declarations) (service : Option ServiceId) (protocol : Proto) (frame : List ℕ) → AreBytes frame → IsShort protocol frame
+    → IsShowing (SpellsHead protocol) (SpellsBy d (ByName service) protocol) (λ l f. FaultBy (record { declarations = d; route = ByName service; from = protocol; to = protocol; teller = protocol }) protocol l f) d service frame (shown d service protocol frame)
 
-module _ (law : IsShowLaw) (k : Terms) (from : Proto) (doing : k.doing ≡ Show from) (source : HasLaws from) (number : ℕ) (frame : List ℕ) (are : AreBytes frame) where
-  by_showing : (s : Showing) → IsShowing (SpellsHead from) (SpellsIn from) (λ l f. FaultBy (passage_of k from from) from l f) k.declarations k.service frame s → Holds (IsListed k (passage_of k from from)) number frame (as_line s)
+module _ (law : IsShowLaw) (k : Terms) (from : Proto) (doing : k.doing ≡ Show from) (number : ℕ) (frame : List ℕ) (are : AreBytes frame) (short : IsShort from frame) where
+  by_showing : (s : Showing) → IsShowing (SpellsHead from) (SpellsBy k.declarations (ByName k.service) from) (λ l f. FaultBy (passage_of k from from) from l f) k.declarations k.service frame s → Holds (IsListed k (passage_of k from from)) number frame (as_line s)
   by_showing s (ShowsMessage m spells deep e) = subst (λ x. Holds (IsListed k (passage_of k from from)) number frame (as_line x)) (sym e) (HasLine m spells deep refl refl)
   by_showing s (TellsFault header front rest f laid head stands e) = subst (λ x. Holds (IsListed k (passage_of k from from)) number frame (as_line x)) (sym e) (HasFault f stands refl refl)
   by_showing s (TellsNoHeader f none stands e) = subst (λ x. Holds (IsListed k (passage_of k from from)) number frame (as_line x)) (sym e) (HasFault f stands refl refl)
 
   pub listed : Holds (IsListed k (passage_of k from from)) number frame (treated k frame)
-  listed = subst (λ d. Holds (IsListed k (passage_of k from from)) number frame (treated_by k d frame)) (sym doing) (by_showing (shown_by k from frame) (law k.declarations k.service from frame are source))
+  listed = subst (λ d. Holds (IsListed k (passage_of k from from)) number frame (treated_by k d frame)) (sym doing) (by_showing (shown_by k from frame) (law k.declarations k.service from frame are short))
 
 -- ---- one frame that is checked
 
 -- the law of what is found
 abbrev pub IsCheckLaw : Type 0
-IsCheckLaw = (d : Declarations) (service : Option ServiceId) (protocol : Proto) (frame : List ℕ) → AreBytes frame → HasLaws protocol
-    → IsChecking (SpellsHead protocol) (SpellsIn protocol) (λ l f. FaultBy (record { declarations = d; route = ByName service; from = protocol; to = protocol; teller = protocol }) protocol l f) d service frame (finding d service protocol frame)
+IsCheckLaw = (d : Declarations) (service : Option ServiceId) (protocol : Proto) (frame : List ℕ) → AreBytes frame → IsShort protocol frame
+    → IsChecking (SpellsHead protocol) (SpellsBy d (ByName service) protocol) (λ l f. FaultBy (record { declarations = d; route = ByName service; from = protocol; to = protocol; teller = protocol }) protocol l f) d service frame (finding d service protocol frame)
 
-module _ (law : IsCheckLaw) (k : Terms) (from : Proto) (doing : k.doing ≡ Conform from) (source : HasLaws from) (number : ℕ) (frame : List ℕ) (are : AreBytes frame) where
-  by_checking : (f : Finding) → IsChecking (SpellsHead from) (SpellsIn from) (λ l g. FaultBy (passage_of k from from) from l g) k.declarations k.service frame f → Holds (IsConformed k (passage_of k from from)) number frame (as_found f)
+module _ (law : IsCheckLaw) (k : Terms) (from : Proto) (doing : k.doing ≡ Conform from) (number : ℕ) (frame : List ℕ) (are : AreBytes frame) (short : IsShort from frame) where
+  by_checking : (f : Finding) → IsChecking (SpellsHead from) (SpellsBy k.declarations (ByName k.service) from) (λ l g. FaultBy (passage_of k from from) from l g) k.declarations k.service frame f → Holds (IsConformed k (passage_of k from from)) number frame (as_found f)
   by_checking f (MessageIsMet m spells deep meets e) = subst (λ x. Holds (IsConformed k (passage_of k from from)) number frame (as_found x)) (sym e) (IsMet m spells deep meets refl refl)
   by_checking f (MessageBreaks m b spells deep breaks first e) = subst (λ x. Holds (IsConformed k (passage_of k from from)) number frame (as_found x)) (sym e) (IsBroken m b spells deep breaks first refl refl)
   by_checking f (checkings.TellsFault header front rest g laid head stands e) = subst (λ x. Holds (IsConformed k (passage_of k from from)) number frame (as_found x)) (sym e) (IsFaulty g stands refl refl)
   by_checking f (checkings.TellsNoHeader g none stands e) = subst (λ x. Holds (IsConformed k (passage_of k from from)) number frame (as_found x)) (sym e) (IsFaulty g stands refl refl)
 
   pub conformed : Holds (IsConformed k (passage_of k from from)) number frame (treated k frame)
-  conformed = subst (λ d. Holds (IsConformed k (passage_of k from from)) number frame (treated_by k d frame)) (sym doing) (by_checking (found_by k from frame) (law k.declarations k.service from frame are source))
+  conformed = subst (λ d. Holds (IsConformed k (passage_of k from from)) number frame (treated_by k d frame)) (sym doing) (by_checking (found_by k from frame) (law k.declarations k.service from frame are short))
 
 -- ---- all frames of a stream
 
@@ -105,13 +112,29 @@ nothing_reported k before (frame ∷ frames) none =
     let parts = both_false (is_passed (treated k frame)) (any_refused k frames) none in
     ap (λ l. l ++ lines k (before + 1) frames) (no_line (before + 1) (treated k frame) parts.0) ∙ nothing_reported k (before + 1) frames parts.1
 
-module _ (k : Terms) (Each : ℕ → List ℕ → List ℕ → List ℕ → Type 0) (each : (number : ℕ) (frame : List ℕ) → AreBytes frame → Holds Each number frame (treated k frame)) where
-  all_give : (before : ℕ) (frames : List (List ℕ)) → AreFrames frames → GiveInOrder Each before frames (outputs k before frames) (lines k before frames)
-  all_give before [] are = (refl, refl)
-  all_give before (frame ∷ frames) are =
-      (output_of k (before + 1) frame, outputs k (before + 1) frames, line_of k (before + 1) frame, lines k (before + 1) frames, each (before + 1) frame are.0, all_give (before + 1) frames are.1, refl, refl)
+module _ (k : Terms) (Each : ℕ → List ℕ → List ℕ → List ℕ → Type 0) (each : (number : ℕ) (frame : List ℕ) → AreBytes frame → length frame ≤ k.limit → Holds Each number frame (treated k frame)) where
+  -- frames of bytes
+  abbrev Are : List (List ℕ) → Type 0
+  Are [] = ⊤
+  Are (frame ∷ frames) = AreBytes frame × Are frames
 
-  frames_are : (frames : List (List ℕ)) (rest : List ℕ) → AreBytes (flat_map framed frames ++ rest) → AreFrames frames
+  abbrev Within : List ℕ → Type 0
+  Within frame = length frame ≤ k.limit
+
+  all_give : (before : ℕ) (frames : List (List ℕ)) → Are frames → All Within frames → GiveInOrder Each before frames (outputs k before frames) (lines k before frames)
+  all_give before [] are within = (refl, refl)
+  all_give before (frame ∷ frames) are within = (
+    output_of k (before + 1) frame,
+    outputs k (before + 1) frames,
+    line_of k (before + 1) frame,
+    lines k (before + 1) frames,
+    each (before + 1) frame are.0 (All-head Within frame frames within),
+    all_give (before + 1) frames are.1 (All-tail Within frame frames within),
+    refl,
+    refl,
+  )
+
+  frames_are : (frames : List (List ℕ)) (rest : List ℕ) → AreBytes (flat_map framed frames ++ rest) → Are frames
   frames_are [] rest are = tt
   frames_are (x ∷ frames) rest are =
       let parts = bytes_front (flat_map framed (x ∷ frames)) rest are in
@@ -124,7 +147,7 @@ module _ (k : Terms) (Each : ℕ → List ℕ → List ℕ → List ℕ → Type
     splits = c.splits;
     out = outputs k 0 frames;
     told = lines k 0 frames;
-    give = all_give 0 frames (frames_are frames rest (subst AreBytes c.splits.whole are));
+    give = all_give 0 frames (frames_are frames rest (subst AreBytes c.splits.whole are)) c.splits.each;
     written = c.written;
     reported = c.reported;
   }

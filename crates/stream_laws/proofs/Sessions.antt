@@ -1,7 +1,5 @@
 -- What a server has carried, from its clause.
 use Rattle.std.proofs.Common.{◌≡◌, ℕ, inl, inr, Option, None, Some, refl, sym, subst}
-use Rattle.type_tables.specs.declared.declared.ServiceId.{ServiceId}
-use Rattle.type_tables.specs.Declarations.{Declarations}
 use Rattle.gate_hub.specs.Meaning.{Meaning}
 use Rattle.gate_hub.specs.Hubs.{Counts, StartLeads}
 use Rattle.gate_hub.specs.declared.hub.Began.TheVariants as began
@@ -18,21 +16,28 @@ use Rattle.gate_words.specs.declared.peers.Front.{Front}
 use Rattle.gate_run.specs.Posts.{ServesByFront}
 use Rattle.gate_run.specs.Peers.{ServesBySides}
 use Rattle.gate_run.specs.Serving.{ServesAll, Began, NotBegun, NoMemory, started_by, setting_by, settings, served_from}
+use Rattle.gate_run.specs.Undisturbed.{IsUntouched}
 use Rattle.gate_run.specs.declared.start.NoStart.{NoStart}
+use Rattle.gate_run.specs.declared.start.Start.{Start}
 use Rattle.gate_run.specs.declared.status.Ending.{Ending}
 use Rattle.gate_run.specs.Starting.{Holds, Starting, Goes, Stops}
 use Rattle.session_laws.specs.Serving.{CarriesAll}
-use Rattle.stream_laws.specs.Sessions.{IsUntouched, CarriesMessages}
+use Rattle.session_laws.proofs.Serving.{ReceivesBytes}
+use Rattle.stream_laws.specs.Sessions.{CarriesMessages}
 
 pub fresh : (s : Serving) (m n : Meaning) → IsUntouched m → StartLeads (started_by s) began.Done m n → IsFresh n
 fresh s m n before e = subst (λ (x : Meaning). IsFresh x) (sym e) (record { started = refl; unasked = before.unstarted.1; none = before.none })
 
 -- the law of a server of these sessions
-abbrev pub IsServer : Serving → Declarations → Option ServiceId → Outside → Outside → Type 0
-IsServer s d service a b = (result : Served) → Serves Setting rules_of (settings s d service) a b result → CarriesAll (setting_by s d service) s.limit s.calls a b result
+abbrev pub IsServer : Serving → Start → Outside → Outside → Type 0
+IsServer s start a b = (result : Served) → Serves Setting rules_of (settings s start) a b result → CarriesAll (setting_by s start) s.limit s.calls a b result
 
-module _ {H : Type 0} (tells : H → Meaning → Type 0) (counts : H → Counts) (s : Serving) (d : Declarations) (service : Option ServiceId) (h h' : H) (a b : Streams) (ending : Ending) where
-  pub carried : ((mid : H) → IsServer s d service (served_from (tells mid) (counts mid) a) (served_from (tells h') (counts h') b)) → ServesAll tells counts s d service h h' a b ending → CarriesMessages (tells h) (tells h') s d service a b
+-- the same of any two moments, where what is told was received consists of bytes
+abbrev pub IsLaw : Serving → Start → Type 1
+IsLaw s start = (a b : Outside) → ((n : Meaning) → b.told n → ReceivesBytes n) → IsServer s start a b
+
+module _ {H : Type 0} (tells : H → Meaning → Type 0) (counts : H → Counts) (s : Serving) (start : Start) (h h' : H) (a b : Streams) (ending : Ending) where
+  pub carried : ((mid : H) → IsServer s start (served_from (tells mid) (counts mid) a) (served_from (tells h') (counts h') b)) → ServesAll tells counts s start h h' a b ending → CarriesMessages (tells h) (tells h') s start a b
   carried law (Began mid result left later leads serves ends) =
       let all = law mid result serves in
       inl (record {
@@ -50,17 +55,17 @@ module _ {H : Type 0} (tells : H → Meaning → Type 0) (counts : H → Counts)
   carried law (NoMemory leads says) = inr (record { keeps = leads; written = says.written })
 
 -- the same of what a command did that started
-pub then : (told : Option Holds) (words : Declared) (before now : ℕ) (P Q : Declarations → Option ServiceId → Type 0) (Else : NoStart → Type 0) → ((d : Declarations) (service : Option ServiceId) → P d service → Q d service)
+pub then : (told : Option Holds) (words : Declared) (before now : ℕ) (P Q : Start → Type 0) (Else : NoStart → Type 0) → ((start : Start) → P start → Q start)
     → Starting told words before now P Else → Starting told words before now Q Else
-then told words before now P Q Else on (Goes start known cause p) = Goes start known cause (on start.schema start.service p)
+then told words before now P Q Else on (Goes start known cause p) = Goes start known cause (on start p)
 then told words before now P Q Else on (Stops stop known cause halts) = Stops stop known cause halts
 
 -- what a server does by its words, where this is its front
-pub of_front : {H : Type 0} (tells : H → Meaning → Type 0) (counts : H → Counts) (s : Serving) (d : Declarations) (service : Option ServiceId) (h h' : H) (a b : Streams) (ending : Ending) (found : Front) → s.front ≡ found
-    → ServesByFront s.front tells counts s d service h h' a b ending → ServesByFront found tells counts s d service h h' a b ending
-of_front tells counts s d service h h' a b ending found is serves = subst (λ (o : Front). ServesByFront o tells counts s d service h h' a b ending) is serves
+pub of_front : {H : Type 0} (tells : H → Meaning → Type 0) (counts : H → Counts) (s : Serving) (start : Start) (h h' : H) (a b : Streams) (ending : Ending) (found : Front) → s.front ≡ found
+    → ServesByFront s.front tells counts s start h h' a b ending → ServesByFront found tells counts s start h h' a b ending
+of_front tells counts s start h h' a b ending found is serves = subst (λ (o : Front). ServesByFront o tells counts s start h h' a b ending) is serves
 
 -- what a server does by its words, where these are its sides without frames
-pub of_sides : {H : Type 0} (tells : H → Meaning → Type 0) (counts : H → Counts) (s : Serving) (d : Declarations) (service : Option ServiceId) (h h' : H) (a b : Streams) (ending : Ending) (found : Option Sides) → s.unframed ≡ found
-    → ServesBySides s.unframed tells counts s d service h h' a b ending → ServesBySides found tells counts s d service h h' a b ending
-of_sides tells counts s d service h h' a b ending found is serves = subst (λ (o : Option Sides). ServesBySides o tells counts s d service h h' a b ending) is serves
+pub of_sides : {H : Type 0} (tells : H → Meaning → Type 0) (counts : H → Counts) (s : Serving) (start : Start) (h h' : H) (a b : Streams) (ending : Ending) (found : Option Sides) → s.unframed ≡ found
+    → ServesBySides s.unframed tells counts s start h h' a b ending → ServesBySides found tells counts s start h h' a b ending
+of_sides tells counts s start h h' a b ending found is serves = subst (λ (o : Option Sides). ServesBySides o tells counts s start h h' a b ending) is serves

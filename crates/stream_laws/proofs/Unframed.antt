@@ -1,7 +1,5 @@
 -- What a server has carried whose sides have no frames, from its clause.
 use Rattle.std.proofs.Common.{◌≡◌, ℕ, ◌<◌, ◌^◌, Bool, true, false, inl, inr, Option, None, Some, refl, sym, ◌∙◌, subst}
-use Rattle.type_tables.specs.declared.declared.ServiceId.{ServiceId}
-use Rattle.type_tables.specs.Declarations.{Declarations}
 use Rattle.gate_base.specs.Bytes.{AreBytes}
 use Rattle.gate_hub.specs.Meaning.{Meaning, link_of}
 use Rattle.gate_hub.specs.Hubs.{Counts, NotStarted}
@@ -11,23 +9,24 @@ use Rattle.gate_hub.specs.declared.hub.Side.TheVariants as side
 use Rattle.stream_messages.specs.declared.lanes.Wrapping.{Wrapping}
 use Rattle.stream_messages.specs.declared.slots.Slots.{Slots}
 use Rattle.stream_messages.specs.Telling.{Tells, TellsOver}
-use Rattle.unframed_laws.specs.Wrapped.{SideIsTold}
+use Rattle.unframed_laws.specs.Wrapped.{IsLimited, AreSidesTold}
 use Rattle.proxy_server.specs.Serving.{KeepsFrom}
 use Rattle.gate_words.specs.declared.serving.Serving.{Serving}
 use Rattle.gate_words.specs.declared.peers.Sides.{Sides}
 use Rattle.gate_run.specs.Outcome.{Streams}
 use Rattle.gate_run.specs.Peers.{Unframed, unframed, unframed_tells, unframed_counts, wrapping_by, ServesUnframed}
 use Rattle.gate_run.specs.Serving.{ServesAll, Began, NotBegun, NoMemory, setting_by, served_from}
+use Rattle.gate_run.specs.Undisturbed.{IsUntouched}
+use Rattle.gate_run.specs.declared.start.Start.{Start}
 use Rattle.gate_run.specs.declared.status.Ending.{Ending}
 use Rattle.gate_run.proofs.Wrapped.{tells_before}
 use Rattle.session_laws.specs.Serving.{HasCourse}
-use Rattle.stream_laws.specs.Sessions.{IsUntouched, IsCarriedOver, CarriesMessagesOver}
+use Rattle.stream_laws.specs.Sessions.{IsCarriedOver, CarriesMessagesOver}
 use Rattle.stream_laws.proofs.Sessions.{IsServer, fresh}
 
 -- the law of what is told of a side that is wrapped
 abbrev pub AreFramed : Type 0
-AreFramed = (w : Wrapping) (slots : Option Slots) (below told : Meaning) (k : ℕ) (x : Side) → 0 < w.limit → w.limit < 2 ^ 31 → Tells w slots below told
-    → AreBytes (link_of (below.session k) x).received → (below.session k).announced ≡ true → SideIsTold w x (below.session k) (told.session k)
+AreFramed = (w : Wrapping) (slots : Option Slots) (below told : Meaning) → IsLimited w → Tells w slots below told → AreSidesTold w below told
 
 -- where the wrapping hub still tells of no session, neither does the hub below
 untouched_below : (w : Wrapping) (slots : Option Slots) (inner outer : Meaning) → Tells w slots inner outer → IsUntouched outer → IsUntouched inner
@@ -36,7 +35,7 @@ untouched_below w slots inner outer tells before = record {
   none = λ k a. before.none k ((tells.announced k a).wraps.announced ∙ a);
 }
 
-module _ {H : Type 0} (tells : H → Meaning → Type 0) (counts : H → Counts) (w : Wrapping) (some : 0 < w.limit) (small : w.limit < 2 ^ 31) (framed : AreFramed) (s : Serving) (d : Declarations) (service : Option ServiceId)
+module _ {H : Type 0} (tells : H → Meaning → Type 0) (counts : H → Counts) (w : Wrapping) (some : 0 < w.limit) (small : w.limit < 2 ^ 31) (framed : AreFramed) (s : Serving) (start : Start)
     (h : H) (u : Unframed H) (wrapped : u.wrapping ≡ w) (bytes : (n : Meaning) → tells u.inner n → (k : ℕ) (x : Side) → AreBytes (link_of (n.session k) x).received) (a b : Streams) (ending : Ending) where
   outside_tells : (m : Meaning) → tells h m → IsUntouched m → unframed_tells tells (unframed w h) m
   outside_tells m told before = (m, told, tells_before w m before.unstarted before.none)
@@ -50,8 +49,8 @@ module _ {H : Type 0} (tells : H → Meaning → Type 0) (counts : H → Counts)
       let over = told_so then.0 then.1 in
       (over.0, over.1, untouched_below w u.slots over.0 then.0 over.2 (subst (λ n. IsUntouched n) (sym then.2) before))
 
-  pub carried_over : ((mid : Unframed H) → IsServer s d service (served_from (unframed_tells tells mid) (unframed_counts counts mid) a) (served_from (unframed_tells tells u) (unframed_counts counts u) b))
-      → ServesAll (unframed_tells tells) (unframed_counts counts) s d service (unframed w h) u a b ending → CarriesMessagesOver w (tells h) (tells u.inner) s d service a b
+  pub carried_over : ((mid : Unframed H) → IsServer s start (served_from (unframed_tells tells mid) (unframed_counts counts mid) a) (served_from (unframed_tells tells u) (unframed_counts counts u) b))
+      → ServesAll (unframed_tells tells) (unframed_counts counts) s start (unframed w h) u a b ending → CarriesMessagesOver w (tells h) (tells u.inner) s start a b
   carried_over law (Began mid result left later leads serves ends) =
       let all = law mid result serves in
       inl (record {
@@ -70,8 +69,8 @@ module _ {H : Type 0} (tells : H → Meaning → Type 0) (counts : H → Counts)
               (
                 then.0,
                 λ k announced. record {
-                  client = framed w u.slots over.0 then.0 k side.Client some small over.2 (bytes over.0 over.1 k side.Client) announced;
-                  upstream = framed w u.slots over.0 then.0 k side.Upstream some small over.2 (bytes over.0 over.1 k side.Upstream) announced;
+                  client = framed w u.slots over.0 then.0 (some, small) over.2 k side.Client (bytes over.0 over.1 k side.Client) announced;
+                  upstream = framed w u.slots over.0 then.0 (some, small) over.2 k side.Upstream (bytes over.0 over.1 k side.Upstream) announced;
                   course = then.2 k ((over.2.announced k announced).wraps.announced ∙ announced);
                 },
               ),

@@ -1,26 +1,39 @@
 -- The numbers of a server's words lie in their ranges.
-use Rattle.std.proofs.Common.{◌≡◌, ℕ, ◌<◌, ◌≤◌, ◌^◌, List, [], ◌∷◌, Bool, true, false, ◌&&◌, ◌||◌, Option, None, Some, refl, subst, arith}
+use Rattle.std.proofs.Common.{◌≡◌, ℕ, ◌<◌, ◌≤◌, ◌^◌, List, [], ◌∷◌, Bool, true, false, ◌&&◌, ◌||◌, not, Option, None, Some, refl, subst, arith}
 use Rattle.std.specs.Prelude.{IfSome, is_some, is_none, nat_lt, if◌then◌else◌, codes}
 use Rattle.std.proofs.lemmas.Bool.Decides.{nat_tests}
 use Rattle.protocol_traits.specs.declared.proto.Proto.{Proto}
 use Rattle.decimal_words.specs.Addresses.{is_address}
 use Rattle.gate_words.specs.Commands.{command, check_of, convert_of, convert_between, converted, show_of, show_from, shown, conform_of, conform_from, conformed, drill_of, drill_as, help_of}
 use Rattle.decimal_words.specs.Numbers.{number_of, within}
-use Rattle.gate_words.specs.Options.{no_options, set_limit, limit_of, set_sessions, set_accept, set_events, set_calls, set_unframed, set_front, with_server_option, with_peers, with_option, and_then, options_of, is_server_alone}
+use Rattle.gate_words.specs.Options.{no_options, is_for_one_upstream, set_limit, limit_of, set_sessions, set_accept, set_events, set_calls, set_unframed, set_front, with_server_option, with_peers, with_option, and_then, options_of, is_server_alone}
 use Rattle.gate_words.specs.Protos.{proto_of}
+use Rattle.gate_words.specs.Routing.{route_of, route_between, route_at, route_to, routed}
+use Rattle.gate_words.specs.Targets.{targets_of}
+use Rattle.gate_fan.specs.declared.fan.Target.{Target}
 use Rattle.decimal_words.specs.Same.{is}
 use Rattle.gate_words.specs.Same.{is_empty, or_else}
-use Rattle.gate_words.specs.Serving.{serve_of, serve_between, serve_at, served}
+use Rattle.gate_words.specs.Serving.{serve_of, serve_between, serve_at, served, serving_of, can_serve, wraps_twice}
 use Rattle.gate_words.specs.declared.command.Command.TheVariants as commands
 use Rattle.gate_words.specs.declared.options.Declared.{Declared}
 use Rattle.gate_words.specs.declared.options.Options.{Options}
 use Rattle.gate_words.specs.declared.peers.Sides.{Sides}
 use Rattle.gate_words.specs.declared.peers.Front.{Front}
+use Rattle.gate_words.specs.declared.routing.Routing.{Routing}
 use Rattle.gate_words.specs.declared.serving.Serving.{Serving}
 
 by_test : {X : Type 0} (P : Type 0) (b : Bool) (x y : Option X) (v : X) → (x ≡ Some v → P) → (y ≡ Some v → P) → (if b then x else y) ≡ Some v → P
 by_test P true x y v f g e = f e
 by_test P false x y v f g e = g e
+
+by_true : {X : Type 0} (P : Type 0) (b : Bool) (x y : Option X) (v : X) → (b ≡ true → x ≡ Some v → P) → (y ≡ Some v → P) → (if b then x else y) ≡ Some v → P
+by_true P true x y v f g e = f refl e
+by_true P false x y v f g e = g e
+
+second_of_three : (a b c : Bool) → (not a && (not b && c)) ≡ true → b ≡ false
+second_of_three a false c e = refl
+second_of_three true true c e = absurd (cc)
+second_of_three false true c e = absurd (cc)
 
 none_is : {X : Type 0} {P : Type 0} (v : X) → None ≡ Some v → P
 none_is v e = absurd (cc)
@@ -109,8 +122,9 @@ all_options (name ∷ value ∷ rest) o new e p = by_one (with_option o name val
 
 -- ---- the command
 
+-- its limit, its number of calls, and that its clients send no POSTs where their messages have no frames
 abbrev pub IsSmall : Serving → Type 0
-IsSmall s = IsLimit s.limit × (0 < s.calls)
+IsSmall s = IsLimit s.limit × (0 < s.calls) × (wraps_twice s ≡ false)
 
 or_bounded : (P : ℕ → Type 0) (default : ℕ) (o : Option ℕ) → P default → IfSome o P → P (or_else default o)
 or_bounded P default None d p = d
@@ -123,8 +137,9 @@ served_small : (client upstream : Proto) (listen target : List ℕ) (found : Opt
     → served (record { client = client; upstream = upstream; listen = listen; target = target }) found ≡ Some (commands.Serve s d) → IsSmall s
 served_small client upstream listen target None s d p e = absurd (cc)
 served_small client upstream listen target (Some o) s d p e =
-    by_test (IsSmall s) _ _ None (commands.Serve s d)
-    (λ f. subst IsSmall (serving_is _ s _ d f) (or_bounded IsLimit _ o.limit (omega arith, omega arith) p.0, or_bounded (λ n. 0 < n) _ o.calls (omega arith) p.1))
+    by_true (IsSmall s) (can_serve (serving_of (record { client = client; upstream = upstream; listen = listen; target = target }) o)) _ None (commands.Serve s d)
+    (λ can f. subst IsSmall (serving_is _ s _ d f)
+    (or_bounded IsLimit _ o.limit (omega arith, omega arith) p.0, or_bounded (λ n. 0 < n) _ o.calls (omega arith) p.1, second_of_three _ _ _ can))
     (none_is (commands.Serve s d)) e
 
 bounded_options : (words : List (List ℕ)) (found : Option Options) → options_of no_options words ≡ found → IfSome found IsBounded
@@ -193,6 +208,35 @@ module _ (s : Serving) (d : Declared) where
   no_conforming [] e = absurd (cc)
   no_conforming (from ∷ rest) e = not_conformed (proto_of from) rest e
 
+  no_route : (fits : Bool) (r : Routing) (declared : Declared) → (if fits then Some (commands.Route r declared) else None) ≡ Some (commands.Serve s d) → IsSmall s
+  no_route true r declared e = absurd (cc)
+  no_route false r declared e = absurd (cc)
+
+  not_routed : (client upstream : Proto) (listen : List ℕ) (targets : Option (List Target)) (words : List (List ℕ)) → route_to client upstream listen targets words ≡ Some (commands.Serve s d) → IsSmall s
+  not_routed client upstream listen None words e = absurd (cc)
+  not_routed client upstream listen (Some targets) words e = by_options (options_of no_options words) e
+    where
+      by_options : (found : Option Options) → routed (record { client = client; upstream = upstream; listen = listen; targets = targets }) found ≡ Some (commands.Serve s d) → IsSmall s
+      by_options None f = absurd (cc)
+      by_options (Some o) f =
+          by_test (IsSmall s) (is_for_one_upstream o) None _ (commands.Serve s d) (none_is (commands.Serve s d)) (no_route _ _ _) f
+
+  not_routed_at : (client upstream : Proto) (words : List (List ℕ)) → route_at client upstream words ≡ Some (commands.Serve s d) → IsSmall s
+  not_routed_at client upstream [] e = absurd (cc)
+  not_routed_at client upstream (listen ∷ []) e = absurd (cc)
+  not_routed_at client upstream (listen ∷ targets ∷ rest) e =
+      by_test (IsSmall s) (is_address listen) _ None (commands.Serve s d) (not_routed client upstream listen (targets_of targets) rest) (none_is (commands.Serve s d)) e
+
+  not_routed_between : (client upstream : Option Proto) (words : List (List ℕ)) → route_between client upstream words ≡ Some (commands.Serve s d) → IsSmall s
+  not_routed_between (Some client) (Some upstream) words e = not_routed_at client upstream words e
+  not_routed_between None upstream words e = absurd (cc)
+  not_routed_between (Some client) None words e = absurd (cc)
+
+  no_routing : (words : List (List ℕ)) → route_of words ≡ Some (commands.Serve s d) → IsSmall s
+  no_routing [] e = absurd (cc)
+  no_routing (client ∷ []) e = absurd (cc)
+  no_routing (client ∷ upstream ∷ rest) e = not_routed_between (proto_of client) (proto_of upstream) rest e
+
   not_drilled : (seed count : Option ℕ) → drill_as seed count ≡ Some (commands.Serve s d) → IsSmall s
   not_drilled (Some seed) (Some count) e = absurd (cc)
   not_drilled None count e = absurd (cc)
@@ -217,7 +261,8 @@ module _ (s : Serving) (d : Declared) where
       by_test (IsSmall s) (is name (codes "check")) _ _ it (not_checked rest)
       (by_test (IsSmall s) (is name (codes "convert")) _ _ it (no_conversion rest)
       (by_test (IsSmall s) (is name (codes "serve")) _ _ it (serve_small rest s d)
+      (by_test (IsSmall s) (is name (codes "route")) _ _ it (no_routing rest)
       (by_test (IsSmall s) (is name (codes "show")) _ _ it (no_showing rest)
       (by_test (IsSmall s) (is name (codes "conform")) _ _ it (no_conforming rest)
       (by_test (IsSmall s) (is name (codes "drill")) _ _ it (no_drill rest)
-      (by_test (IsSmall s) (is name (codes "help")) _ None it (no_help rest) (none_is it))))))) e
+      (by_test (IsSmall s) (is name (codes "help")) _ None it (no_help rest) (none_is it)))))))) e

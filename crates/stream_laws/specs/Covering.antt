@@ -1,9 +1,11 @@
 -- What a stream that is converted, shown or checked gives in the words of the grammars: what is written of each frame, and what is reported.
-use Rattle.std.specs.Prelude.{⊤, ◌≡◌, ℕ, ◌+◌, List, [], ◌∷◌, ◌++◌, length, Some}
+use Rattle.std.specs.Prelude.{⊤, ◌≡◌, ℕ, ◌+◌, ◌<◌, ◌^◌, List, [], ◌∷◌, ◌++◌, length, Some, IsSome}
 use Rattle.std.specs.Io.KnownBytes.{Appends, Consumes, IsAtEnd}
+use Rattle.gate_io.specs.declared.byte_streams.Source.{Ghosts as Source}
 use Rattle.thrift_value.specs.Trees.{Message}
 use Rattle.protocol_traits.specs.declared.fault.Fault.{Fault}
 use Rattle.protocol_traits.specs.declared.proto.Proto.{Proto}
+use Rattle.protocol_traits.specs.declared.proto.Proto.TheVariants as protocols
 use Rattle.translate_core.specs.declared.route.Route.TheVariants.{ByName}
 use Rattle.translate_core.specs.declared.verdict.Cause.{Cause}
 use Rattle.translate_core.specs.Texts.{cause_text, place_of, reason_text}
@@ -19,6 +21,7 @@ use Rattle.gate_run.specs.Progress.{IsStreamLine}
 use Rattle.gate_run.specs.Terms.{Terms}
 use Rattle.gate_run.specs.declared.status.Ending.{Ending}
 use Rattle.gate_run.specs.declared.status.Ending.TheVariants as endings
+use Rattle.gate_run.specs.declared.task.Doing.TheVariants.{Convert, Show, Conform}
 
 -- a frame goes from one protocol to the other by the method that its message's name means
 abbrev pub passage_of : Terms → Proto → Proto → Passage
@@ -80,3 +83,33 @@ GivesBy Each limit a b endings.WriteFault = ⊤
 GivesBy Each limit a b endings.Usage = ⊥
 GivesBy Each limit a b endings.FileFault = ⊥
 GivesBy Each limit a b endings.HubFault = ⊥
+
+-- ---- what the laws of streams speak of
+
+-- the limit of frames of JSON is below 2^31, as each limit is that words can name
+abbrev pub IsLow : Proto → ℕ → Type 0
+IsLow protocols.Json limit = limit < 2 ^ 31
+IsLow protocol limit = ⊤
+
+-- frames are converted between these protocols, shown, or checked
+abbrev pub Converts : Terms → Proto → Proto → Type 0
+Converts k from to = (k.doing ≡ Convert from to) × IsLow from k.limit
+
+abbrev pub Shows : Terms → Proto → Type 0
+Shows k from = (k.doing ≡ Show from) × IsLow from k.limit
+
+abbrev pub Conforms : Terms → Proto → Type 0
+Conforms k from = (k.doing ≡ Conform from) × IsLow from k.limit
+
+-- an input of this kind tells what is left of it
+abbrev pub TellsInput : {I : Type 0} → Source I → Streams → Type 0
+TellsInput {I} sources a = (input : I) × (a.left ≡ sources.left input) × IsSome a.left
+
+abbrev pub GivesConverted : Terms → Proto → Proto → Streams → Streams → Ending → Type 0
+GivesConverted k from to = GivesBy (IsConverted (passage_of k from to)) k.limit
+
+abbrev pub GivesListed : Terms → Proto → Streams → Streams → Ending → Type 0
+GivesListed k from = GivesBy (IsListed k (passage_of k from from)) k.limit
+
+abbrev pub GivesConformed : Terms → Proto → Streams → Streams → Ending → Type 0
+GivesConformed k from = GivesBy (IsConformed k (passage_of k from from)) k.limit

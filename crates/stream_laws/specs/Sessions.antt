@@ -1,7 +1,5 @@
 -- What a server has carried, from before its start.
-use Rattle.std.specs.Prelude.{◌≡◌, ◌⊎◌, ℕ, List, Option, true}
-use Rattle.type_tables.specs.declared.declared.ServiceId.{ServiceId}
-use Rattle.type_tables.specs.Declarations.{Declarations}
+use Rattle.std.specs.Prelude.{◌≡◌, ◌⊎◌, ℕ, List, None, Some, true}
 use Rattle.gate_hub.specs.Meaning.{Meaning}
 use Rattle.gate_hub.specs.Hubs.{NotStarted}
 use Rattle.gate_hub.specs.declared.hub.Served.{Served}
@@ -11,19 +9,19 @@ use Rattle.unframed_laws.specs.Wrapped.{SideIsTold}
 use Rattle.session_judge.specs.Setting.{Setting}
 use Rattle.proxy_server.specs.Serving.{Entry, Closing, KeepsFrom}
 use Rattle.proxy_server.specs.Steps.{LinesEnd, WritesLines, AnswersLines}
-use Rattle.gate_words.specs.declared.options.Declared.{Declared}
+use Rattle.gate_words.specs.Commands.{command}
+use Rattle.gate_words.specs.declared.command.Command.TheVariants.{Serve}
+use Rattle.gate_words.specs.declared.peers.Front.TheVariants.{Framed}
+use Rattle.gate_words.specs.declared.peers.Sides.{Sides}
 use Rattle.gate_words.specs.declared.serving.Serving.{Serving}
 use Rattle.gate_run.specs.Outcome.{Streams}
-use Rattle.gate_run.specs.Running.{Outside, StartsWith}
+use Rattle.gate_run.specs.Peers.{wrapping_by}
+use Rattle.gate_run.specs.Running.{StartsWith}
 use Rattle.gate_run.specs.Serving.{setting_by}
 use Rattle.gate_run.specs.Starting.{Halts}
-use Rattle.gate_run.specs.declared.status.Ending.{Ending}
+use Rattle.gate_run.specs.Undisturbed.{ServerRun, IsUntouched}
+use Rattle.gate_run.specs.declared.start.Start.{Start}
 use Rattle.session_laws.specs.Serving.{HasCourse}
-
--- the hub was not started, and no session was announced
-pub record IsUntouched (m : Meaning) : Type 0 where
-  pub unstarted : NotStarted m
-  pub none : (k : ℕ) → (m.session k).announced ≡ true → ⊥
 
 -- the hub didn't start: it tells what it told, and nothing was written
 pub record HasNotServed (told told' : Meaning → Type 0) (a b : Streams) : Type 0 where
@@ -41,12 +39,12 @@ pub record HasCarriedBy (told told' : Meaning → Type 0) (a b : Streams) (Sessi
   pub sessions : KeepsFrom told told' IsUntouched (λ m n. Sessions result held ended n)
 
 -- each session that was announced has a course that its line tells
-abbrev pub HasCarried : (Meaning → Type 0) → (Meaning → Type 0) → Serving → Declarations → Option ServiceId → Streams → Streams → Type 0
-HasCarried told told' s d service a b =
-    HasCarriedBy told told' a b (λ result held ended n. (k : ℕ) → (n.session k).announced ≡ true → HasCourse (setting_by s d service) s.limit s.calls result held ended n k)
+abbrev pub HasCarried : (Meaning → Type 0) → (Meaning → Type 0) → Serving → Start → Streams → Streams → Type 0
+HasCarried told told' s start a b =
+    HasCarriedBy told told' a b (λ result held ended n. (k : ℕ) → (n.session k).announced ≡ true → HasCourse (setting_by s start) s.limit s.calls result held ended n k)
 
-abbrev pub CarriesMessages : (Meaning → Type 0) → (Meaning → Type 0) → Serving → Declarations → Option ServiceId → Streams → Streams → Type 0
-CarriesMessages told told' s d service a b = HasCarried told told' s d service a b ⊎ HasNotServed told told' a b
+abbrev pub CarriesMessages : (Meaning → Type 0) → (Meaning → Type 0) → Serving → Start → Streams → Streams → Type 0
+CarriesMessages told told' s start a b = HasCarried told told' s start a b ⊎ HasNotServed told told' a b
 
 -- ---- where sides have no frames
 
@@ -58,29 +56,41 @@ pub record IsCarriedOver (w : Wrapping) (s : Setting) (limit max_calls : ℕ) (r
   pub course : HasCourse s limit max_calls result held ended outer k
 
 -- each session that was announced has a course over one of frames
-abbrev pub HasCarriedOver : Wrapping → (Meaning → Type 0) → (Meaning → Type 0) → Serving → Declarations → Option ServiceId → Streams → Streams → Type 0
-HasCarriedOver w told told' s d service a b =
+abbrev pub HasCarriedOver : Wrapping → (Meaning → Type 0) → (Meaning → Type 0) → Serving → Start → Streams → Streams → Type 0
+HasCarriedOver w told told' s start a b =
     HasCarriedBy told told' a b
-    (λ result held ended n. (outer : Meaning) × ((k : ℕ) → (n.session k).announced ≡ true → IsCarriedOver w (setting_by s d service) s.limit s.calls result held ended n outer k))
+    (λ result held ended n. (outer : Meaning) × ((k : ℕ) → (n.session k).announced ≡ true → IsCarriedOver w (setting_by s start) s.limit s.calls result held ended n outer k))
 
 -- the hub didn't start, and nothing was written
 pub record HasNotServedOver (told told' : Meaning → Type 0) (a b : Streams) : Type 0 where
   pub keeps : KeepsFrom told told' IsUntouched (λ m n. IsUntouched n)
   pub written : b.written ≡ a.written
 
-abbrev pub CarriesMessagesOver : Wrapping → (Meaning → Type 0) → (Meaning → Type 0) → Serving → Declarations → Option ServiceId → Streams → Streams → Type 0
-CarriesMessagesOver w told told' s d service a b = HasCarriedOver w told told' s d service a b ⊎ HasNotServedOver told told' a b
+abbrev pub CarriesMessagesOver : Wrapping → (Meaning → Type 0) → (Meaning → Type 0) → Serving → Start → Streams → Streams → Type 0
+CarriesMessagesOver w told told' s start a b = HasCarriedOver w told told' s start a b ⊎ HasNotServedOver told told' a b
 
 -- ---- from the command's words on
 
--- the command started from what these words declare, and carried messages from there; or it did not start, said why, and left the hub alone
-abbrev pub IsServed : {H : Type 0} → (H → Meaning → Type 0) → Serving → Declared → Outside H → Outside H → Ending → Type 0
-IsServed tells s words x y ending =
-    StartsWith x y words (λ d service. CarriesMessages (tells x.hub) (tells y.hub) s d service x.streams y.streams)
-    (λ stop. Halts stop x.streams y.streams ending × (y.hub ≡ x.hub))
+-- the words of a command ask for this server
+abbrev pub IsCommanded : {H : Type 0} → ServerRun H → Type 0
+IsCommanded x = (words : List (List ℕ)) × (command words ≡ Some (Serve x.serving x.declared))
+
+-- both sides have frames; or these have none
+abbrev pub IsOverFrames : Serving → Type 0
+IsOverFrames s = (s.front ≡ Framed) × (s.unframed ≡ None)
+
+abbrev pub IsUnframed : Sides → Serving → Type 0
+IsUnframed sides s = (s.front ≡ Framed) × (s.unframed ≡ Some sides)
+
+-- the command started from what its words declare, and carried messages from there; or it did not start, said why, and left the hub alone
+abbrev pub IsServedBy : {H : Type 0} → (Start → Type 0) → ServerRun H → Type 0
+IsServedBy Carries x =
+    StartsWith x.before x.behind x.declared Carries (λ stop. Halts stop x.before.streams x.behind.streams x.ending × (x.hub_behind ≡ x.hub))
+
+abbrev pub IsServed : {H : Type 0} → (H → Meaning → Type 0) → ServerRun H → Type 0
+IsServed tells x = IsServedBy (λ start. CarriesMessages (tells x.hub) (tells x.hub_behind) x.serving start x.before.streams x.behind.streams) x
 
 -- the same where sides have no frames
-abbrev pub IsServedOver : {H : Type 0} → Wrapping → (H → Meaning → Type 0) → Serving → Declared → Outside H → Outside H → Ending → Type 0
-IsServedOver w tells s words x y ending =
-    StartsWith x y words (λ d service. CarriesMessagesOver w (tells x.hub) (tells y.hub) s d service x.streams y.streams)
-    (λ stop. Halts stop x.streams y.streams ending × (y.hub ≡ x.hub))
+abbrev pub IsServedOver : {H : Type 0} → Sides → (H → Meaning → Type 0) → ServerRun H → Type 0
+IsServedOver sides tells x =
+    IsServedBy (λ start. CarriesMessagesOver (wrapping_by sides x.serving) (tells x.hub) (tells x.hub_behind) x.serving start x.before.streams x.behind.streams) x

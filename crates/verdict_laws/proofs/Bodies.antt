@@ -16,7 +16,7 @@ use Rattle.translate_core.specs.declared.verdict.Cause.TheVariants.{Grammar, Bar
 use Rattle.translate_core.specs.declared.verdict.HeadInfo.{HeadInfo}
 use Rattle.translate_core.specs.declared.verdict.Verdict.TheVariants.{Passed, Refused}
 use Rattle.translate_core.specs.Positions.{typed}
-use Rattle.translate_core.specs.Body.{Going, Source, Target, going, moved, whole, first_cause, tried}
+use Rattle.translate_core.specs.Body.{Going, Source, TargetRules, going, moved, whole, first_cause, tried}
 use Rattle.translate_core.specs.Judged.{judge, judged, head_cause}
 use Rattle.translate_core.specs.Answers.{TakesAll, marked, spelled}
 use Rattle.translate_core.proofs.Whole.{whole_step, whole_fault, whole_end}
@@ -24,7 +24,7 @@ use Rattle.translate_core.proofs.Judging.{judge_ok}
 use Rattle.verdict_laws.specs.Following.{behind, Follows}
 
 -- the writer behind these items
-abbrev pub writers : {T : Type 0} → Target T → T → List (Item × Mark) → T
+abbrev pub writers : {T : Type 0} → TargetRules T → T → List (Item × Mark) → T
 writers target w [] = w
 writers target w (x ∷ xs) = writers target (target.after w x.0 x.1) xs
 
@@ -34,7 +34,7 @@ pub record IsNested {S : Type 0} (source : Source S) (level : S → ℕ) : Type 
   pub open_level : (s : S) (hint : Hint) → IfOk (source.reads s hint) (λ x. 0 < level s)
   pub nests : (s : S) (hint : Hint) → IfOk (source.reads s hint) (λ x. level x.1 ≡ depth_after x.0 (level s))
 
-module _ {S T : Type 0} (source : Source S) (target : Target T) (level : S → ℕ) (nested : IsNested source level) where
+module _ {S T : Type 0} (source : Source S) (target : TargetRules T) (level : S → ℕ) (nested : IsNested source level) where
   is_open : (s next : S) (p : Position) (item : Item) → source.reads s (hint_of p) ≡ Ok (item, next) → 0 < level s
   is_open s next p item e = subst (λ r. IfOk r (λ x. 0 < level s)) e (nested.open_level s (hint_of p))
 

@@ -16,7 +16,7 @@ use Rattle.translate_core.specs.declared.route.Route.{Route}
 use Rattle.translate_core.specs.declared.verdict.Verdict.TheVariants.{Passed}
 use Rattle.translate_core.specs.Positions.{typed}
 use Rattle.translate_core.specs.Routes.{start_of, info_of}
-use Rattle.translate_core.specs.Body.{Target}
+use Rattle.translate_core.specs.Body.{TargetRules}
 use Rattle.translate_core.specs.Judged.{judge, judged}
 use Rattle.translate_core.specs.Answers.{TakesAll, marked}
 use Rattle.translate_core.proofs.Judging.{judge_err}
@@ -47,7 +47,6 @@ use Rattle.verdict_laws.proofs.Barred.{FirstBarred, AllTaken, StopsAt, first_bar
 use Rattle.verdict_laws.proofs.Readings.{IsReadVerdict}
 use Rattle.verdict_laws.proofs.Readings.IsReadVerdict.{ReadPasses, ReadBarred, ReadFaulty, ReadUnread}
 use Rattle.verdict_laws.proofs.Bodies.{IsNested, follows_apart, judged_name, judged_item, judged_whole, judged_faulty, judged_trailing}
-use Rattle.verdict_laws.proofs.Firm.{AreFirm}
 use Rattle.verdict_laws.proofs.CompactFirm.{members_firm}
 use Rattle.compact_laws.proofs.Either.{read_or_refused}
 use Rattle.compact_laws.proofs.Sound.{read_spelled}
@@ -99,19 +98,18 @@ end_closed s last e = let z = ended (length s.nest == 0) _ _ (tt, last) e in gri
 pub body_level : (frame : List ℕ) (header : Header) (first : State) → reads_head (begun frame) ≡ Ok (header, first) → length first.nest ≡ 1
 body_level frame header first e = (subst (λ r. IfOk r (λ x. (head_weight (length x.0.name) + ahead x.1 ≤ ahead (begun frame)) × (length x.1.nest ≡ 1))) e (reads_head_pays (begun frame))).1
 
-module _ (d : Declarations) (route : Route) (to : Proto) (frame : List ℕ) {T : Type 0} (target : Target T)
-    (free : (name : List ℕ) → target.name_bar name ≡ None)
-    (takes : (items : List Item) (p : Position) → AreFirm items → TakesAll target.bar (marked p items)) where
+module _ (d : Declarations) (route : Route) (to : Proto) (frame : List ℕ) {T : Type 0} (target : TargetRules T) where
   abbrev verdict : Judged
   verdict = judge compact_source typed (start_of d route) (info_of d route) target frame
 
-  -- a frame that spells a message passes with its plain spelling
-  pub compact_passes : (m : Message) → CompactSpells m frame → depth_of_members m.body < 256 → verdict ≡ judged (Passed (info_of d route (header_of_message m))) (plain_of target d route m)
-  compact_passes m spells deep =
+  -- a frame that spells a message passes with its plain spelling, where the target holds it
+  pub compact_passes : (m : Message) → CompactSpells m frame → depth_of_members m.body < 256 → target.name_bar m.name ≡ None
+      → TakesAll target.bar (marked (start_of d route (header_of_message m)) (items_of_members m.body)) → verdict ≡ judged (Passed (info_of d route (header_of_message m))) (plain_of target d route m)
+  compact_passes m spells deep free taken =
       let r = spelled_read m frame spells deep in
       let p = start_of d route (header_of_message m) in
       judged_whole compact_source target levels nested (start_of d route) (info_of d route) frame (header_of_message m) r.0 r.1 (items_of_members m.body) r.2 (body_level frame (header_of_message m) r.0 r.2)
-      (follows (items_of_members m.body) r.0 r.1 p r.3) (free m.name) (takes (items_of_members m.body) p (members_firm (pos 0) m.body spells.1 spells.3)) (end_closed r.1 r.1 r.4) r.4
+      (follows (items_of_members m.body) r.0 r.1 p r.3) free taken (end_closed r.1 r.1 r.4) r.4
 
   -- and that is so long at most
   pub compact_short : ((w : T) (item : Item) (mark : Mark) → IsSized item → length (target.plain w item mark) ≤ weight item) → ((h : Header) → FitsSigned w32 h.seq → length (target.plain_head h) ≤ head_weight (length h.name))
@@ -163,7 +161,7 @@ item_place_is frame are m first mid next before item headed body step =
     let long = ap length (x.laid ∙ ap (λ l. x.header ++ l) w.laid) ∙ (length-append x.header (w.front ++ w.left) ∙ ap (λ n. length x.header + n) (length-append w.front w.left)) in
     (x.header, w.front, w.left, w.inner, x.laid ∙ ap (λ l. x.header ++ l) w.laid, x.spells m.body, w.leads, omega (arith, value_is mid next item step, a.place, size, long))
 
-module _ (d : Declarations) (route : Route) (to : Proto) (frame : List ℕ) (are : AreBytes frame) {T : Type 0} (target : Target T)
+module _ (d : Declarations) (route : Route) (to : Proto) (frame : List ℕ) (are : AreBytes frame) {T : Type 0} (target : TargetRules T)
     (name_is : (name : List ℕ) → target.name_bar name ≡ name_bar_in to name) (bar_is : (item : Item) (mark : Mark) → target.bar item mark ≡ bar_in to item mark)
     (plain : (m : Message) → IsPlain to d route m (plain_of target d route m)) where
   abbrev verdict_on : Judged

@@ -1,5 +1,5 @@
 -- The verdict on a frame in the words of the grammar alone: by what it spells, by the header at its front, and by the fault that stands in it.
-use Rattle.std.proofs.Common.{◌≡◌, ℕ, List, ◌++◌, length, drop, Ok, Err, ap, ◌∙◌, sym}
+use Rattle.std.proofs.Common.{◌≡◌, ℕ, ◌<◌, ◌^◌, List, ◌++◌, length, drop, Ok, Err, ap, ◌∙◌, sym}
 use Rattle.thrift_value.specs.Trees.{Message, no_members}
 use Rattle.protocol_traits.specs.declared.fault.Fault.{Fault}
 use Rattle.protocol_traits.specs.declared.proto.Proto.{Proto}
@@ -10,7 +10,7 @@ use Rattle.translate_core.specs.declared.route.Route.{Route}
 use Rattle.translate_core.specs.Body.{Source}
 use Rattle.translate_core.specs.Judged.{Judged}
 use Rattle.protocol_pairs.specs.Pairs as pairs
-use Rattle.protocol_pairs.specs.Pairs.{binary_source, compact_source}
+use Rattle.protocol_pairs.specs.Pairs.{binary_source, compact_source, json_source}
 use Rattle.binary_protocol.specs.Grammar.{BinarySpells}
 use Rattle.binary_protocol.specs.Heads.{head_at}
 use Rattle.binary_protocol.specs.Reading as binary_reading
@@ -30,13 +30,19 @@ use Rattle.compact_laws.proofs.Faults as compact_proofs
 use Rattle.compact_laws.proofs.Heading as compact_heading
 use Rattle.compact_laws.proofs.Headed as compact_headed
 use Rattle.compact_laws.proofs.Spelled as compact_spelled
-use Rattle.verdict_laws.specs.Bars.{Spot, BinaryPlace, CompactPlace}
-use Rattle.verdict_laws.specs.Verdicts.{BinaryHead, CompactHead, IsVerdict}
+use Rattle.json_protocol.specs.Reading as json_reading
+use Rattle.json_protocol.specs.Head as json_head
+use Rattle.json_laws.specs.Fronts.{SpellsHeader as JsonHead}
+use Rattle.json_laws.proofs.Fronting.{header_stands, header_again}
+use Rattle.verdict_laws.specs.Bars.{Spot, BinaryPlace, CompactPlace, JsonPlace}
+use Rattle.verdict_laws.specs.Spellings.{SpellsBy}
+use Rattle.verdict_laws.specs.Verdicts.{BinaryHead, CompactHead, JsonFault, IsVerdict}
 use Rattle.verdict_laws.specs.Verdicts.IsVerdict.{Passes, IsBarred, IsFaulty, IsUnread}
 use Rattle.verdict_laws.proofs.Readings.{IsReadVerdict}
 use Rattle.verdict_laws.proofs.Readings.IsReadVerdict.{ReadPasses, ReadBarred, ReadFaulty, ReadUnread}
 use Rattle.verdict_laws.proofs.Binary.{binary_judged}
 use Rattle.verdict_laws.proofs.Compact.{compact_judged}
+use Rattle.verdict_laws.proofs.Json.{json_judged}
 
 -- some front of the frame is this header
 abbrev pub Fronted : (Header → List ℕ → Type 0) → Header → List ℕ → Type 0
@@ -78,6 +84,22 @@ compact_none frame header f e (front, rest, laid, spells) =
     let read = compact_spelled.head_is frame m.name (m.mtype, m.seq) h.at h.long (ap front_at laid ∙ h.front) (ap (λ l. string_at (drop h.at l)) laid ∙ h.name) in
     let wrong = sym read ∙ e in
     absurd (cc)
+
+-- ---- JSON
+
+pub json_fronted : (frame : List ℕ) (header : Header) (first : json_reading.State) → json_head.reads_head (json_reading.begun frame) ≡ Ok (header, first) → Fronted JsonHead header frame
+json_fronted frame header first e = header_stands frame header first e
+
+pub json_none : (frame : List ℕ) (header : Header) (f : Fault) → json_head.reads_head (json_reading.begun frame) ≡ Err f → Fronted JsonHead header frame → ⊥
+json_none frame header f e (front, rest, laid, spells) =
+    let again = header_again frame front rest header laid spells in
+    let wrong = sym again.1 ∙ e in
+    absurd (cc)
+
+pub json_told : (d : Declarations) (route : Route) (to : Proto) (frame : List ℕ) → length frame < 2 ^ 31
+    → IsVerdict JsonHead (SpellsBy d route protocols.Json) (JsonFault d route) (JsonPlace d route) d route to frame (pairs.judged d route protocols.Json to frame)
+json_told d route to frame small =
+    told json_source JsonHead (SpellsBy d route protocols.Json) (JsonFault d route) (JsonFault d route) (JsonPlace d route) d route to frame _ (json_fronted frame) (json_none frame) (λ f refused. refused) (json_judged d route to frame small)
 
 module _ (d : Declarations) (route : Route) (to : Proto) (frame : List ℕ) (are : AreBytes frame) where
   pub binary_told : IsVerdict BinaryHead BinarySpells binary_faults.FaultAt BinaryPlace d route to frame (pairs.judged d route protocols.Binary to frame)

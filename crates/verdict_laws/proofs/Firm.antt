@@ -11,7 +11,7 @@ use Rattle.binary_protocol.specs.Grammar.{SpellsValue, SpellsMembers, SpellsElem
 use Rattle.binary_protocol.specs.Plain as binary
 use Rattle.compact_protocol.specs.Plain as compact
 
-abbrev IsFirm : Item → Type 0
+abbrev pub IsFirm : Item → Type 0
 IsFirm (number_text bytes) = ⊥
 IsFirm (unknown_text bytes) = ⊥
 IsFirm item = ⊤

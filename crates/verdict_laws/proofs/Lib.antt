@@ -8,5 +8,8 @@ pub mod Barred
 pub mod Readings
 pub mod Binary
 pub mod Compact
+pub mod Json
 pub mod Faulted
+pub mod Strings
+pub mod Held
 pub mod Round

@@ -9,7 +9,7 @@ use Rattle.protocol_traits.specs.Heads.{Header}
 use Rattle.protocol_traits.specs.Room.{weight, head_weight, IsSized}
 use Rattle.protocol_traits.specs.declared.proto.Mark.{Mark}
 use Rattle.type_walk.specs.Positions.{Position, hint_of, mark_of, after}
-use Rattle.translate_core.specs.Body.{Source, Target}
+use Rattle.translate_core.specs.Body.{Source, TargetRules}
 use Rattle.translate_core.specs.Answers.{marked, spelled}
 use Rattle.verdict_laws.specs.Following.{Follows}
 use Rattle.verdict_laws.proofs.Bodies.{IsNested}
@@ -83,7 +83,7 @@ module _ {S : Type 0} (source : Source S) (level : S → ℕ) (nested : IsNested
       let rest = paid items next last (after p item) more in
       omega (arith, one, rest)
 
-module _ {T : Type 0} (target : Target T) (light : (w : T) (item : Item) (mark : Mark) → IsSized item → length (target.plain w item mark) ≤ weight item) where
+module _ {T : Type 0} (target : TargetRules T) (light : (w : T) (item : Item) (mark : Mark) → IsSized item → length (target.plain w item mark) ≤ weight item) where
   -- what is written weighs no more than its items
   written : (w : T) (p : Position) (items : List Item) → AreSized items → length (spelled target.plain target.after w (marked p items)) ≤ total items
   written w p [] sized = omega arith

@@ -24,6 +24,7 @@ use Rattle.json_protocol.specs.Writing as json
 use Rattle.binary_laws.specs.Called.{width_of_all}
 use Rattle.binary_laws.specs.Reads.{header_of_message}
 use Rattle.compact_laws.specs.Fronts.{Leads}
+use Rattle.json_laws.specs.Fronts.{NameStands, ValueStands}
 use Rattle.verdict_laws.specs.Following.{behind}
 
 -- the name of a message, or the item of its body that stands behind these
@@ -74,3 +75,9 @@ CompactPlace m frame the_name place =
 CompactPlace m frame (behind_items before) place =
     (header : List ℕ) × (front : List ℕ) × (left : List ℕ) × (levels : List Slot) × (frame ≡ header ++ (front ++ left)) × SpellsHeader m header
     × Leads (slots.Fields (pos 0) ∷ []) before front levels × (place ≡ length header + length front)
+
+-- In one of JSON a name stands behind the bracket, the version and a comma. An item of which something is barred is a value, or begins one: it
+-- stands behind the header, the items before it, and the marks that lead to it.
+abbrev pub JsonPlace : Declarations → Route → Message → List ℕ → Spot → ℕ → Type 0
+JsonPlace d route m frame the_name place = NameStands m.name frame place
+JsonPlace d route m frame (behind_items before) place = ValueStands (body_start d route m) (header_of_message m) before frame place

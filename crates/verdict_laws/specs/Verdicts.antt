@@ -20,8 +20,10 @@ use Rattle.compact_protocol.specs.Grammar.{SpellsHeader, CompactSpells}
 use Rattle.binary_laws.specs.Reads.{header_of_message}
 use Rattle.binary_laws.specs.Faults as binary_faults
 use Rattle.compact_laws.specs.Faults as compact_faults
-use Rattle.verdict_laws.specs.Bars.{Spot, HoldsAll, IsFirstBar, BinaryPlace, CompactPlace}
-use Rattle.verdict_laws.specs.Spellings.{plain_of}
+use Rattle.json_laws.specs.Fronts.{SpellsHeader as JsonHead}
+use Rattle.json_laws.specs.Stated.{Known, IsRefused}
+use Rattle.verdict_laws.specs.Bars.{Spot, HoldsAll, IsFirstBar, BinaryPlace, CompactPlace, JsonPlace}
+use Rattle.verdict_laws.specs.Spellings.{plain_of, known_by, SpellsBy}
 
 -- the plain spelling in a protocol, of a message that it holds
 abbrev pub IsPlain : Proto → Declarations → Route → Message → List ℕ → Type 0
@@ -61,3 +63,16 @@ IsBinaryVerdict d route to frame =
 abbrev pub IsCompactVerdict : Declarations → Route → Proto → List ℕ → Type 0
 IsCompactVerdict d route to frame =
     IsVerdict CompactHead CompactSpells compact_faults.FaultAt CompactPlace d route to frame (pairs.judged d route protocols.Compact to frame)
+
+-- what is known of the body of a frame of JSON, by the header at its front, if one stands there
+abbrev pub IsKnownOf : Declarations → Route → List ℕ → Known → Type 0
+IsKnownOf d route frame k = (header : Header) (front rest : List ℕ) → frame ≡ front ++ rest → JsonHead header front → k ≡ known_by d route header
+
+-- the fault that stands in a frame of JSON: the one with which its reader refuses it, where this is known of its body
+abbrev pub JsonFault : Declarations → Route → List ℕ → Fault → Type 0
+JsonFault d route frame f = (k : Known) × IsKnownOf d route frame k × IsRefused k frame f
+
+-- the verdict on a frame of JSON, for any protocol
+abbrev pub IsJsonVerdict : Declarations → Route → Proto → List ℕ → Type 0
+IsJsonVerdict d route to frame =
+    IsVerdict JsonHead (SpellsBy d route protocols.Json) (JsonFault d route) (JsonPlace d route) d route to frame (pairs.judged d route protocols.Json to frame)

@@ -6,5 +6,5 @@ returns c x =
     let law = c.frame_stands_at_the_front.ensures in
     let s = x.setting in
     let is = x.covered in
-    let all = both s x.limit is.client is.upstream law is.small c.a_stream_is_split.ensures x.history x.bytes.client x.bytes.upstream in
-    carried s x.limit is.client is.upstream law is.small x.max_calls x.history x.standing all x.fits
+    let all = both s x.limit law is c.a_stream_is_split.ensures x.history x.bytes.client x.bytes.upstream in
+    carried s x.limit law is x.max_calls x.history x.standing all x.fits
