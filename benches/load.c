@@ -2,7 +2,9 @@
  *
  *     load PROTOCOL PORT[,PORT..] CONNECTIONS OPEN CALLS [IDLE]
  *
- * PROTOCOL is `binary` or `compact`, framed, or `unframed`: Binary whose messages have no lengths. Each of the CONNECTIONS keeps OPEN calls of about 60 bytes open until CALLS were answered
+ * PROTOCOL is `binary` or `compact`, framed; `multiplexed`: framed Binary whose methods' names have the service `S` before them; or Binary without
+ * lengths: `unframed`, one message behind another, or `http`, each the body of a POST with the fields that Apache Thrift's Python library sends.
+ * Each of the CONNECTIONS keeps OPEN calls of about 60 bytes open until CALLS were answered
  * in all; IDLE more connections are opened before and send nothing. Of several ports each gets a connection in turn. The clock
  * starts once each of the CONNECTIONS had one answer, so that opening them isn't measured. Prints the calls a second, the bytes
  * of answers a second, and the median, the 99th percentile and the greatest time from a call to its answer in microseconds. */
@@ -21,6 +23,7 @@
 #define ROOM (1 << 20)
 #define MOST_OPEN 4096
 #define MOST_PORTS 16
+#define MOST_CALL 512
 
 struct connection {
     int fd;
@@ -30,7 +33,7 @@ struct connection {
     size_t first, open;
 };
 
-static int compact, unframed, ports[MOST_PORTS], port_count;
+static int compact, unframed, http, multiplexed, ports[MOST_PORTS], port_count;
 static long left_to_begin, answered, total;
 static uint64_t answer_bytes;
 static uint32_t *times;
@@ -47,14 +50,16 @@ static size_t binary_call(unsigned char *to, uint32_t seq)
 {
     static const unsigned char body[] = {8, 0, 1, 0, 0, 1, 0, 10, 0, 2, 0, 0, 0, 1, 0, 0, 0, 0, 15, 0, 3, 8, 0, 0, 0, 4,
         0, 0, 0, 1, 0, 0, 0, 2, 0, 0, 0, 3, 0, 0, 0, 4, 0};
-    static const unsigned char head[] = {0x80, 1, 0, 1, 0, 0, 0, 3, 'a', 'd', 'd'};
-    size_t length = sizeof head + 4 + sizeof body;
+    static const unsigned char alone[] = {0x80, 1, 0, 1, 0, 0, 0, 3, 'a', 'd', 'd'};
+    static const unsigned char of_service[] = {0x80, 1, 0, 1, 0, 0, 0, 5, 'S', ':', 'a', 'd', 'd'};
+    const unsigned char *head = multiplexed ? of_service : alone;
+    size_t head_length = multiplexed ? sizeof of_service : sizeof alone, length = head_length + 4 + sizeof body;
     to[0] = to[1] = to[2] = 0;
     to[3] = (unsigned char)length;
-    memcpy(to + 4, head, sizeof head);
+    memcpy(to + 4, head, head_length);
     for (int i = 0; i < 4; i++)
-        to[4 + sizeof head + i] = (unsigned char)(seq >> (24 - 8 * i));
-    memcpy(to + 8 + sizeof head, body, sizeof body);
+        to[4 + head_length + i] = (unsigned char)(seq >> (24 - 8 * i));
+    memcpy(to + 8 + head_length, body, sizeof body);
     return 4 + length;
 }
 
@@ -77,13 +82,25 @@ static size_t compact_call(unsigned char *to, uint32_t seq)
     return n;
 }
 
+/* A POST with this body. */
+static size_t post(unsigned char *to, const unsigned char *body, size_t size)
+{
+    int head = sprintf((char *)to, "POST /rpc HTTP/1.1\r\nAccept-Encoding: identity\r\nHost: 127.0.0.1\r\nContent-Type: application/x-thrift\r\n"
+        "Content-Length: %zu\r\nUser-Agent: Python/THttpClient (load)\r\n\r\n", size);
+    memcpy(to + head, body, size);
+    return (size_t)head + size;
+}
+
 static size_t put_call(unsigned char *to, uint32_t seq)
 {
-    size_t length = compact ? compact_call(to, seq) : binary_call(to, seq);
-    if (!unframed)
-        return length;
-    memmove(to, to + 4, length - 4);
-    return length - 4;
+    unsigned char frame[MOST_CALL];
+    size_t length = compact ? compact_call(frame, seq) : binary_call(frame, seq);
+    if (http)
+        return post(to, frame + 4, length - 4);
+    if (unframed)
+        length -= 4;
+    memcpy(to, unframed ? frame + 4 : frame, length);
+    return length;
 }
 
 static size_t number(const unsigned char *at)
@@ -91,10 +108,29 @@ static size_t number(const unsigned char *at)
     return (size_t)at[0] << 24 | at[1] << 16 | at[2] << 8 | at[3];
 }
 
+/* The length of the response that stands there, or 0 where it isn't whole. */
+static size_t response_length(const unsigned char *at, size_t held)
+{
+    static const char start[] = "HTTP/1.1 200 OK\r\nContent-Type: application/x-thrift\r\nContent-Length: ";
+    size_t n = sizeof start - 1, content = 0;
+    if (held < n)
+        return 0;
+    if (memcmp(at, start, n)) {
+        fprintf(stderr, "load: another response\n");
+        exit(1);
+    }
+    while (n < held && at[n] != '\r')
+        content = content * 10 + (at[n++] - '0');
+    n += 4 + content;
+    return n <= held ? n : 0;
+}
+
 /* The length of the answer that stands there, or 0 where it isn't whole. One without a length before it has a header of 15
  * bytes, perhaps field 0, a string, and a stop. */
 static size_t answer_length(const unsigned char *at, size_t held)
 {
+    if (http)
+        return response_length(at, held);
     size_t length = 4;
     if (unframed)
         length = 16;
@@ -112,7 +148,7 @@ static size_t answer_length(const unsigned char *at, size_t held)
 static void begin_calls(struct connection *c, size_t open)
 {
     static uint32_t seq;
-    while (c->open < open && left_to_begin > 0 && c->due + 128 < ROOM) {
+    while (c->open < open && left_to_begin > 0 && c->due + MOST_CALL < ROOM) {
         c->begun[(c->first + c->open) % MOST_OPEN] = now();
         c->due += put_call(c->out + c->due, ++seq);
         c->open++;
@@ -210,6 +246,8 @@ int main(int count, char **words)
         return 2;
     compact = !strcmp(words[1], "compact");
     unframed = !strcmp(words[1], "unframed");
+    http = !strcmp(words[1], "http");
+    multiplexed = !strcmp(words[1], "multiplexed");
     read_ports(words[2]);
     int connections = atoi(words[3]);
     size_t open = (size_t)atol(words[4]);

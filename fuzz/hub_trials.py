@@ -21,206 +21,22 @@ import resource
 import shutil
 import socket
 import struct
-import subprocess
 import sys
 import tempfile
 import threading
 import time
-from typing import Callable, Dict, Iterator, List, Optional
+from typing import Callable, Dict, Iterator
 
-HERE = os.path.dirname(os.path.abspath(__file__))
-PROGRAM = os.environ.get("THRIFT_GATE", os.path.join(HERE, "../crates/thrift_gate/out/thrift_gate"))
-COMMAND = PROGRAM + " serve binary binary {listen} {target} --accept {accept} --sessions {sessions} --limit 1024"
-HOST = "127.0.0.1"
+import trials
+from trials import COMMAND, HOST, Failed, Gateway, answers, ask, call, calls, free_port, read_bytes, read_to_end, timed, want
+
 MOST_FILES = 8192
-
-# The most bytes that a session holds at --limit 1024 and 1,024 open calls, and the buffers of its sockets where
-# there may be up to 64 sessions, and where there may be more.
-SESSION = 52 * 1024 + 16 * 1024 + 4096
-FEW_SESSIONS = 64
-SOCKETS_OF_FEW, SOCKETS_OF_MANY = 1_048_576, 262_144
-REST = 16 << 20
-
-
-class Failed(Exception):
-    """What a trial saw in place of what it wanted."""
-
-
-def want(is_so: bool, text: str) -> None:
-    if not is_so:
-        raise Failed(text)
-
-
-def call(number: int, size: int = 16) -> bytes:
-    """A framed call in Binary, `t`, whose one argument is a string of so many bytes."""
-    body = b"\x0b\x00\x01" + struct.pack(">I", size) + b"a" * size + b"\x00"
-    message = b"\x80\x01\x00\x01" + struct.pack(">I", 1) + b"t" + struct.pack(">I", number) + body
-    return struct.pack(">I", len(message)) + message
-
-
-def answers(calls: bytes) -> bytes:
-    """What the upstream sends for these calls: the same messages as replies."""
-    return calls.replace(b"\x80\x01\x00\x01", b"\x80\x01\x00\x02")
-
-
-def calls(first: int, count: int, size: int = 16) -> bytes:
-    return b"".join(call(number, size) for number in range(first, first + count))
-
-
-class Upstream:
-    """A server on threads of its own."""
-
-    def __init__(self, serve: Callable[[socket.socket], None]) -> None:
-        self.listener = socket.create_server((HOST, 0), backlog=2048)
-        self.address = "%s:%d" % self.listener.getsockname()
-        self.serve = serve
-        threading.Thread(target=self.accept, daemon=True).start()
-
-    def accept(self) -> None:
-        while True:
-            with contextlib.suppress(OSError):
-                stream, _ = self.listener.accept()
-                threading.Thread(target=self.run, args=(stream,), daemon=True).start()
-
-    def run(self, stream: socket.socket) -> None:
-        with contextlib.suppress(OSError), stream:
-            self.serve(stream)
-
-
-def answering(stream: socket.socket) -> None:
-    """Answers each call, and ends when the gateway does."""
-    held = b""
-    while True:
-        piece = stream.recv(65536)
-        if not piece:
-            return
-        held += piece
-        end = 0
-        while len(held) - end >= 4 and len(held) - end - 4 >= int.from_bytes(held[end:end + 4], "big"):
-            end += 4 + int.from_bytes(held[end:end + 4], "big")
-        stream.sendall(answers(held[:end]))
-        held = held[end:]
-
-
-def free_port() -> int:
-    with socket.create_server((HOST, 0)) as listener:
-        return listener.getsockname()[1]
-
-
-class Gateway:
-    """A gateway that runs. Its lines can be read once it has ended."""
-
-    def __init__(self, target: str, accept: int = 0, sessions: int = 32, files: Optional[int] = None,
-                 before: Optional[List[str]] = None, is_closed: bool = False) -> None:
-        self.port = free_port()
-        sockets = SOCKETS_OF_FEW if sessions <= FEW_SESSIONS else SOCKETS_OF_MANY
-        self.bound = sessions * SESSION + (sessions + 1) * sockets + REST
-        self.is_traced = before is not None
-        self.output = tempfile.TemporaryFile("w+")
-        listen = "%s:%d" % (HOST, self.port)
-        words = options.command.format(listen=listen, target=target, accept=accept, sessions=sessions).split()
-
-        def limit() -> None:
-            if files is not None:
-                resource.setrlimit(resource.RLIMIT_NOFILE, (files, files))
-            if is_closed:
-                os.closerange(0, 3)
-
-        self.process = subprocess.Popen((before or []) + words, stdout=self.output, preexec_fn=limit)
-        self.wait_for_port()
-
-    def wait_for_port(self) -> None:
-        """Waits until the gateway listens, without a connection that would count as one."""
-        wanted = "%04X" % self.port
-        for _ in range(500):
-            with open("/proc/net/tcp", encoding="ascii") as table:
-                if any(line.split()[1].endswith(":" + wanted) and line.split()[3] == "0A" for line in list(table)[1:]):
-                    return
-            time.sleep(0.02)
-        raise Failed("the gateway doesn't listen")
-
-    def connect(self, patience: float = 20) -> socket.socket:
-        stream = socket.create_connection((HOST, self.port), timeout=patience)
-        stream.setsockopt(socket.IPPROTO_TCP, socket.TCP_NODELAY, 1)
-        return stream
-
-    def seconds(self) -> float:
-        """The processor time that it used."""
-        with open("/proc/%d/stat" % self.process.pid, encoding="ascii") as stat:
-            fields = stat.read().rpartition(")")[2].split()
-        return (int(fields[11]) + int(fields[12])) / os.sysconf("SC_CLK_TCK")
-
-    def runs(self) -> bool:
-        return self.process.poll() is None
-
-    def peak(self) -> int:
-        """The greatest resident memory so far, in bytes: 0 once it has ended."""
-        with contextlib.suppress(OSError), open("/proc/%d/status" % self.process.pid, encoding="ascii") as status:
-            found = re.search(r"VmHWM:\s+(\d+)", status.read())
-            return int(found.group(1)) * 1024 if found else 0
-        return 0
-
-    def wait_for_line(self, pattern: str, seconds: float = 10) -> str:
-        """Waits for a session's line of this form."""
-        end = time.time() + seconds
-        while time.time() < end:
-            for line in self.lines():
-                if re.fullmatch(pattern, line):
-                    return line
-            time.sleep(0.02)
-        raise Failed("no line %s in %s" % (pattern, self.lines()))
-
-    def ended(self) -> List[str]:
-        """The lines of a gateway that ends by itself."""
-        want(self.process.wait(20) == 0, "its status is %s" % self.process.returncode)
-        return self.lines()
-
-    def lines(self) -> List[str]:
-        self.output.seek(0)
-        return self.output.read().splitlines()
-
-    def stop(self) -> None:
-        if self.runs():
-            self.process.kill()
-        self.process.wait()
 
 
 @contextlib.contextmanager
-def gateway(serve: Callable[[socket.socket], None] = answering, target: Optional[str] = None, **kept) -> Iterator[Gateway]:
-    running = Gateway(target or Upstream(serve).address, **kept)
-    try:
-        yield running
-        peak = 0 if running.is_traced else running.peak()
-        want(peak <= running.bound, "%d bytes of memory, more than %d" % (peak, running.bound))
-    finally:
-        running.stop()
-
-
-def read_bytes(stream: socket.socket, count: int) -> bytes:
-    got = bytearray()
-    while len(got) < count:
-        piece = stream.recv(min(65536, count - len(got)))
-        if not piece:
-            break
-        got += piece
-    return bytes(got)
-
-
-def read_to_end(stream: socket.socket) -> bytes:
-    got = bytearray()
-    while True:
-        piece = stream.recv(65536)
-        if not piece:
-            return bytes(got)
-        got += piece
-
-
-def ask(stream: socket.socket, sent: bytes) -> None:
-    """Sends calls and reads their answers."""
-    sender = threading.Thread(target=stream.sendall, args=(sent,), daemon=True)
-    sender.start()
-    want(read_bytes(stream, len(sent)) == answers(sent), "other answers")
-    sender.join()
+def gateway(*serve: Callable[[socket.socket], None], **kept) -> Iterator[Gateway]:
+    with trials.gateway(*serve, command=options.command, **kept) as gate:
+        yield gate
 
 
 def come_in(gate: Gateway) -> None:
@@ -592,12 +408,6 @@ def system_calls() -> str:
         counts.get("recvfrom", 0), counts.get("sendto", 0), counts.get("epoll_wait", 0))
 
 
-def timed(work: Callable[[], None]) -> float:
-    start = time.time()
-    work()
-    return time.time() - start
-
-
 TRIALS: Dict[str, Callable[[], str]] = {trial.__name__: trial for trial in (
     half_close, idle_connections, resets, stop_inside, random_bytes, never_reads, byte_a_second, million_calls, slow_reader,
     refused_upstream, without_pause, few_descriptors, no_connection_left, too_many, end_behind_all, stops,
@@ -607,14 +417,7 @@ TRIALS: Dict[str, Callable[[], str]] = {trial.__name__: trial for trial in (
 def main() -> int:
     most = resource.getrlimit(resource.RLIMIT_NOFILE)[1]
     resource.setrlimit(resource.RLIMIT_NOFILE, (min(MOST_FILES, most), most))
-    faults = 0
-    for name in options.trials or TRIALS:
-        try:
-            print("ok     %s: %s" % (name, TRIALS[name]()), flush=True)
-        except (Failed, OSError, subprocess.TimeoutExpired) as fault:
-            faults += 1
-            print("FAILED %s: %s" % (name, fault), flush=True)
-    return min(faults, 1)
+    return trials.run(TRIALS, options.trials)
 
 
 parser = argparse.ArgumentParser(description=__doc__, formatter_class=argparse.RawDescriptionHelpFormatter)

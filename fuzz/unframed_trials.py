@@ -15,18 +15,14 @@ import contextlib
 import random
 import re
 import socket
-import struct
-import subprocess
 import sys
 import threading
 import time
 from typing import Callable, Dict, Iterator, List, NamedTuple
 
-import hub_trials
-from hub_trials import PROGRAM, Failed, Gateway, Upstream, ask, call, calls, gateway, read_bytes, read_to_end, want
+import trials
+from trials import COMMAND, LIMIT, Gateway, answers, call, calls, exception, gateway, read_bytes, read_to_end, single, want
 
-LIMIT = 1024
-COMMAND = PROGRAM + " serve binary binary {listen} {target} --accept {accept} --sessions {sessions} --limit 1024 --unframed "
 SMALLEST = len(call(0, 0)) - 4
 
 
@@ -39,14 +35,9 @@ def bare_calls(first: int, count: int) -> bytes:
     return b"".join(bare(number) for number in range(first, first + count))
 
 
-def replies(sent: bytes) -> bytes:
-    return sent.replace(b"\x80\x01\x00\x01", b"\x80\x01\x00\x02")
-
-
 @contextlib.contextmanager
 def unframed(side: str, *serve: Callable[[socket.socket], None]) -> Iterator[Gateway]:
-    hub_trials.options.command = COMMAND + side
-    with gateway(*serve) as gate:
+    with gateway(*serve, command="%s --unframed %s" % (COMMAND, side)) as gate:
         yield gate
 
 
@@ -54,7 +45,7 @@ def ask_bare(stream: socket.socket, sent: bytes) -> None:
     """Sends calls without lengths and reads their answers."""
     sender = threading.Thread(target=stream.sendall, args=(sent,), daemon=True)
     sender.start()
-    want(read_bytes(stream, len(sent)) == replies(sent), "other answers")
+    want(read_bytes(stream, len(sent)) == answers(sent), "other answers")
     sender.join()
 
 
@@ -71,16 +62,6 @@ def ends_with(gate: Gateway, sent: List[bytes], got: bytes, line: str, closes: b
     return gate.wait_for_line(r"session \d+: " + line)
 
 
-def single(sent: bytes) -> List[bytes]:
-    return [sent[at:at + 1] for at in range(len(sent))]
-
-
-def exception(number: int, text: bytes) -> bytes:
-    """The answer to a refused call `t`."""
-    body = b"\x0b\x00\x01" + struct.pack(">I", len(text)) + text + b"\x08\x00\x02\x00\x00\x00\x07\x00"
-    return b"\x80\x01\x00\x03" + struct.pack(">I", 1) + b"t" + struct.pack(">I", number) + body
-
-
 def good_calls() -> str:
     """Calls without lengths, whole, in single bytes and many in a piece, are answered without lengths."""
     with unframed("client") as gate:
@@ -88,7 +69,7 @@ def good_calls() -> str:
         ask_bare(stream, bare_calls(0, 5000))
         for piece in single(bare_calls(0, 3)):
             stream.sendall(piece)
-        want(read_bytes(stream, len(bare_calls(0, 3))) == replies(bare_calls(0, 3)), "other answers")
+        want(read_bytes(stream, len(bare_calls(0, 3))) == answers(bare_calls(0, 3)), "other answers")
         stream.shutdown(socket.SHUT_WR)
         want(read_to_end(stream) == b"", "more bytes came")
         line = gate.wait_for_line("session 0: clean")
@@ -106,7 +87,7 @@ def garbage() -> str:
             with gate.connect() as stream, contextlib.suppress(OSError):
                 stream.sendall(sent)
                 stream.shutdown(socket.SHUT_WR)
-                want(read_to_end(stream).startswith(replies(bare_calls(0, number % 4))), "other answers")
+                want(read_to_end(stream).startswith(answers(bare_calls(0, number % 4))), "other answers")
             if number % 50 == 0:
                 ask_bare(other, bare_calls(number, 100))
         ask_bare(other, bare_calls(0, 100))
@@ -146,7 +127,7 @@ def endless_message() -> str:
         other = gate.connect()
         head = bare(1, 0)[:SMALLEST - 5] + b"\x3f\xff\xff\xff"
         sent = head + b"a" * (LIMIT - len(head))
-        line = ends_with(gate, [bare(0), sent + b"a" * 5000], replies(bare(0)), "client fault: frame 2: length -1")
+        line = ends_with(gate, [bare(0), sent + b"a" * 5000], answers(bare(0)), "client fault: frame 2: length -1")
         ends_with(gate, single(sent), b"", "client fault: frame 1: length -1")
         ask_bare(other, bare_calls(0, 100))
     return "`%s`" % line
@@ -161,8 +142,8 @@ def to_the_limit() -> str:
         ask_bare(stream, fits + fits)
         for piece in single(fits):
             stream.sendall(piece)
-        want(read_bytes(stream, LIMIT) == replies(fits), "other answers")
-        line = ends_with(gate, [fits + passes], replies(fits), "client fault: frame 2: length -1")
+        want(read_bytes(stream, LIMIT) == answers(fits), "other answers")
+        line = ends_with(gate, [fits + passes], answers(fits), "client fault: frame 2: length -1")
         ends_with(gate, single(passes), b"", "client fault: frame 1: length -1")
         ask_bare(stream, bare(1))
     return "1,024 bytes pass; 1,025: `%s`" % line
@@ -173,7 +154,7 @@ def bad_kind() -> str:
     sent = bare(7)[:-1] + b"\x05"
     with unframed("client") as gate:
         other = gate.connect()
-        got = replies(bare(6)) + exception(7, b"G4 bad kind")
+        got = answers(bare(6)) + exception(7, b"G4 bad kind")
         line = ends_with(gate, [bare(6) + sent + bare_calls(8, 9)], got, "client fault: frame 3: length -1")
         ends_with(gate, single(sent), exception(7, b"G4 bad kind"), "client fault: frame 2: length -1")
         ask_bare(other, bare_calls(0, 100))
@@ -185,13 +166,13 @@ def ends_inside() -> str:
     with unframed("client") as gate:
         silent, other = gate.connect(), gate.connect()
         silent.sendall(bare(0)[:9])
-        line = ends_with(gate, [bare_calls(0, 2) + bare(2)[:-1]], replies(bare_calls(0, 2)), "client fault: frame 3: ended inside", closes=True)
+        line = ends_with(gate, [bare_calls(0, 2) + bare(2)[:-1]], answers(bare_calls(0, 2)), "client fault: frame 3: ended inside", closes=True)
         time.sleep(1)
         before = gate.seconds()
         ask_bare(other, bare_calls(0, 100))
         want(gate.seconds() - before < 0.5, "it took processor time")
         silent.sendall(bare(0)[9:])
-        want(read_bytes(silent, len(bare(0))) == replies(bare(0)), "other answers")
+        want(read_bytes(silent, len(bare(0))) == answers(bare(0)), "other answers")
     return "`%s`; the one that stopped went on later" % line
 
 
@@ -215,11 +196,11 @@ class Answer(NamedTuple):
 
 
 BAD_ANSWERS = [
-    Answer(replies(bare(0))[:-1] + b"\x05", 1, exception(0, b"G4 bad kind"), "unsolicited: answer 2 to 1 calls"),
-    Answer(replies(bare(0))[:-1] + b"\x05", 2, exception(0, b"G4 bad kind"), "upstream fault: frame 2: length -1"),
-    Answer(replies(bare(0, LIMIT)), 1, b"", "upstream fault: frame 1: length -1"),
-    Answer(replies(bare(0))[:9], 1, b"", "upstream fault: frame 1: ended inside"),
-    Answer(replies(bare(0)) * 2, 1, replies(bare(0)), "unsolicited: answer 2 to 1 calls"),
+    Answer(answers(bare(0))[:-1] + b"\x05", 1, exception(0, b"G4 bad kind"), "unsolicited: answer 2 to 1 calls"),
+    Answer(answers(bare(0))[:-1] + b"\x05", 2, exception(0, b"G4 bad kind"), "upstream fault: frame 2: length -1"),
+    Answer(answers(bare(0, LIMIT)), 1, b"", "upstream fault: frame 1: length -1"),
+    Answer(answers(bare(0))[:9], 1, b"", "upstream fault: frame 1: ended inside"),
+    Answer(answers(bare(0)) * 2, 1, answers(bare(0)), "unsolicited: answer 2 to 1 calls"),
     Answer(b"\x00" * 5000, 1, b"", r"upstream fault: frame 1: at \d+: G\d+ [\w ]+"),
     Answer(bare(0), 1, b"", "upstream fault: frame 1: wrong way"),
 ]
@@ -257,14 +238,7 @@ TRIALS: Dict[str, Callable[[], str]] = {trial.__name__: trial for trial in (
 def main() -> int:
     parser = argparse.ArgumentParser(description=__doc__, formatter_class=argparse.RawDescriptionHelpFormatter)
     parser.add_argument("trials", nargs="*", choices=[[], *TRIALS], metavar="TRIAL")
-    faults = 0
-    for name in parser.parse_args().trials or TRIALS:
-        try:
-            print("ok     %s: %s" % (name, TRIALS[name]()), flush=True)
-        except (Failed, OSError, subprocess.TimeoutExpired) as fault:
-            faults += 1
-            print("FAILED %s: %s" % (name, fault), flush=True)
-    return min(faults, 1)
+    return trials.run(TRIALS, parser.parse_args().trials)
 
 
 if __name__ == "__main__":

@@ -1,9 +1,9 @@
 #!/usr/bin/env python3
 """A server of notes.thrift by Apache Thrift's own Python library.
 
-    apache_server.py binary|compact|json A.B.C.D:PORT [framed|buffered]
+    apache_server.py binary|compact|json A.B.C.D:PORT [framed|buffered [MARK]]
 
-It takes messages in frames, or one after another without lengths, and answers until it is stopped.
+It takes messages in frames, or one after another without lengths, and answers until it is stopped. MARK stands before what `join` gives.
 """
 import sys
 from collections import Counter
@@ -26,19 +26,26 @@ def result_of(name: str, fields: Dict[int, Any]) -> Any:
 class Notes:
     """What the library calls for each message."""
 
+    def __init__(self, mark: str) -> None:
+        self.mark = mark
+
+    def result_of(self, name: str, fields: Dict[int, Any]) -> Any:
+        return self.mark + result_of(name, fields) if name == "join" else result_of(name, fields)
+
     def process(self, incoming: Any, outgoing: Any) -> None:
         name, form, number = incoming.readMessageBegin()
         fields = read_fields(incoming, ARGUMENTS.get(name, {}))
         incoming.readMessageEnd()
         if form == TMessageType.ONEWAY or RESULTS.get(name) is None:
             return
-        write_message(outgoing, name, TMessageType.REPLY, number, {0: RESULTS[name]}, {0: result_of(name, fields)})
+        write_message(outgoing, name, TMessageType.REPLY, number, {0: RESULTS[name]}, {0: self.result_of(name, fields)})
 
 
 def main() -> None:
+    mark = sys.argv.pop() if len(sys.argv) == 5 else ""
     protocol, (host, port), form = words(sys.argv, __doc__)
     socket = TSocket.TServerSocket(host, port)
-    server = TServer.TThreadedServer(Notes(), socket, TRANSPORTS[form](), FACTORIES[protocol](), daemon=True)
+    server = TServer.TThreadedServer(Notes(mark), socket, TRANSPORTS[form](), FACTORIES[protocol](), daemon=True)
     server.serve()
 
 
