@@ -22,7 +22,7 @@ import time
 from typing import Callable, Dict, Iterator, List, NamedTuple
 
 import trials
-from trials import COMMAND, LIMIT, Gateway, answers, call, exception, read_bytes, read_to_end, single, want
+from trials import COMMAND, LIMIT, Gateway, answering, answers, call, exception, exchange, gets, read_bytes, read_to_end, single, want
 
 MOST_OF_HEAD = 8192
 SMALLEST = len(call(0, 0)) - 4
@@ -89,20 +89,8 @@ def front() -> Iterator[Front]:
     received: List[bytearray] = []
 
     def serve(stream: socket.socket) -> None:
-        mine = bytearray()
-        received.append(mine)
-        held = b""
-        while True:
-            piece = stream.recv(65536)
-            if not piece:
-                return
-            mine += piece
-            held += piece
-            end = 0
-            while len(held) - end >= 4 and len(held) - end - 4 >= int.from_bytes(held[end:end + 4], "big"):
-                end += 4 + int.from_bytes(held[end:end + 4], "big")
-            stream.sendall(answers(held[:end]))
-            held = held[end:]
+        received.append(bytearray())
+        answering(stream, received[-1])
 
     with trials.gateway(serve, command=COMMAND + " --front http") as gate:
         one = Front(gate, received)
@@ -110,23 +98,9 @@ def front() -> Iterator[Front]:
         one.ask_other()
 
 
-def exchange(stream: socket.socket, sent: bytes, wanted: bytes) -> None:
-    sender = threading.Thread(target=stream.sendall, args=(sent,), daemon=True)
-    sender.start()
-    got = read_bytes(stream, len(wanted))
-    want(got == wanted, "it got %r" % got[:120])
-    sender.join()
-
-
 def ends_with(one: Front, sent: List[bytes], got: bytes, line: str, closes: bool = False) -> str:
     """What a new client gets for these pieces, the end behind it, and the line of its session."""
-    with one.connect() as stream:
-        with contextlib.suppress(OSError):
-            for piece in sent:
-                stream.sendall(piece)
-            if closes:
-                stream.shutdown(socket.SHUT_WR)
-        found = read_to_end(stream)
+    found = gets(one.connect, sent, closes)
     want(found == got, "for %r it got %r" % (b"".join(sent)[:80], found[:80]))
     return one.gate.wait_for_line(r"session %d: " % one.last + line)
 

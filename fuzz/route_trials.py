@@ -23,7 +23,7 @@ import threading
 import time
 from typing import Callable, Dict, Iterator, List, NamedTuple
 
-from trials import HOST, PROGRAM, REST, SOCKETS_OF_FEW, Failed, Gateway, Upstream, answering, free_port, read_bytes, read_to_end, want
+from trials import HOST, PROGRAM, REST, SOCKETS_OF_FEW, Failed, Gateway, Upstream, answering, exchange, free_port, gets, read_bytes, read_to_end, want
 
 LIMIT = 1024
 SESSIONS = 32
@@ -86,21 +86,7 @@ def replies(first: int, count: int) -> bytes:
 
 def ask(stream: socket.socket, names: List[str], count: int, first: int = 0) -> None:
     """Sends calls of these services in turn, and reads their answers."""
-    sent, wanted = mixed(names, first, count), replies(first, count)
-    sender = threading.Thread(target=stream.sendall, args=(sent,), daemon=True)
-    sender.start()
-    want(read_bytes(stream, len(wanted)) == wanted, "other answers")
-    sender.join()
-
-
-def gets(gate: Gateway, sent: bytes, closes: bool = True) -> bytes:
-    """What a new client gets for these bytes, until the end."""
-    with gate.connect() as stream:
-        with contextlib.suppress(OSError):
-            stream.sendall(sent)
-            if closes:
-                stream.shutdown(socket.SHUT_WR)
-        return read_to_end(stream)
+    exchange(stream, mixed(names, first, count), replies(first, count))
 
 
 def never_reading(stream: socket.socket) -> None:
@@ -178,9 +164,9 @@ def names() -> str:
     with router({"A": answering}) as gate:
         for number, name in enumerate(NAMES):
             wanted = message(REPLY, name.answered, number) if name.has_route else no_route(name.answered, number)
-            got = gets(gate, message(CALL, name.called, number))
+            got = gets(gate.connect, [message(CALL, name.called, number)])
             want(got == wanted, "%r: it got %r" % (name.called, got))
-            want(gets(gate, message(ONEWAY, name.called, number)) == b"", "%r: a oneway was answered" % name.called)
+            want(gets(gate.connect, [message(ONEWAY, name.called, number)]) == b"", "%r: a oneway was answered" % name.called)
         gate.wait_for_line("session %d: clean" % (2 * len(NAMES) - 1))
     return "%d names, %d of them without a route" % (len(NAMES), sum(not name.has_route for name in NAMES))
 
@@ -242,7 +228,7 @@ def dead_target() -> str:
     try:
         other = gate.connect()
         ask(other, ["A"], 100)
-        want(gets(gate, mixed(["B"], 0, 1), closes=False) == b"", "something came")
+        want(gets(gate.connect, [mixed(["B"], 0, 1)], closes=False) == b"", "something came")
         line = gate.wait_for_line("session 1: link fault: upstream 2")
         ask(other, ["A"], 100)
     finally:
@@ -282,7 +268,7 @@ def broken_targets() -> str:
         other = gate.connect()
         ask(other, ["A"], 10)
         for number in range(count):
-            got = gets(gate, mixed(["A", "B"], 0, 10))
+            got = gets(gate.connect, [mixed(["A", "B"], 0, 10)])
             want(replies(0, 10).startswith(got), "session %d got %r" % (number, got[:80]))
             if number % 20 == 0:
                 ask(other, ["A"], 100)
@@ -302,7 +288,7 @@ def garbage() -> str:
         ask(other, ["A", "B"], 10)
         for number in range(count):
             good = number % 4
-            got = gets(gate, mixed(["A", "B"], 0, good) + b"\xff" + source.randbytes(source.randrange(1, 3000)))
+            got = gets(gate.connect, [mixed(["A", "B"], 0, good) + b"\xff" + source.randbytes(source.randrange(1, 3000))])
             want(got == replies(0, good), "client %d got %r" % (number, got[:80]))
             if number % 50 == 0:
                 ask(other, ["A", "B"], 100)

@@ -76,13 +76,15 @@ class Upstream:
             self.serve(stream)
 
 
-def answering(stream: socket.socket) -> None:
-    """Answers each call, and ends when the gateway does."""
+def answering(stream: socket.socket, received: Optional[bytearray] = None) -> None:
+    """Answers each call, notes what came, and ends when the gateway does."""
     held = b""
     while True:
         piece = stream.recv(65536)
         if not piece:
             return
+        if received is not None:
+            received += piece
         held += piece
         end = 0
         while len(held) - end >= 4 and len(held) - end - 4 >= int.from_bytes(held[end:end + 4], "big"):
@@ -183,6 +185,26 @@ def gateway(serve: Callable[[socket.socket], None] = answering, target: Optional
         want(peak <= running.bound, "%d bytes of memory, more than %d" % (peak, running.bound))
     finally:
         running.stop()
+
+
+def exchange(stream: socket.socket, sent: bytes, wanted: bytes) -> None:
+    """Sends this, and reads what is to be answered while it goes."""
+    sender = threading.Thread(target=stream.sendall, args=(sent,), daemon=True)
+    sender.start()
+    got = read_bytes(stream, len(wanted))
+    want(got == wanted, "it got %r" % got[:120])
+    sender.join()
+
+
+def gets(connect: Callable[[], socket.socket], sent: List[bytes], closes: bool = True) -> bytes:
+    """What a new client gets for these pieces, until the end."""
+    with connect() as stream:
+        with contextlib.suppress(OSError):
+            for piece in sent:
+                stream.sendall(piece)
+            if closes:
+                stream.shutdown(socket.SHUT_WR)
+        return read_to_end(stream)
 
 
 def read_bytes(stream: socket.socket, count: int) -> bytes:

@@ -16,12 +16,11 @@ import random
 import re
 import socket
 import sys
-import threading
 import time
 from typing import Callable, Dict, Iterator, List, NamedTuple
 
 import trials
-from trials import COMMAND, LIMIT, Gateway, answers, call, calls, exception, gateway, read_bytes, read_to_end, single, want
+from trials import COMMAND, LIMIT, Gateway, answers, call, calls, exception, exchange, gateway, gets, read_bytes, read_to_end, single, want
 
 SMALLEST = len(call(0, 0)) - 4
 
@@ -43,21 +42,12 @@ def unframed(side: str, *serve: Callable[[socket.socket], None]) -> Iterator[Gat
 
 def ask_bare(stream: socket.socket, sent: bytes) -> None:
     """Sends calls without lengths and reads their answers."""
-    sender = threading.Thread(target=stream.sendall, args=(sent,), daemon=True)
-    sender.start()
-    want(read_bytes(stream, len(sent)) == answers(sent), "other answers")
-    sender.join()
+    exchange(stream, sent, answers(sent))
 
 
 def ends_with(gate: Gateway, sent: List[bytes], got: bytes, line: str, closes: bool = False) -> str:
     """What a new client gets for these pieces, the end behind it, and the line of its session."""
-    with gate.connect() as stream:
-        with contextlib.suppress(OSError):
-            for piece in sent:
-                stream.sendall(piece)
-            if closes:
-                stream.shutdown(socket.SHUT_WR)
-        found = read_to_end(stream)
+    found = gets(gate.connect, sent, closes)
     want(found == got, "it got %r" % found[:80])
     return gate.wait_for_line(r"session \d+: " + line)
 
