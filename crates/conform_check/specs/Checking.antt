@@ -14,7 +14,7 @@ use Rattle.protocol_traits.specs.declared.traits.ReadRules.{Ghosts as ReadRules}
 use Rattle.translate_core.specs.declared.route.Route.TheVariants.{ByName}
 use Rattle.translate_core.specs.Positions.{typed}
 use Rattle.translate_core.specs.Routes.{body_of}
-use Rattle.translate_core.specs.Body.{Source, TargetRules, Ended, going, whole, source_of}
+use Rattle.translate_core.specs.Body.{Source, TargetRules, Ended, going, whole, source_in}
 use Rattle.conform_check.specs.declared.step.Step.{Step}
 use Rattle.conform_check.specs.declared.breach.Breach.{Breach}
 use Rattle.conform_check.specs.declared.breach.Breach.TheVariants as breaches
@@ -146,9 +146,6 @@ IsFoundOf (checked.Refused f) path (Refused g) = f ≡ g
 IsFoundOf answer path finding = ⊥
 
 -- ---- the same by the rules of any reader
-
-abbrev source_in : {S : Type 0} → ReadRules S → Source S
-source_in rules = source_of rules.begun rules.reads_head rules.reads rules.reads_end rules.value_place rules.ahead
 
 -- of a frame
 abbrev pub ChecksFrame : {S : Type 0} → ReadRules S → Declarations → Option ServiceId → List ℕ → Checked → List Step → Type 0

@@ -1,7 +1,7 @@
 //! Commands over an outside one of whose calls fails: each call in turn, up to the last that the command makes.
-use crate::outside::{Outside, READ, Ran, WRITTEN, only, run_line, with_input};
+use crate::outside::{Ending, Outside, READ, WRITTEN, only, run_line, was_written, with_input};
 use gate_base::OutOfMemory;
-use gate_memory::MemFiles;
+use gate_memory::{MemFiles, MemSink, MemSource};
 use std::alloc::Global;
 use std::test::*;
 
@@ -19,54 +19,72 @@ enum Failing {
 struct Row {
     line: &'static [u8],
     input: &'static [u8],
-    code: u8,
-    output: &'static [u8],
-    report: &'static [u8],
+    ending: Ending<'static>,
+}
+
+/// How a command ended one of whose calls failed.
+#[derive(Clone, Copy, PartialEq, Eq)]
+enum Cut {
+    /// As one does where nothing fails: it doesn't make this call.
+    Nowhere,
+    /// What stood before the call was written, and nothing behind it.
+    AtTheCall,
+    Otherwise,
 }
 
 /// A call with two numbers.
 const NUMBERS: Row = Row {
     line: b"convert binary compact --limit 1024",
     input: b"\0\0\0\x1e\x80\x01\0\x01\0\0\0\x03add\0\0\0\x02\x08\0\x01\0\0\0\x01\x08\0\x02\xff\xff\xff\xff\0",
-    code: 0,
-    output: b"\0\0\0\x0c\x82\x21\x02\x03add\x15\x02\x15\x01\0",
-    report: b"",
+    ending: Ending {
+        code: 0,
+        output: b"\0\0\0\x0c\x82\x21\x02\x03add\x15\x02\x15\x01\0",
+        report: b"",
+    },
 };
 
 /// A call of a declared method, by an IDL of two files.
 const DECLARED: Row = Row {
     line: b"convert compact json --limit 1024 --idl calc.thrift",
     input: b"\0\0\0\x1b\x82\x21\x07\x09calculate\x15\x02\x1c\x15\x1e\x15\x14\x15\x04\x18\x01a\0\0",
-    code: 0,
-    output: b"\0\0\0\x6d[1,\"calculate\",1,7,{\"1\":{\"i32\":1},\"2\":{\"rec\":{\"1\":{\"i32\":15},\"2\":{\"i32\":10},\"3\":{\"i32\":2},\"4\":{\"str\":\"a\"}}}}]",
-    report: b"",
+    ending: Ending {
+        code: 0,
+        output: b"\0\0\0\x6d[1,\"calculate\",1,7,{\"1\":{\"i32\":1},\"2\":{\"rec\":{\"1\":{\"i32\":15},\"2\":{\"i32\":10},\"3\":{\"i32\":2},\"4\":{\"str\":\"a\"}}}}]",
+        report: b"",
+    },
 };
 
 /// A call with a string of which nothing is declared, which is refused.
 const REFUSED: Row = Row {
     line: b"convert binary json --limit 1024",
     input: b"\0\0\0\x17\x80\x01\0\x01\0\0\0\x01f\0\0\0\x01\x0b\0\x01\0\0\0\x02AB\0",
-    code: 1,
-    output: b"",
-    report: b"frame 1: at 16: U2 unknown string\n",
+    ending: Ending {
+        code: 1,
+        output: b"",
+        report: b"frame 1: at 16: U2 unknown string\n",
+    },
 };
 
 /// The same call, checked against its declarations.
 const MEETING: Row = Row {
     line: b"conform compact --limit 1024 --idl calc.thrift",
     input: b"\0\0\0\x1b\x82\x21\x07\x09calculate\x15\x02\x1c\x15\x1e\x15\x14\x15\x04\x18\x01a\0\0",
-    code: 0,
-    output: b"frame 1: meets\n",
-    report: b"",
+    ending: Ending {
+        code: 0,
+        output: b"frame 1: meets\n",
+        report: b"",
+    },
 };
 
 /// The same with an operation that is no member of its enum.
 const BREAKING: Row = Row {
     line: b"conform compact --limit 1024 --idl calc.thrift",
     input: b"\0\0\0\x1b\x82\x21\x07\x09calculate\x15\x02\x1c\x15\x1e\x15\x14\x15\x12\x18\x01a\0\0",
-    code: 1,
-    output: b"",
-    report: b"frame 1: at 2/3: M7 not a member\n",
+    ending: Ending {
+        code: 1,
+        output: b"",
+        report: b"frame 1: at 2/3: M7 not a member\n",
+    },
 };
 
 /// The file that `calc.thrift` includes.
@@ -76,19 +94,22 @@ const SHARED_FILE: &[u8] =
 const CALC_FILE: &[u8] =
     b"include \"shared.thrift\"\n/* numbers */\ntypedef i32 MyInteger\ntypedef MyInteger Count\nenum Operation { ADD = 1, SUBTRACT, MULTIPLY }\nunion Either { 1: Count n  2: string s }\nstruct Work { 1: Count num1 = 0, 2: Count num2, 3: Operation op,\n              4: optional string comment, 5: Either extra }\nexception InvalidOperation { 1: i32 whatOp, 2: string why }\nservice Calculator extends shared.SharedService {\n  void ping(),\n  i32 calculate(1: i32 logid, 2: Work w) throws (1: InvalidOperation ouch),\n  oneway void zip()  // no answer\n  i32 old(i32 a, i32 b)\n}\n";
 
-/// Runs the command of a row where the call of this number fails.
-fn run_failing(alloc: Global, row: &Row, failing: Failing, call: u64) -> Result<Ran, OutOfMemory> {
-    let mut outside: Outside<'static> = with_input(alloc, row.input)?;
+/// Lets the call of this number fail.
+fn fail(
+    alloc: Global,
+    row: &Row,
+    failing: Failing,
+    call: u64,
+    outside: &mut Outside,
+) -> Result<(), OutOfMemory> {
     let fails = only(alloc, call)?;
     match failing {
-        Failing::Read => outside.reads = fails,
-        Failing::Write => outside.writes = fails,
-        Failing::Report => outside.reports = fails,
+        Failing::Read => outside.input = MemSource::new(alloc, row.input, READ, fails)?,
+        Failing::Write => outside.output = MemSink::new(alloc, WRITTEN, fails)?,
+        Failing::Report => outside.report = MemSink::new(alloc, WRITTEN, fails)?,
         Failing::Fetch => outside.files = MemFiles::new(alloc, fails)?,
     }
-    outside.files.put(b"shared.thrift", SHARED_FILE)?;
-    outside.files.put(b"calc.thrift", CALC_FILE)?;
-    run_line(alloc, row.line, outside)
+    Ok(())
 }
 
 /// The front of some bytes that were written in so many calls.
@@ -103,45 +124,85 @@ fn has_read_all(row: &Row, calls: u64) -> bool {
     (calls as usize).saturating_mul(READ) >= row.input.len()
 }
 
-/// Whether the row's command ended as one does whose call of this number failed: what stood before it was written, and
-/// nothing behind it.
-fn is_cut_off(ran: &Ran, row: &Row, failing: Failing, call: u64) -> bool {
-    let (output, report) = (ran.output.bytes(), ran.report.bytes());
+/// Whether the row's command ended as one does whose call of this number failed.
+fn is_cut_off(code: u8, outside: &Outside, row: &Row, failing: Failing, call: u64) -> bool {
+    let (output, report) = (outside.output.bytes(), outside.report.bytes());
+    let whole = row.ending;
     match failing {
         Failing::Read => {
             let is_whole = has_read_all(row, call);
             let told = report.strip_suffix(b"read fault\n".as_slice());
-            ran.code == 4
-                && output == (if is_whole { row.output } else { b"".as_slice() })
-                && told == Some(if is_whole { row.report } else { b"".as_slice() })
+            code == 4
+                && output
+                    == (if is_whole {
+                        whole.output
+                    } else {
+                        b"".as_slice()
+                    })
+                && told
+                    == Some(if is_whole {
+                        whole.report
+                    } else {
+                        b"".as_slice()
+                    })
         }
-        Failing::Write => ran.code == 5 && output == front(row.output, call) && report.is_empty(),
-        Failing::Report => ran.code == 5
-            && output == row.output
-            && report == front(row.report, call),
-        Failing::Fetch => ran.code == 6
-            && output.is_empty()
-            && report == b"file fault\n".as_slice(),
+        Failing::Write => code == 5 && output == front(whole.output, call) && report.is_empty(),
+        Failing::Report => {
+            code == 5 && output == whole.output && report == front(whole.report, call)
+        }
+        Failing::Fetch => { code == 6 && output.is_empty() && report == b"file fault\n".as_slice() }
     }
 }
 
-/// Whether nothing failed.
-fn is_whole(ran: &Ran, row: &Row) -> bool {
-    ran.code == row.code && ran.output.bytes() == row.output && ran.report.bytes() == row.report
+/// Where the row's command is cut off, of which the call of this number fails.
+fn cut_in(
+    alloc: Global,
+    row: &Row,
+    failing: Failing,
+    call: u64,
+    outside: &mut Outside,
+) -> Result<Cut, OutOfMemory> {
+    fail(alloc, row, failing, call, outside)?;
+    outside.files.put(b"shared.thrift", SHARED_FILE)?;
+    outside.files.put(b"calc.thrift", CALC_FILE)?;
+    let code = run_line(alloc, row.line, outside)?;
+    if code == row.ending.code && was_written(outside, &row.ending) {
+        return Ok(Cut::Nowhere);
+    }
+    if is_cut_off(code, outside, row, failing, call) {
+        return Ok(Cut::AtTheCall);
+    }
+    Ok(Cut::Otherwise)
+}
+
+/// The same over an outside of its own.
+fn cut_alone(alloc: Global, row: &Row, failing: Failing, call: u64) -> Result<Cut, OutOfMemory> {
+    let mut outside = with_input(alloc, row.input)?;
+    cut_in(alloc, row, failing, call, &mut outside)
 }
 
 /// How many calls of this kind the command of a row makes, if it is cut off at each of them that fails.
 fn calls_of(alloc: Global, row: &Row, failing: Failing) -> Result<Option<u64>, OutOfMemory> {
     for call in 0..100 {
-        let ran = run_failing(alloc, row, failing, call)?;
-        if is_whole(&ran, row) {
-            return Ok(Some(call));
-        }
-        if !is_cut_off(&ran, row, failing, call) {
-            return Ok(None);
+        match cut_alone(alloc, row, failing, call)? {
+            Cut::Nowhere => return Ok(Some(call)),
+            Cut::AtTheCall => (),
+            Cut::Otherwise => return Ok(None),
         }
     }
     Ok(None)
+}
+
+/// Whether the command of a row makes so many reads, writes of its output and of its report, and fetches, and is cut off at
+/// each of them that fails.
+fn is_cut_everywhere(alloc: Global, row: &Row, counts: [u64; 4]) -> Result<bool, OutOfMemory> {
+    let [reads, writes, reports, fetches] = counts;
+    Ok(
+        calls_of(alloc, row, Failing::Read)? == Some(reads)
+            && calls_of(alloc, row, Failing::Write)? == Some(writes)
+            && calls_of(alloc, row, Failing::Report)? == Some(reports)
+            && calls_of(alloc, row, Failing::Fetch)? == Some(fetches),
+    )
 }
 
 #[test]
@@ -154,16 +215,10 @@ fn a_fault_cuts_off_what_follows(rt: HostRuntime) -> Result<(), Fail> {
         (BREAKING, [6, 0, 7, 2]),
     ];
     for (row, counts) in rows {
-        let kinds = [
-            Failing::Read,
-            Failing::Write,
-            Failing::Report,
-            Failing::Fetch,
-        ];
-        for (failing, count) in kinds.iter().zip(counts) {
-            let calls = calls_of(rt.alloc(), &row, *failing).ok().ok_or("memory")?;
-            assert_eq!(rt; calls, Some(count), "{failing:?} of {:?}", row.line);
-        }
+        let is_cut = is_cut_everywhere(rt.alloc(), &row, counts)
+            .ok()
+            .ok_or("memory")?;
+        assert!(rt; is_cut, "{:?}", row.line);
     }
     Ok(())
 }

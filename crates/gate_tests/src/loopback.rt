@@ -1,8 +1,7 @@
 //! The command `serve` over real sockets, in one process with its client and its upstream.
-use crate::outside::words_of;
+use crate::outside::{Outside, with_input, words_of};
 use crate::serving::{ANSWERS, CALLS, REPLIES};
-use gate_base::OutOfMemory;
-use gate_memory::{Fails, MemFiles, MemSink, MemSource};
+use gate_base::{OutOfMemory, Word};
 use gate_run::run;
 use mio_edge::{MioFan, MioHub};
 use std::alloc::Global;
@@ -36,26 +35,28 @@ fn answer(listener: &TcpListener) -> io::Result<()> {
     stream.write_all(&REPLIES[MESSAGE..])
 }
 
-/// Serves one connection.
-fn serve<N: Net>(net: &N, alloc: Global, line: &[u8]) -> Result<u8, OutOfMemory> {
-    let words = words_of(alloc, line)?;
-    let mut files = MemFiles::new(alloc, Fails::new(alloc))?;
-    let mut input = MemSource::new(alloc, b"", 1, Fails::new(alloc))?;
-    let mut output = MemSink::new(alloc, 100, Fails::new(alloc))?;
-    let mut report = MemSink::new(alloc, 100, Fails::new(alloc))?;
+/// Runs the server of these words over real sockets, and gives its status.
+fn serve_over<N: Net>(net: &N, alloc: Global, words: &[Word], outside: &mut Outside) -> u8 {
     let mut hub = MioHub::new(net);
     let mut fan = MioFan::new(net);
     let status = run(
         alloc,
-        &words,
-        &mut files,
-        &mut input,
-        &mut output,
-        &mut report,
+        words,
+        &mut outside.files,
+        &mut outside.input,
+        &mut outside.output,
+        &mut outside.report,
         &mut hub,
         &mut fan,
     );
-    Ok(status.code)
+    status.code
+}
+
+/// Serves one connection.
+fn serve<N: Net>(net: &N, alloc: Global, line: &[u8]) -> Result<u8, OutOfMemory> {
+    let words = words_of(alloc, line)?;
+    let mut outside = with_input(alloc, b"")?;
+    Ok(serve_over(net, alloc, &words, &mut outside))
 }
 
 /// Connects once the server listens.

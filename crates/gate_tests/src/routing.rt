@@ -1,7 +1,7 @@
 //! The command `route` over a fan in memory: what each port is sent, and how the session ends.
 ghost use Rattle.std.specs.Prelude.{◌<◌};
 
-use crate::outside::{Ran, run_line, with_input};
+use crate::outside::{Outside, run_line, with_input};
 use gate_base::{OutOfMemory, Text};
 use gate_memory::{FanStep, FanSteps, MemFan};
 use std::alloc::Global;
@@ -43,10 +43,8 @@ fn arrival(alloc: Global, port: usize, bytes: &[u8]) -> Result<FanStep, OutOfMem
     })
 }
 
-/// A router over a fan that moves so many bytes at most in a call, whose second target answers last.
-fn play(alloc: Global, chunk: usize) -> Result<Ran, OutOfMemory>
-    requires { 0 < chunk }
-{
+/// A client with three calls, whose second target answers last.
+fn steps(alloc: Global) -> Result<FanSteps, OutOfMemory> {
     let mut steps = FanSteps::new(alloc);
     steps.push(FanStep::Connect)?;
     steps.push(arrival(alloc, 0, CALLS)?)?;
@@ -56,31 +54,59 @@ fn play(alloc: Global, chunk: usize) -> Result<Ran, OutOfMemory>
         session: 0,
         port: 0,
     })?;
+    Ok(steps)
+}
+
+/// An outside whose fan does these steps, and moves so many bytes at most in a call.
+fn with_steps(alloc: Global, chunk: usize) -> Result<Outside, OutOfMemory>
+    requires { 0 < chunk }
+{
+    let fan = MemFan::new(alloc, steps(alloc)?, chunk)?;
     let mut outside = with_input(alloc, b"")?;
-    outside.fan = MemFan::new(alloc, steps, chunk)?;
-    run_line(alloc, LINE, outside)
+    outside.fan = fan;
+    Ok(outside)
+}
+
+/// Whether each port was sent what is due to it.
+fn was_sent_all(outside: &Outside) -> bool {
+    outside.output.bytes() == b"session 0: clean\n".as_slice()
+        && outside.fan.sent_to(0, 0) == ANSWERS
+        && outside.fan.sent_to(0, 1) == TO_CALC
+        && outside.fan.sent_to(0, 2) == TO_LOG
+}
+
+fn sends_all(alloc: Global, outside: &mut Outside) -> Result<bool, OutOfMemory> {
+    let code = run_line(alloc, LINE, outside)?;
+    Ok(code == 0 && was_sent_all(outside))
+}
+
+fn is_routed(alloc: Global, chunk: usize) -> Result<bool, OutOfMemory>
+    requires { 0 < chunk }
+{
+    let mut outside = with_steps(alloc, chunk)?;
+    sends_all(alloc, &mut outside)
 }
 
 #[test]
 fn calls_go_to_the_target_of_their_service(rt: HostRuntime) -> Result<(), Fail> {
     for chunk in [1, 4096] {
-        let ran = play(rt.alloc(), chunk).ok().ok_or("memory")?;
-        assert_eq!(rt; ran.code, 0);
-        assert_eq!(rt; ran.output.bytes(), b"session 0: clean\n".as_slice());
-        assert_eq!(rt; ran.fan.sent_to(0, 0), ANSWERS);
-        assert_eq!(rt; ran.fan.sent_to(0, 1), TO_CALC);
-        assert_eq!(rt; ran.fan.sent_to(0, 2), TO_LOG);
+        let is_routed = is_routed(rt.alloc(), chunk).ok().ok_or("memory")?;
+        assert!(rt; is_routed, "{chunk}");
     }
     Ok(())
 }
 
+/// Whether a line is no command.
+fn is_usage(alloc: Global, line: &[u8]) -> Result<bool, OutOfMemory> {
+    let mut outside = with_input(alloc, b"")?;
+    Ok(run_line(alloc, line, &mut outside)? == 2)
+}
+
 #[test]
 fn other_targets_are_no_command(rt: HostRuntime) -> Result<(), Fail> {
-    let alloc = rt.alloc();
     for line in NO_ROUTERS {
-        let outside = with_input(alloc, b"").ok().ok_or("memory")?;
-        let ran = run_line(alloc, line, outside).ok().ok_or("memory")?;
-        assert_eq!(rt; ran.code, 2);
+        let is_usage = is_usage(rt.alloc(), line).ok().ok_or("memory")?;
+        assert!(rt; is_usage, "{line:?}");
     }
     Ok(())
 }

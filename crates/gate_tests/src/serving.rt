@@ -1,8 +1,6 @@
 //! The command `serve` over a hub in memory: what each side is sent, and how the session ends.
-ghost use Rattle.std.specs.Prelude.{◌<◌};
-
-use crate::outside::{Ran, run_line, with_input};
-use crate::script::{Act, play};
+use crate::outside::{Ending, Outside, ends_as, with_input};
+use crate::script::{Act, Shown, shows};
 use gate_base::OutOfMemory;
 use gate_hub::Side;
 use gate_memory::{HubStep, HubSteps, MemHub};
@@ -46,14 +44,12 @@ pub const NAMED_ANSWERS: &[u8] =
 pub const NAMED_PASSED: &[u8] =
     b"\0\0\0\x16[1,\"Calc:name\",1,1,{}]\0\0\0\x24[1,\"Calc:log\",4,2,{\"1\":{\"str\":\"x\"}}]\0\0\0\x30[1,\"Calc:add\",1,3,{\"1\":{\"i32\":1},\"2\":{\"i32\":2}}]";
 
-/// What a session shows: what came to it, what each side is sent, and the line of its end.
+/// The words of a server, what comes to its one session, and what that shows.
 #[derive(Clone, Copy)]
 struct Case {
     line: &'static [u8],
     acts: &'static [Act<'static>],
-    client: &'static [u8],
-    upstream: &'static [u8],
-    ending: &'static [u8],
+    shown: Shown<'static>,
 }
 
 /// A refused call is answered in its place, and both sides end.
@@ -66,9 +62,11 @@ const IN_PLACE: Case = Case {
         Act::Ends(Side::Upstream),
         Act::Ends(Side::Client),
     ],
-    client: &ANSWERS,
-    upstream: &PASSED,
-    ending: b"session 0: clean\n",
+    shown: Shown {
+        client: &ANSWERS,
+        upstream: &PASSED,
+        ending: b"session 0: clean\n",
+    },
 };
 
 /// Calls by the names of services, a oneway one among them, and an answer too many.
@@ -80,9 +78,11 @@ const BY_NAME: Case = Case {
         Act::Sends(Side::Upstream, &THREE_REPLIES),
         Act::Ends(Side::Client),
     ],
-    client: NAMED_ANSWERS,
-    upstream: NAMED_PASSED,
-    ending: b"session 0: unsolicited: answer 3 to 2 calls\n",
+    shown: Shown {
+        client: NAMED_ANSWERS,
+        upstream: NAMED_PASSED,
+        ending: b"session 0: unsolicited: answer 3 to 2 calls\n",
+    },
 };
 
 /// The upstream ends while a call is open.
@@ -93,9 +93,11 @@ const UNANSWERED: Case = Case {
         Act::Sends(Side::Client, b"\0\0\0\x09\x82\x21\x01\x04ping\0"),
         Act::Ends(Side::Upstream),
     ],
-    client: b"",
-    upstream: b"\0\0\0\x11[1,\"ping\",1,1,{}]",
-    ending: b"session 0: upstream ended: open calls 1\n",
+    shown: Shown {
+        client: b"",
+        upstream: b"\0\0\0\x11[1,\"ping\",1,1,{}]",
+        ending: b"session 0: upstream ended: open calls 1\n",
+    },
 };
 
 /// The client sends a reply.
@@ -105,9 +107,11 @@ const WRONG_WAY: Case = Case {
         Act::Connects,
         Act::Sends(Side::Client, b"\0\0\0\x09\x82\x41\x01\x04ping\0"),
     ],
-    client: b"",
-    upstream: b"",
-    ending: b"session 0: client fault: frame 1: wrong way\n",
+    shown: Shown {
+        client: b"",
+        upstream: b"",
+        ending: b"session 0: client fault: frame 1: wrong way\n",
+    },
 };
 
 /// One call may be open: the second waits for the answer to the first.
@@ -120,9 +124,11 @@ const ONE_AT_A_TIME: Case = Case {
             b"\0\0\0\x09\x82\x21\x01\x04ping\0\0\0\0\x09\x82\x21\x01\x04ping\0",
         ),
     ],
-    client: b"",
-    upstream: b"\0\0\0\x09\x82\x21\x01\x04ping\0",
-    ending: b"session 0: left open\n",
+    shown: Shown {
+        client: b"",
+        upstream: b"\0\0\0\x09\x82\x21\x01\x04ping\0",
+        ending: b"session 0: left open\n",
+    },
 };
 
 /// Two Binary calls without frames, to an upstream that frames Compact.
@@ -140,9 +146,11 @@ const WITHOUT_FRAMES: Case = Case {
         ),
         Act::Ends(Side::Client),
     ],
-    client: b"\x80\x01\0\x02\0\0\0\x04ping\0\0\0\x01\0\x80\x01\0\x02\0\0\0\x04ping\0\0\0\x01\0",
-    upstream: b"\0\0\0\x09\x82\x21\x01\x04ping\0\0\0\0\x09\x82\x21\x01\x04ping\0",
-    ending: b"session 0: clean\n",
+    shown: Shown {
+        client: b"\x80\x01\0\x02\0\0\0\x04ping\0\0\0\x01\0\x80\x01\0\x02\0\0\0\x04ping\0\0\0\x01\0",
+        upstream: b"\0\0\0\x09\x82\x21\x01\x04ping\0\0\0\0\x09\x82\x21\x01\x04ping\0",
+        ending: b"session 0: clean\n",
+    },
 };
 
 /// A field of no kind in a call without a frame: the call is answered, and no end of it can be found.
@@ -152,9 +160,11 @@ const WITHOUT_AN_END: Case = Case {
         Act::Connects,
         Act::Sends(Side::Client, b"\x80\x01\0\x01\0\0\0\x04ping\0\0\0\x01\x05"),
     ],
-    client: b"\x80\x01\0\x03\0\0\0\x04ping\0\0\0\x01\x0b\0\x01\0\0\0\x0bG4 bad kind\x08\0\x02\0\0\0\x07\0",
-    upstream: b"",
-    ending: b"session 0: client fault: frame 2: length -1\n",
+    shown: Shown {
+        client: b"\x80\x01\0\x03\0\0\0\x04ping\0\0\0\x01\x0b\0\x01\0\0\0\x0bG4 bad kind\x08\0\x02\0\0\0\x07\0",
+        upstream: b"",
+        ending: b"session 0: client fault: frame 2: length -1\n",
+    },
 };
 
 /// An upstream whose answers have no frames.
@@ -166,9 +176,11 @@ const ANSWERS_WITHOUT_FRAMES: Case = Case {
         Act::Sends(Side::Upstream, b"\x82\x41\x01\x04ping\0"),
         Act::Ends(Side::Client),
     ],
-    client: b"\0\0\0\x11[1,\"ping\",2,1,{}]",
-    upstream: b"\x82\x21\x01\x04ping\0",
-    ending: b"session 0: clean\n",
+    shown: Shown {
+        client: b"\0\0\0\x11[1,\"ping\",2,1,{}]",
+        upstream: b"\x82\x21\x01\x04ping\0",
+        ending: b"session 0: clean\n",
+    },
 };
 
 /// Two POSTs in one piece, each with a Binary call: the second is handed out after the answer to the first.
@@ -184,9 +196,11 @@ const POSTS: Case = Case {
         Act::Sends(Side::Upstream, b"\0\0\0\x11[1,\"ping\",2,1,{}]"),
         Act::Ends(Side::Client),
     ],
-    client: b"HTTP/1.1 200 OK\r\nContent-Type: application/x-thrift\r\nContent-Length: 17\r\n\r\n\x80\x01\0\x02\0\0\0\x04ping\0\0\0\x01\0HTTP/1.1 200 OK\r\nContent-Type: application/x-thrift\r\nContent-Length: 17\r\n\r\n\x80\x01\0\x02\0\0\0\x04ping\0\0\0\x01\0",
-    upstream: b"\0\0\0\x11[1,\"ping\",1,1,{}]\0\0\0\x11[1,\"ping\",1,1,{}]",
-    ending: b"session 0: clean\n",
+    shown: Shown {
+        client: b"HTTP/1.1 200 OK\r\nContent-Type: application/x-thrift\r\nContent-Length: 17\r\n\r\n\x80\x01\0\x02\0\0\0\x04ping\0\0\0\x01\0HTTP/1.1 200 OK\r\nContent-Type: application/x-thrift\r\nContent-Length: 17\r\n\r\n\x80\x01\0\x02\0\0\0\x04ping\0\0\0\x01\0",
+        upstream: b"\0\0\0\x11[1,\"ping\",1,1,{}]\0\0\0\x11[1,\"ping\",1,1,{}]",
+        ending: b"session 0: clean\n",
+    },
 };
 
 /// A GET is refused, and nothing is sent.
@@ -196,9 +210,11 @@ const GET: Case = Case {
         Act::Connects,
         Act::Sends(Side::Client, b"GET / HTTP/1.1\r\nHost: a\r\n\r\n"),
     ],
-    client: b"",
-    upstream: b"",
-    ending: b"session 0: client fault: frame 1: length -1\n",
+    shown: Shown {
+        client: b"",
+        upstream: b"",
+        ending: b"session 0: client fault: frame 1: length -1\n",
+    },
 };
 
 /// A POST with a oneway message gets a response without content, before anything else is handed out; and the upstream has no frames.
@@ -212,80 +228,73 @@ const ONEWAY_POST: Case = Case {
         ),
         Act::Sends(Side::Upstream, b"\x82\x41\x01\x04ping\0"),
     ],
-    client: b"HTTP/1.1 200 OK\r\nContent-Type: application/x-thrift\r\nContent-Length: 0\r\n\r\nHTTP/1.1 200 OK\r\nContent-Type: application/x-thrift\r\nContent-Length: 17\r\n\r\n[1,\"ping\",2,1,{}]",
-    upstream: b"\x82\x81\x01\x04ping\0\x82\x21\x01\x04ping\0",
-    ending: b"session 0: clean\n",
+    shown: Shown {
+        client: b"HTTP/1.1 200 OK\r\nContent-Type: application/x-thrift\r\nContent-Length: 0\r\n\r\nHTTP/1.1 200 OK\r\nContent-Type: application/x-thrift\r\nContent-Length: 17\r\n\r\n[1,\"ping\",2,1,{}]",
+        upstream: b"\x82\x81\x01\x04ping\0\x82\x21\x01\x04ping\0",
+        ending: b"session 0: clean\n",
+    },
 };
 
-/// Runs a server over the acts of a case, and says whether it shows what the case tells.
-fn shows(alloc: Global, case: &Case, chunk: usize) -> Result<bool, OutOfMemory>
-    requires { 0 < chunk }
-{
-    let ran = play(alloc, case.line, CALC, case.acts, chunk)?;
-    Ok(
-        ran.code == 0
-            && ran.hub.sent_to(0, Side::Client) == case.client
-            && ran.hub.sent_to(0, Side::Upstream) == case.upstream
-            && ran.output.bytes() == case.ending
-            && ran.report.bytes().is_empty(),
-    )
+/// Whether the session of each case shows what the case tells, moved by bytes and in pieces.
+fn are_shown(alloc: Global, cases: &[Case]) -> Result<bool, OutOfMemory> {
+    let mut are_shown = true;
+    for case in cases {
+        let by_bytes = shows(alloc, case.line, CALC, case.acts, 1, &case.shown)?;
+        let in_pieces = shows(alloc, case.line, CALC, case.acts, 4096, &case.shown)?;
+        are_shown = are_shown && by_bytes && in_pieces;
+    }
+    Ok(are_shown)
 }
 
 #[test]
 fn sessions_are_served(rt: HostRuntime) -> Result<(), Fail> {
-    for case in [IN_PLACE, BY_NAME, UNANSWERED, WRONG_WAY, ONE_AT_A_TIME] {
-        for chunk in [1, 4096] {
-            let is_shown = shows(rt.alloc(), &case, chunk).ok().ok_or("memory")?;
-            assert!(rt; is_shown, "{:?} at {chunk}", case.ending);
-        }
-    }
+    let cases = [IN_PLACE, BY_NAME, UNANSWERED, WRONG_WAY, ONE_AT_A_TIME];
+    assert!(rt; are_shown(rt.alloc(), &cases).ok().ok_or("memory")?);
     Ok(())
 }
 
 #[test]
 fn peers_without_frames_are_served(rt: HostRuntime) -> Result<(), Fail> {
-    for case in [WITHOUT_FRAMES, WITHOUT_AN_END, ANSWERS_WITHOUT_FRAMES] {
-        for chunk in [1, 4096] {
-            let is_shown = shows(rt.alloc(), &case, chunk).ok().ok_or("memory")?;
-            assert!(rt; is_shown, "{:?} at {chunk}", case.ending);
-        }
-    }
+    let cases = [WITHOUT_FRAMES, WITHOUT_AN_END, ANSWERS_WITHOUT_FRAMES];
+    assert!(rt; are_shown(rt.alloc(), &cases).ok().ok_or("memory")?);
     Ok(())
 }
 
 #[test]
 fn clients_that_send_posts_are_served(rt: HostRuntime) -> Result<(), Fail> {
-    for case in [POSTS, GET, ONEWAY_POST] {
-        for chunk in [1, 4096] {
-            let is_shown = shows(rt.alloc(), &case, chunk).ok().ok_or("memory")?;
-            assert!(rt; is_shown, "{:?} at {chunk}", case.ending);
-        }
-    }
+    let cases = [POSTS, GET, ONEWAY_POST];
+    assert!(rt; are_shown(rt.alloc(), &cases).ok().ok_or("memory")?);
     Ok(())
 }
 
-/// Two connections where one session may be open.
-fn crowd(alloc: Global) -> Result<Ran, OutOfMemory> {
+/// An outside with two connections.
+fn crowd(alloc: Global) -> Result<Outside, OutOfMemory> {
     let mut steps = HubSteps::new(alloc);
     steps.push(HubStep::Connect)?;
     steps.push(HubStep::Connect)?;
+    let hub = MemHub::new(alloc, steps, 1)?;
     let mut outside = with_input(alloc, b"")?;
-    outside.hub = MemHub::new(alloc, steps, 1)?;
-    run_line(
+    outside.hub = hub;
+    Ok(outside)
+}
+
+/// Whether a server of one session tells of the second that it is one too many.
+fn is_crowded(alloc: Global) -> Result<bool, OutOfMemory> {
+    let mut outside = crowd(alloc)?;
+    ends_as(
         alloc,
         b"serve binary compact 127.0.0.1:1 127.0.0.1:2 --sessions 1",
-        outside,
+        &mut outside,
+        &Ending {
+            code: 0,
+            output: b"session 1: full\nsession 0: left open\n",
+            report: b"",
+        },
     )
 }
 
 #[test]
 fn one_session_too_many_is_full(rt: HostRuntime) -> Result<(), Fail> {
-    let ran = crowd(rt.alloc()).ok().ok_or("memory")?;
-    assert_eq!(rt; ran.code, 0);
-    assert_eq!(rt;
-        ran.output.bytes(),
-        b"session 1: full\nsession 0: left open\n".as_slice()
-    );
-    assert_eq!(rt; ran.report.bytes(), b"".as_slice());
+    assert!(rt; is_crowded(rt.alloc()).ok().ok_or("memory")?);
     Ok(())
 }

@@ -174,7 +174,36 @@ fn feed<J: Judge>(
     Ok(())
 }
 
-/// Whether a session shows what the row tells, fed in pieces of this size while so many bytes are sent at a time.
+/// Whether a session does what the row tells, fed in pieces of this size while so many bytes are sent at a time.
+fn goes_so<J: Judge>(
+    session: &mut Session<J>,
+    seen: &mut Seen,
+    row: &Row,
+    piece: usize,
+    most: usize,
+) -> Result<bool, OutOfMemory>
+    requires { 0 < piece }
+{
+    for (side, bytes, client, upstream) in row.steps {
+        feed(session, *side, bytes, seen, piece, most)?;
+        let is_so = Some(seen.client.as_slice()) == row.answers.get(..*client)
+            && Some(seen.upstream.as_slice()) == row.passed.get(..*upstream);
+        if !is_so {
+            return Ok(false);
+        }
+    }
+    for side in row.ends {
+        session.end(*side);
+    }
+    Ok(
+        seen.held <= BOUND
+            && seen.client.as_slice() == row.answers
+            && seen.upstream.as_slice() == row.passed
+            && session.outcome() == row.outcome,
+    )
+}
+
+/// The same of a session that is opened for it.
 fn shows(
     alloc: Global,
     schema: &Schema,
@@ -198,23 +227,7 @@ fn shows(
         upstream: Vec::new(alloc),
         held: 0,
     };
-    let mut is_so = true;
-    for (side, bytes, client, upstream) in row.steps {
-        feed(&mut session, *side, bytes, &mut seen, piece, most)?;
-        is_so = is_so
-            && Some(seen.client.as_slice()) == row.answers.get(..*client)
-            && Some(seen.upstream.as_slice()) == row.passed.get(..*upstream);
-    }
-    for side in row.ends {
-        session.end(*side);
-    }
-    Ok(
-        is_so
-            && seen.held <= BOUND
-            && seen.client.as_slice() == row.answers
-            && seen.upstream.as_slice() == row.passed
-            && session.outcome() == row.outcome,
-    )
+    goes_so(&mut session, &mut seen, row, piece, most)
 }
 
 /// The declarations of the service `Calc`.
@@ -224,19 +237,40 @@ fn declared(alloc: Global) -> Option<Schema> {
     open_idl(alloc, &mut files, b"m.thrift").ok()
 }
 
+/// Whether the session of each row shows what the row tells.
+fn are_shown(
+    alloc: Global,
+    schema: &Schema,
+    rows: &[Row],
+    piece: usize,
+    most: usize,
+) -> Result<bool, OutOfMemory>
+    requires { 0 < piece }
+{
+    let mut are_shown = true;
+    for row in rows {
+        let is_shown = shows(alloc, schema, row, piece, most)?;
+        are_shown = are_shown && is_shown;
+    }
+    Ok(are_shown)
+}
+
+fn go_by_bytes_or_whole(alloc: Global, schema: &Schema) -> Result<bool, OutOfMemory> {
+    let rows = [REFUSED, IN_PLACE, BY_NAME, UNANSWERED, WRONG_WAY, NO_LENGTH];
+    Ok(
+        are_shown(alloc, schema, &rows, 4096, 4096)?
+            && are_shown(alloc, schema, &rows, 4096, 1)?
+            && are_shown(alloc, schema, &rows, 1, 4096)?
+            && are_shown(alloc, schema, &rows, 1, 1)?,
+    )
+}
+
 #[test]
 fn sessions_go_by_bytes_or_whole(rt: HostRuntime) -> Result<(), Fail> {
     let schema = declared(rt.alloc()).ok_or("a schema")?;
-    let rows = [REFUSED, IN_PLACE, BY_NAME, UNANSWERED, WRONG_WAY, NO_LENGTH];
-    for row in &rows {
-        for piece in [4096, 1] {
-            for most in [4096, 1] {
-                let is_shown = shows(rt.alloc(), &schema, row, piece, most)
-                    .ok()
-                    .ok_or("memory")?;
-                assert!(rt; is_shown, "{:?} by {piece} and {most}", row.outcome);
-            }
-        }
-    }
+    let is_so = go_by_bytes_or_whole(rt.alloc(), &schema)
+        .ok()
+        .ok_or("memory")?;
+    assert!(rt; is_so);
     Ok(())
 }

@@ -1,7 +1,7 @@
 //! The commands `check`, `convert` and `conform` on small inputs, and a body there and back.
 ghost use Rattle.std.specs.Prelude.{◌≤◌, length};
 
-use crate::outside::{Outside, Ran, run_line, with_input};
+use crate::outside::{Ending, Outside, ends_as, with_input};
 use gate_base::OutOfMemory;
 use std::alloc::Global;
 use std::test::*;
@@ -18,43 +18,63 @@ const COMPACT: [u8; 13] = *b"\0\0\0\x09\x82\x21\x01\x04ping\0";
 const BYTES: [u8; 30] =
     *b"\0\0\0\x1a\x80\x01\0\x01\0\0\0\x04ping\0\0\0\x01\x0b\0\x01\0\0\0\x02AB\0";
 
-/// Runs a command where `a.thrift` holds this text.
-fn with_idl<'i>(
+/// Whether a command ends so where `a.thrift` holds this text.
+fn ends_with_idl(
     alloc: Global,
     line: &[u8],
     text: &[u8],
-    input: &'i [u8],
-) -> Result<Ran, OutOfMemory>
+    outside: &mut Outside,
+    ending: &Ending<'_>,
+) -> Result<bool, OutOfMemory>
     requires { length text.now ≤ 16777216 }
 {
-    let mut outside: Outside<'i> = with_input(alloc, input)?;
     outside.files.put(b"a.thrift", text)?;
-    run_line(alloc, line, outside)
+    ends_as(alloc, line, outside, ending)
+}
+
+/// The same with this input.
+fn ends_so(
+    alloc: Global,
+    line: &[u8],
+    text: &[u8],
+    input: &[u8],
+    ending: Ending<'_>,
+) -> Result<bool, OutOfMemory>
+    requires { length text.now ≤ 16777216 }
+{
+    let mut outside = with_input(alloc, input)?;
+    ends_with_idl(alloc, line, text, &mut outside, &ending)
 }
 
 #[test]
 fn the_smallest_call_is_converted(rt: HostRuntime) -> Result<(), Fail> {
-    let ran = with_idl(rt.alloc(), b"convert binary compact", b"", &CALL)
-        .ok()
-        .ok_or("memory")?;
-    assert_eq!(rt; ran.code, 0);
-    assert_eq!(rt; ran.output.bytes(), COMPACT.as_slice());
-    assert_eq!(rt; ran.output.refused(), 0);
-    assert_eq!(rt; ran.report.bytes(), b"".as_slice());
+    let ending = Ending {
+        code: 0,
+        output: &COMPACT,
+        report: b"",
+    };
+    let line = b"convert binary compact";
+    assert!(rt;
+        ends_so(rt.alloc(), line, b"", &CALL, ending)
+            .ok()
+            .ok_or("memory")?
+    );
     Ok(())
 }
 
 #[test]
 fn a_refused_idl_is_told(rt: HostRuntime) -> Result<(), Fail> {
     let text = b"struct S { 1: i32 a, 1: i32 b }";
-    let ran = with_idl(rt.alloc(), b"check a.thrift", text, b"")
-        .ok()
-        .ok_or("memory")?;
-    assert_eq!(rt; ran.code, 1);
-    assert_eq!(rt; ran.output.bytes(), b"".as_slice());
-    assert_eq!(rt;
-        ran.report.bytes(),
-        b"a.thrift:21: I12 duplicate field id\n".as_slice()
+    let ending = Ending {
+        code: 1,
+        output: b"",
+        report: b"a.thrift:21: I12 duplicate field id\n",
+    };
+    let line = b"check a.thrift";
+    assert!(rt;
+        ends_so(rt.alloc(), line, text, b"", ending)
+            .ok()
+            .ok_or("memory")?
     );
     Ok(())
 }
@@ -62,48 +82,49 @@ fn a_refused_idl_is_told(rt: HostRuntime) -> Result<(), Fail> {
 #[test]
 fn bytes_go_to_json_as_they_are_declared(rt: HostRuntime) -> Result<(), Fail> {
     let text = b"service S { void ping(1: binary b) }";
+    let ending = Ending {
+        code: 0,
+        output: b"\0\0\0\x22[1,\"ping\",1,1,{\"1\":{\"str\":\"QUI\"}}]",
+        report: b"",
+    };
     let line = b"convert binary json --idl a.thrift";
-    let ran = with_idl(rt.alloc(), line, text, &BYTES)
-        .ok()
-        .ok_or("memory")?;
-    assert_eq!(rt; ran.code, 0);
-    assert_eq!(rt;
-        ran.output.bytes(),
-        b"\0\0\0\x22[1,\"ping\",1,1,{\"1\":{\"str\":\"QUI\"}}]".as_slice()
+    assert!(rt;
+        ends_so(rt.alloc(), line, text, &BYTES, ending)
+            .ok()
+            .ok_or("memory")?
     );
-    assert_eq!(rt; ran.report.bytes(), b"".as_slice());
+    Ok(())
+}
+
+/// Whether the call `ping` is checked so by these declarations.
+fn is_checked(alloc: Global, text: &[u8], ending: Ending<'_>) -> Result<bool, OutOfMemory>
+    requires { length text.now ≤ 16777216 }
+{
+    let line = b"conform compact --idl a.thrift";
+    ends_so(alloc, line, text, &COMPACT, ending)
+}
+
+#[test]
+fn a_message_meets_its_declarations(rt: HostRuntime) -> Result<(), Fail> {
+    let ending = Ending {
+        code: 0,
+        output: b"frame 1: meets\n",
+        report: b"",
+    };
+    let text = b"service S { void ping() }";
+    assert!(rt; is_checked(rt.alloc(), text, ending).ok().ok_or("memory")?);
     Ok(())
 }
 
 #[test]
-fn a_message_is_checked_against_its_declarations(rt: HostRuntime) -> Result<(), Fail> {
-    let rows = [
-        (
-            b"service S { void ping() }".as_slice(),
-            0,
-            b"frame 1: meets\n".as_slice(),
-            b"".as_slice(),
-        ),
-        (
-            b"service Calc { string name() }",
-            1,
-            b"",
-            b"frame 1: at .: M1 unknown method\n",
-        ),
-    ];
-    for (text, code, output, report) in rows {
-        let ran = with_idl(
-            rt.alloc(),
-            b"conform compact --idl a.thrift",
-            text,
-            &COMPACT,
-        )
-        .ok()
-        .ok_or("memory")?;
-        assert_eq!(rt; ran.code, code);
-        assert_eq!(rt; ran.output.bytes(), output);
-        assert_eq!(rt; ran.report.bytes(), report);
-    }
+fn a_breach_of_the_declarations_is_told(rt: HostRuntime) -> Result<(), Fail> {
+    let ending = Ending {
+        code: 1,
+        output: b"",
+        report: b"frame 1: at .: M1 unknown method\n",
+    };
+    let text = b"service Calc { string name() }";
+    assert!(rt; is_checked(rt.alloc(), text, ending).ok().ok_or("memory")?);
     Ok(())
 }
 

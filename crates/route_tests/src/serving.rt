@@ -1,5 +1,5 @@
 //! Routed sessions over a fan in memory: what each port is sent, and how the session ends.
-ghost use Rattle.std.specs.Prelude.{◌≡◌, ◌<◌, None};
+ghost use Rattle.std.specs.Prelude.{◌≡◌, ◌<◌, ◌≤◌, length, None};
 
 use gate_base::{OutOfMemory, Text};
 use gate_fan::{Fan, Target};
@@ -232,32 +232,54 @@ fn undeclared(alloc: Global) -> Result<Schema, OutOfMemory> {
     Ok(SchemaBuilder::new(alloc)?.finish(0))
 }
 
-/// Whether a server over a fan that moves so many bytes in a call shows what the row tells.
+/// Starts the fan and serves its sessions, and says whether the server stops since no event will follow.
+fn serves(
+    alloc: Global,
+    schema: &Schema,
+    targets: &[Target],
+    fan: &mut MemFan,
+    output: &mut MemSink,
+) -> bool
+    requires some { 0 < length targets.now }
+    requires few { length targets.now ≤ 16 }
+{
+    if fan.start(alloc, b"127.0.0.1:0", targets, 0, 1) != Began::Done {
+        return false;
+    }
+    let served = route_serve(alloc, &setup(schema), targets, 4, 1000, fan, output);
+    served == Served::Stopped
+}
+
+/// Whether the ports were sent what the row tells, and its line was written.
+fn is_as(fan: &MemFan, output: &MemSink, row: &Row) -> bool {
+    output.bytes() == row.line
+        && fan.sent_to(0, 0) == row.sent[0]
+        && fan.sent_to(0, 1) == row.sent[1]
+        && fan.sent_to(0, 2) == row.sent[2]
+}
+
+/// Whether a server over this fan shows what the row tells.
+fn is_shown(
+    alloc: Global,
+    schema: &Schema,
+    row: &Row,
+    targets: &[Target],
+    fan: &mut MemFan,
+) -> Result<bool, OutOfMemory>
+    requires some { 0 < length targets.now }
+    requires few { length targets.now ≤ 16 }
+{
+    let mut output = MemSink::new(alloc, 4096, Fails::new(alloc))?;
+    Ok(serves(alloc, schema, targets, fan, &mut output) && is_as(fan, &output, row))
+}
+
+/// The same over a fan that moves so many bytes in a call.
 fn shows(alloc: Global, schema: &Schema, row: &Row, chunk: usize) -> Result<bool, OutOfMemory>
     requires { 0 < chunk }
 {
     let targets = [target(alloc, b"Calc")?, target(alloc, b"Log")?];
     let mut fan = MemFan::new(alloc, steps(alloc, row.events)?, chunk)?;
-    let mut output = MemSink::new(alloc, 4096, Fails::new(alloc))?;
-    if fan.start(alloc, b"127.0.0.1:0", &targets, 0, 1) != Began::Done {
-        return Err(OutOfMemory);
-    }
-    let served = route_serve(
-        alloc,
-        &setup(schema),
-        &targets,
-        4,
-        1000,
-        &mut fan,
-        &mut output,
-    );
-    Ok(
-        served == Served::Stopped
-            && output.bytes() == row.line
-            && fan.sent_to(0, 0) == row.sent[0]
-            && fan.sent_to(0, 1) == row.sent[1]
-            && fan.sent_to(0, 2) == row.sent[2],
-    )
+    is_shown(alloc, schema, row, &targets, &mut fan)
 }
 
 /// Whether every row is shown, by calls of any size and by calls of a byte each.
@@ -280,13 +302,8 @@ fn letters(alloc: Global) -> Result<Vec<Target>, OutOfMemory> {
     Ok(targets)
 }
 
-/// Whether a call of the service with this letter reaches that port.
-fn reaches(alloc: Global, letter: u8, port: usize) -> Result<bool, OutOfMemory> {
-    let schema = undeclared(alloc)?;
-    let targets = letters(alloc)?;
-    if targets.is_empty() || targets.len() > 16 {
-        return Ok(false);
-    }
+/// A fan whose one client sends a call of the service with this letter.
+fn calling(alloc: Global, letter: u8) -> Result<MemFan, OutOfMemory> {
     let call = [
         0, 0, 0, 0x10, 0x80, 1, 0, 1, 0, 0, 0, 3, letter, b':', b'a', 0, 0, 0, 1, 0,
     ];
@@ -296,21 +313,53 @@ fn reaches(alloc: Global, letter: u8, port: usize) -> Result<bool, OutOfMemory> 
         port: 0,
         bytes: Text::new(alloc, &call)?,
     })?;
-    let mut fan = MemFan::new(alloc, steps, 4096)?;
+    MemFan::new(alloc, steps, 4096)
+}
+
+/// Whether the call reaches that port of a server over these targets.
+fn is_reached(
+    alloc: Global,
+    schema: &Schema,
+    targets: &[Target],
+    fan: &mut MemFan,
+    port: usize,
+) -> Result<bool, OutOfMemory>
+    requires some { 0 < length targets.now }
+    requires few { length targets.now ≤ 16 }
+{
     let mut output = MemSink::new(alloc, 4096, Fails::new(alloc))?;
-    if fan.start(alloc, b"127.0.0.1:0", &targets, 0, 1) != Began::Done {
-        return Err(OutOfMemory);
+    Ok(serves(alloc, schema, targets, fan, &mut output) && fan.sent_to(0, port) == TO_LOG)
+}
+
+/// Whether a call of the service with this letter reaches that port.
+fn reaches(
+    alloc: Global,
+    schema: &Schema,
+    targets: &[Target],
+    letter: u8,
+    port: usize,
+) -> Result<bool, OutOfMemory> {
+    if targets.is_empty() || targets.len() > 16 {
+        return Ok(false);
     }
-    let served = route_serve(
-        alloc,
-        &setup(&schema),
-        &targets,
-        4,
-        1000,
-        &mut fan,
-        &mut output,
-    );
-    Ok(served == Served::Stopped && fan.sent_to(0, port) == TO_LOG)
+    let mut fan = calling(alloc, letter)?;
+    is_reached(alloc, schema, targets, &mut fan, port)
+}
+
+/// Whether a call of the service of each of these targets reaches it.
+fn all_reached(alloc: Global, schema: &Schema, targets: &[Target]) -> Result<bool, OutOfMemory> {
+    let mut are_reached = true;
+    for (at, letter) in (b'A'..=b'P').enumerate() {
+        let is_reached = reaches(alloc, schema, targets, letter, at.saturating_add(1))?;
+        are_reached = are_reached && is_reached;
+    }
+    Ok(are_reached)
+}
+
+fn sixteen_are_reached(alloc: Global) -> Result<bool, OutOfMemory> {
+    let schema = undeclared(alloc)?;
+    let targets = letters(alloc)?;
+    all_reached(alloc, &schema, &targets)
 }
 
 #[test]
@@ -333,11 +382,6 @@ fn a_bad_peer_ends_its_session(rt: HostRuntime) -> Result<(), Fail> {
 
 #[test]
 fn a_call_reaches_each_of_sixteen_targets(rt: HostRuntime) -> Result<(), Fail> {
-    for at in 0..16 {
-        let is_reached = reaches(rt.alloc(), b'A' + at, 1 + at as usize)
-            .ok()
-            .ok_or("memory")?;
-        assert!(rt; is_reached, "{at}");
-    }
+    assert!(rt; sixteen_are_reached(rt.alloc()).ok().ok_or("memory")?);
     Ok(())
 }

@@ -1,7 +1,8 @@
 //! The judge of a router's frames: between two protocols, and to which target a message goes.
 ghost use Rattle.std.specs.Prelude.{◌≡◌, ◌+◌, ◌^◌, ◌<◌, ◌≤◌, [], ◌++◌, length, take, drop, true, Some, IfOk};
 ghost use Rattle.framed_transport.specs.Frames.{framed};
-ghost use Rattle.session_core.specs.Rooms.{room_for, due_room};
+ghost use Rattle.protocol_traits.specs.Room.{room_for};
+ghost use Rattle.session_core.specs.Rooms.{due_room};
 ghost use Rattle.session_judge.specs.Client.{of_client, onward};
 ghost use Rattle.service_router.specs.Routing.{server_of};
 ghost use Rattle.service_router.specs.Setups.{routing_of};

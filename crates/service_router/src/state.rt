@@ -26,6 +26,7 @@ use gate_base::OutOfMemory;
 use gate_io::Out;
 use session_core::{
     Call, ClientJudged, Halt, MOST_CALLS, SessionStep, Standstill, UpstreamJudged, Waiting,
+    due_room,
 };
 use std::alloc::Global;
 use translate_core::Cause;
@@ -69,7 +70,7 @@ impl State {
         ensures unknown { IfOk result (λ s. s.known ≡ None) }
     {
         let calls = HeapCircularBuffer::with_capacity(alloc, max_calls)?;
-        let (to_client, to_upstream) = open_outputs(alloc, 24 * limit + 260)?;
+        let (to_client, to_upstream) = open_outputs(alloc, due_room(limit))?;
         let (client, ports) = open_inboxes(alloc, limit, targets)?;
         Ok(State {
             client,

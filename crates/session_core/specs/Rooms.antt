@@ -1,10 +1,7 @@
 -- How much room what is written takes at the most.
-use Rattle.std.specs.Prelude.{ℕ, ◌+◌, ◌*◌}
+use Rattle.std.specs.Prelude.{ℕ, ◌+◌}
+use Rattle.protocol_traits.specs.Room.{room_for}
 
--- for what is written for a frame of so many bytes, in any protocol
-abbrev pub room_for : ℕ → ℕ
-room_for n = 24 * n + 256
-
--- for the same as a frame, with its length
+-- what is written for a frame of so many bytes, in any protocol, as a frame with its length
 abbrev pub due_room : ℕ → ℕ
-due_room n = 24 * n + 260
+due_room n = room_for n + 4

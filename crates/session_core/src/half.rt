@@ -70,8 +70,8 @@ impl Half {
     }
 }
 
-/// The room for what is due to a side: an answer to the longest frame, with its length.
-fn due_room(limit: usize) -> usize
+/// The room for what is due to a side: what is written for a frame of `limit` bytes, in any protocol, with its length.
+pub fn due_room(limit: usize) -> usize
     requires { limit < 2 ^ 24 }
     ensures { result ≡ due_room limit }
 {

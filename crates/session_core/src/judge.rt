@@ -1,6 +1,6 @@
 //! What a session asks of those who read its frames.
 ghost use Rattle.std.specs.Prelude.{◌≡◌, ℕ, ◌+◌, ◌≤◌, ◌++◌, length};
-ghost use Rattle.session_core.specs.Rooms.{room_for};
+ghost use Rattle.protocol_traits.specs.Room.{room_for};
 ghost use Rattle.session_core.specs.Rules.{Rules};
 
 use crate::outcome::Halt;

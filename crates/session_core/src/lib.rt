@@ -13,6 +13,7 @@ mod outcome;
 mod session;
 mod state;
 
+pub use half::due_room;
 pub use judge::{Call, ClientJudged, Judge, UpstreamJudged};
 pub use laws::{all_that_is_due_was_sent, what_is_due_is_one, what_was_sent_is_a_front};
 pub use outcome::{Halt, Outcome};

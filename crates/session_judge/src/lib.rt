@@ -4,12 +4,12 @@
 //! call. A refused call or reply is answered with an exception that tells the cause.
 #![tactic(auto)]
 
-mod judging;
-mod judging_replies;
+mod calls;
 mod pair;
+mod replies;
 mod setup;
 
-pub use judging::of_client;
-pub use judging_replies::judge_reply;
+pub use calls::of_client;
 pub use pair::PairJudge;
+pub use replies::judge_reply;
 pub use setup::{Setup, open};

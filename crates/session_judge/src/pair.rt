@@ -2,8 +2,8 @@
 ghost use Rattle.std.specs.Prelude.{◌≡◌, ◌^◌, ◌<◌, IfOk, IfSome, length};
 ghost use Rattle.session_judge.specs.Setups.{setting_of};
 
-use crate::judging::judge_client;
-use crate::judging_replies::judge_reply;
+use crate::calls::judge_client;
+use crate::replies::judge_reply;
 use crate::setup::Setup;
 use gate_base::OutOfMemory;
 use gate_io::Out;

@@ -3,7 +3,7 @@ use Rattle.translate_core.specs.declared.route.Route.TheVariants.{Answer}
 use Rattle.protocol_pairs.specs.Pairs.{judged, answered, headed}
 use Rattle.session_judge.specs.Upstream.{expected, tells_call}
 use Rattle.session_judge.proofs.Heads.{judged_type, upstream_wrong_way, nothing_back}
-use Rattle.session_judge.proofs.judging_replies.judge_reply.Goals as goal
+use Rattle.session_judge.proofs.replies.judge_reply.Goals as goal
 
 pub returns-then-tells_call-clause-verdict : goal.returns-then-tells_call-clause-verdict
 returns-then-tells_call-clause-verdict c =

@@ -3,7 +3,7 @@ use Rattle.translate_core.specs.declared.route.Route.TheVariants.{ByName}
 use Rattle.protocol_pairs.specs.Pairs.{judged, headed}
 use Rattle.session_judge.specs.Client.{tells_answer, of_client}
 use Rattle.session_judge.proofs.Heads.{judged_type, client_wrong_way, nothing_onward}
-use Rattle.session_judge.proofs.judging.judge_client.Goals as goal
+use Rattle.session_judge.proofs.calls.judge_client.Goals as goal
 
 pub returns-then-tells_answer-clause-verdict : goal.returns-then-tells_answer-clause-verdict
 returns-then-tells_answer-clause-verdict c =

@@ -1,7 +1,7 @@
 //! What becomes of a frame of the client.
 ghost use Rattle.std.specs.Prelude.{◌≡◌, ◌+◌, ◌^◌, ◌<◌, ◌≤◌, ◌++◌, length, take, drop, IfSome};
 ghost use Rattle.protocol_pairs.specs.Pairs.{judged};
-ghost use Rattle.session_core.specs.Rooms.{room_for};
+ghost use Rattle.protocol_traits.specs.Room.{room_for};
 ghost use Rattle.session_judge.specs.Client.{is_answered, call_of, passed_on, refused, tells_answer, of_client, onward, output_of};
 
 use gate_io::Out;

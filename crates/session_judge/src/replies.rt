@@ -2,7 +2,7 @@
 ghost use Rattle.std.specs.Prelude.{◌≡◌, ◌+◌, ◌^◌, ◌<◌, ◌≤◌, ◌++◌, length, take, drop};
 ghost use Rattle.translate_core.specs.Routes.{IsKnownRoute};
 ghost use Rattle.protocol_pairs.specs.Pairs.{judged, answered};
-ghost use Rattle.session_core.specs.Rooms.{room_for};
+ghost use Rattle.protocol_traits.specs.Room.{room_for};
 ghost use Rattle.session_judge.specs.Upstream.{expected, tells_call, of_type, of_upstream, back, reply_bytes};
 
 use gate_io::Out;
