@@ -93,6 +93,6 @@ module _ (d : Declarations) (service : Option ServiceId) (frame : List ℕ) (sma
           let u = message_uniform d service m.0 frame m.4 in
           either JsonHead (SpellsBy d (ByName service) protocols.Json) (JsonFault d (ByName service)) d service frame m.0 _ m.4 m.3 u
           (is ∙ here ∙ ap found (body_first d (body_of d (ByName service) (header_of_message m.0)) m.0.body u))
-      by_outcome (IsCut f header items first last headed read refuses) = json_cut f header items first last headed read (fault_behind d (ByName service) frame f header items first last headed read refuses) refuses
+      by_outcome (IsCut f header items first last headed read refuses) = json_cut f header items first last headed read (fault_behind d (ByName service) frame f header items first last small headed read refuses) refuses
       by_outcome (IsHeadless f e) =
-          TellsNoHeader f (λ header front rest laid spells. json_none frame header f e (front, rest, laid, spells)) (fault_before d (ByName service) frame f e) (checked_unread json_source levels nested d service frame f e)
+          TellsNoHeader f (λ header front rest laid spells. json_none frame header f e (front, rest, laid, spells)) (fault_before d (ByName service) frame f small e) (checked_unread json_source levels nested d service frame f e)

@@ -1,9 +1,7 @@
 -- What one value's scan has read is a value of the grammar, or the begin of one.
-use Rattle.std.proofs.Common.{◌≡◌, ℕ, ℤ, zero, suc, pos, negsuc, ◌<◌, ◌≤◌, Bool, true, List, [], ◌∷◌, ◌++◌, drop, refl, ap, ◌∙◌, sym, subst, arith, ◌⊎◌, inl, inr}
+use Rattle.std.proofs.Common.{◌≡◌, ℕ, zero, suc, pos, negsuc, ◌<◌, ◌≤◌, Bool, true, List, [], ◌∷◌, ◌++◌, drop, refl, ap, ◌∙◌, sym, subst, arith, ◌⊎◌, inl, inr}
 use Rattle.std.specs.Prelude.{int_lt}
 use Rattle.std.specs.Fmt.{decimal}
-use Rattle.std.proofs.lemmas.Bool.Decides.{nat_tests}
-use Rattle.std.proofs.lemmas.Fmt.{decimal_digit}
 use Rattle.thrift_value.specs.declared.kind.Kind.{Kind}
 use Rattle.thrift_value.specs.declared.kind.Kind.TheVariants as kinds
 use Rattle.thrift_value.specs.Items.{Item, bool_value, i8_value, i16_value, i32_value, i64_value, text, number_text, unknown_text, struct_begin, empty_map, map_begin, set_begin, list_begin}
@@ -33,8 +31,8 @@ use Rattle.json_laws.specs.Fronts.{SpellsValue}
 use Rattle.json_laws.proofs.Marks.{Lies}
 use Rattle.json_laws.proofs.Places.{IsOf, Holds, list_holds, set_holds, HoldsPairs, map_holds, at_type}
 use Rattle.json_laws.proofs.Inverse.{is_read, same_read, no_fault, bound, Token, token_lies, mark_back}
-use Rattle.json_laws.proofs.WordsBack.{IsInt, IsWhole, whole_back, text_back, blob_back, double_back}
-use Rattle.json_laws.proofs.ItemsBack.{range_flag, range_8, range_16, range_32, range_64, mark_first, decimal_of, sequence_back, MapHeadRead, map_head_back, no_pairs_back}
+use Rattle.json_laws.proofs.WordsBack.{IsWhole, whole_back, text_back, blob_back, double_back}
+use Rattle.json_laws.proofs.ItemsBack.{range_flag, range_8, range_16, range_32, range_64, mark_first, flag_digits, sequence_back, MapHeadRead, map_head_back, no_pairs_back}
 use Rattle.json_laws.proofs.Levels.{IsTree, Level as Held}
 
 module _ (d : Declarations) where
@@ -52,13 +50,13 @@ module _ (d : Declarations) where
   IsGood (slots.Value k id) = ⊥
   IsGood slot = Unit {0}
 
-  module _ (depth : ℕ) (key : Bool) (ty : Ty) where
+  module _ (limit depth : ℕ) (key : Bool) (ty : Ty) where
     -- a whole value
     pub record Leaf (k : Kind) (item : Item) (tokens : Tokens) : Type 0 where
       pub spends : (nest : List Slot) → after item nest ≡ spent nest
       pub old : opening_after item ≡ openings.Old
       pub moves : (outer : List Level) → position_after (at_type d outer ty) item ≡ standing d (passed outer)
-      pub tree : IsTree d depth key ty k (item ∷ []) tokens
+      pub tree : IsTree d limit depth key ty k (item ∷ []) tokens
 
     -- one that opens a level and is whole with what that holds
     pub record Opened (k : Kind) (item : Item) (tokens : Tokens) : Type 0 where
@@ -69,7 +67,7 @@ module _ (d : Declarations) where
       pub moves : (outer : List Level) → position_after (at_type d outer ty) item ≡ standing d (level ∷ passed outer)
       pub tied : TiedOne slot level ty
       pub good : IsGood slot
-      pub tree : (mine : List Item) (a : Tokens) → Held d openings.New ty slot (suc depth) mine a → IsTree d depth key ty k (item ∷ mine) (tokens ++ a)
+      pub tree : (mine : List Item) (a : Tokens) → Held d limit openings.New ty slot (suc depth) mine a → IsTree d limit depth key ty k (item ∷ mine) (tokens ++ a)
 
     pub record ValueRead (k : Kind) (bytes : List ℕ) (item : Item) (taken : ℕ) : Type 0 where
       pub first : List ℕ
@@ -89,13 +87,7 @@ module _ (d : Declarations) where
 
     -- ---- values with no level
 
-    flag_digits : (z : ℤ) (digits : List ℕ) → IsInt (pos 0) (pos 1) z digits → digits ≡ flag (int_lt (pos 0) z)
-    flag_digits (pos zero) digits i = decimal_of 0 digits i.spells (omega arith) ∙ decimal_digit 0 (omega arith)
-    flag_digits (pos (suc zero)) digits i = decimal_of 1 digits i.spells (omega arith) ∙ decimal_digit 1 (omega arith)
-    flag_digits (pos (suc (suc n))) digits i = let most = i.most in absurd (grind (arith, nat_tests))
-    flag_digits (negsuc n) digits i = let least = i.least in absurd (grind (arith, nat_tests))
-
-    module _ (most : depth ≤ 256) (bytes : List ℕ) (item : Item) (taken : ℕ) where
+    module _ (least : 256 ≤ limit) (most : depth ≤ 256) (bytes : List ℕ) (item : Item) (taken : ℕ) where
       bool_next : bool_at key bytes ≡ is_read (item, taken) → ValueRead kinds.Bool bytes item taken
       unfolding bool_at
       bool_next e =

@@ -91,7 +91,7 @@ mark_cuts m bytes =
     by_test (length bytes) (nat_lt (length bytes) 1) _ _ (λ t u. grind (arith, nat_tests))
     (λ t. by_test (length bytes) (slice_index bytes 0 == m) _ _ (λ q. grind (arith, nat_tests)) (λ q. bad (length bytes) 0 reasons.BadToken (λ e. absurd (cc))))
 
-further_mark : (m n : ℕ) (bytes : List ℕ) → n ≤ length bytes → Cuts (length bytes) (further n (mark_at m) bytes)
+pub further_mark : (m n : ℕ) (bytes : List ℕ) → n ≤ length bytes → Cuts (length bytes) (further n (mark_at m) bytes)
 further_mark m n bytes most = further_cuts n (mark_at m) bytes most (mark_cuts m)
 
 -- ---- words
@@ -305,7 +305,7 @@ pairs_cuts bytes =
 gap_cuts : (bytes : List ℕ) → gap bytes ≤ length bytes
 gap_cuts bytes = run_most is_white bytes
 
-leads_cut : (opening : Opening) (slot : Slot) (bytes : List ℕ) → Cuts (length bytes) (lead_at opening slot bytes)
+pub leads_cut : (opening : Opening) (slot : Slot) (bytes : List ℕ) → Cuts (length bytes) (lead_at opening slot bytes)
 unfolding lead_at lead_fields lead_key
 leads_cut openings.Body (slots.Fields last) bytes = lead_cuts 123 bytes
 leads_cut openings.New (slots.Fields last) bytes = gap_cuts bytes

@@ -27,7 +27,7 @@ use Rattle.json_protocol.specs.Head.{reads_head, reads_end}
 use Rattle.json_protocol.specs.Grammar.{mark, SpellsMessage}
 use Rattle.binary_laws.specs.Reads.{header_of_message}
 use Rattle.json_laws.specs.Positions.{declared_of, body_of}
-use Rattle.json_laws.specs.Reads.{Reads}
+use Rattle.json_laws.specs.Reads.{Reads, IsRead}
 use Rattle.json_laws.specs.Refused.{behind, Refuses, IsRefused}
 use Rattle.json_laws.proofs.Marks.{Lies}
 use Rattle.json_laws.proofs.Places.{start_is}
@@ -110,9 +110,10 @@ goes white (item ∷ items) s p (slot ∷ up) opening bytes end are a (place, ta
 
 -- ---- a whole frame
 
-pub deeper_refused : (d : Declarations) (body : Option StructId) (m : Message) (bytes : List ℕ) → SpellsMessage (declared_of d) (body_of body) m bytes → length bytes < 2 ^ 31 → 256 ≤ depth_of_members m.body
-    → (f : Fault) × IsRefused (start d body) bytes f × (f.reason ≡ reasons.TooDeep)
-deeper_refused d body m bytes spelled small deep =
+-- A message of any depth is read, or its bytes are refused for a value that lies too deep.
+pub spelled_goes : (d : Declarations) (body : Option StructId) (m : Message) (bytes : List ℕ) → SpellsMessage (declared_of d) (body_of body) m bytes
+    → IsRead (start d body) bytes (header_of_message m) (items_of_members m.body) ⊎ ((f : Fault) × IsRefused (start d body) bytes f × (f.reason ≡ reasons.TooDeep))
+spelled_goes d body m bytes spelled =
     let r = read_of d body m bytes [] spelled in
     let white = subst AreWhite (sym (append-nil r.0)) r.1 in
     let read = subst (Read d body m (r.0 ++ [])) (append-nil bytes) r.2 in
@@ -123,10 +124,19 @@ deeper_refused d body m bytes spelled small deep =
     let head = head_is bytes m read.place read.past read.head in
     by_outcome first head (goes (r.0 ++ []) (items_of_members m.body) first (start d body) (slots.Fields (pos 0) ∷ []) openings.Body (drop read.past bytes) (standing d []) white at walk)
   where
-    by_outcome : (first : State) → reads_head (begun bytes) ≡ Ok (header_of_message m, first) → Outcome (start d body) first (items_of_members m.body) → (f : Fault) × IsRefused (start d body) bytes f × (f.reason ≡ reasons.TooDeep)
-    by_outcome first head (inl (last, body_read, none, good)) =
-        let s = read_spelled d body bytes (header_of_message m) (items_of_members m.body) small (first, last, head, body_read, none, good) in
+    by_outcome : (first : State) → reads_head (begun bytes) ≡ Ok (header_of_message m, first) → Outcome (start d body) first (items_of_members m.body)
+        → IsRead (start d body) bytes (header_of_message m) (items_of_members m.body) ⊎ ((f : Fault) × IsRefused (start d body) bytes f × (f.reason ≡ reasons.TooDeep))
+    by_outcome first head (inl (last, body_read, none, good)) = inl (first, last, head, body_read, none, good)
+    by_outcome first head (inr (xs, halt, f, body_read, refuses, reason)) = inr (f, inr (header_of_message m, xs, first, halt, head, body_read, refuses), reason)
+
+pub deeper_refused : (d : Declarations) (body : Option StructId) (m : Message) (bytes : List ℕ) → SpellsMessage (declared_of d) (body_of body) m bytes → length bytes < 2 ^ 31 → 256 ≤ depth_of_members m.body
+    → (f : Fault) × IsRefused (start d body) bytes f × (f.reason ≡ reasons.TooDeep)
+deeper_refused d body m bytes spelled small deep = by_outcome (spelled_goes d body m bytes spelled)
+  where
+    by_outcome : IsRead (start d body) bytes (header_of_message m) (items_of_members m.body) ⊎ ((f : Fault) × IsRefused (start d body) bytes f × (f.reason ≡ reasons.TooDeep)) → (f : Fault) × IsRefused (start d body) bytes f × (f.reason ≡ reasons.TooDeep)
+    by_outcome (inl read) =
+        let s = read_spelled d body bytes (header_of_message m) (items_of_members m.body) small read in
         let one = one_message d body m s.0 bytes [] spelled (subst (SpellsMessage (declared_of d) (body_of body) s.0) (sym (append-nil bytes)) s.4) in
         let less = s.3 in
         absurd (omega (arith, deep, less, ap (λ (n : Message). depth_of_members n.body) one.0))
-    by_outcome first head (inr (xs, halt, f, body_read, refuses, reason)) = (f, inr (header_of_message m, xs, first, halt, head, body_read, refuses), reason)
+    by_outcome (inr refused) = refused

@@ -25,6 +25,8 @@ use Rattle.json_laws.specs.Refused.{behind}
 use Rattle.json_laws.proofs.Marks.{Lies, laid_lies, here, cut, cut_at, begins_some}
 use Rattle.json_laws.proofs.Trees.{tokens_append}
 use Rattle.json_laws.proofs.Spelled.{At, at_onward, head_read, head_is, headed_state}
+use Rattle.json_laws.proofs.Levels.{Ends}
+use Rattle.json_laws.proofs.Named.{AreNamed, named_after}
 use Rattle.json_laws.proofs.Stepping.{Stand}
 use Rattle.json_laws.proofs.Steps.{lead_append, stepped}
 use Rattle.json_laws.proofs.HeadBack.{head_back, name_back, end_scanned}
@@ -57,22 +59,24 @@ name_stands frame h first e =
 
 -- ---- items one behind another
 
-module _ (d : Declarations) where
+module _ (d : Declarations) (limit : ℕ) (least : 256 ≤ limit) where
   -- these items stand behind one another up to what is left
-  record Led (before : List Item) (p : Position) (nest : List Slot) (opening : Opening) (bytes : List ℕ) (s mid : State) : Type 0 where
-    tokens : Tokens
-    leads : Leads p nest opening before tokens
-    lies : (tail : List ℕ) (more : Tokens) → Lies tail more (rest mid) → Lies tail (tokens ++ more) bytes
-    levels : List Level
-    types : List Ty
-    stand : Stand d (behind p before) (levels_behind nest before) (opening_behind opening before) levels types
-    at : At mid (levels_behind nest before) (opening_behind opening before) (rest mid)
-    most : length (levels_behind nest before) ≤ 256
-    frame_is : mid.frame ≡ s.frame
-    small : length (rest mid) < 2 ^ 31
+  pub record Led (before : List Item) (p : Position) (nest : List Slot) (opening : Opening) (tys : List Ty) (bytes : List ℕ) (s mid : State) : Type 0 where
+    pub tokens : Tokens
+    pub leads : Leads p nest opening before tokens
+    pub lies : (tail : List ℕ) (more : Tokens) → Lies tail more (rest mid) → Lies tail (tokens ++ more) bytes
+    pub levels : List Level
+    pub types : List Ty
+    pub stand : Stand d (behind p before) (levels_behind nest before) (opening_behind opening before) levels types
+    pub at : At mid (levels_behind nest before) (opening_behind opening before) (rest mid)
+    pub most : length (levels_behind nest before) ≤ 256
+    pub frame_is : mid.frame ≡ s.frame
+    pub small : length (rest mid) < 2 ^ 31
+    pub named : AreNamed nest → AreNamed (levels_behind nest before)
+    pub onward : (items : List Item) (rest : Tokens) → Ends d limit (opening_behind opening before) (levels_behind nest before) types items rest → Ends d limit opening nest tys (before ++ items) (tokens ++ rest)
 
   led : (before : List Item) (s mid : State) (p : Position) (nest : List Slot) (opening : Opening) (levels : List Level) (tys : List Ty) (bytes : List ℕ) → At s nest opening bytes → Stand d p nest opening levels tys → length nest ≤ 256
-      → length bytes < 2 ^ 31 → Reads p s before mid → Led before p nest opening bytes s mid
+      → length bytes < 2 ^ 31 → Reads p s before mid → Led before p nest opening tys bytes s mid
   led [] s mid p nest opening levels tys bytes a stand most small r =
       let left : rest mid ≡ bytes = ap rest (sym r) ∙ a.left in
       record {
@@ -86,12 +90,14 @@ module _ (d : Declarations) where
         most = most;
         frame_is = ap (λ (x : State). x.frame) (sym r);
         small = subst (λ b. length b < 2 ^ 31) (sym left) small;
+        named = (λ h. h);
+        onward = (λ items rest e. e);
       }
   led (item ∷ items) s mid p [] opening levels tys bytes a stand most small (next, step, more) = let x = reads_back s p [] opening bytes item next a step in absurd (cc)
   led (item ∷ items) s mid p (slot ∷ up) opening levels tys bytes a stand most small (next, step, more) =
       let x = reads_back s p (slot ∷ up) opening bytes item next a step in
       let w = was_read (slot ∷ up) slot (suc (length up)) opening (hint_of p) bytes item x.0 x.1 most small refl refl (sym x.2) in
-      let t = stepped d slot up opening p levels tys bytes item x.0 x.1 stand w.sized most x.2 in
+      let t = stepped d limit least slot up opening p levels tys bytes item x.0 x.1 stand w.sized most x.2 in
       let at = subst (λ n. At n (after item (slot ∷ up)) (opening_after item) (drop x.1 bytes)) (sym x.3) (at_onward s (slot ∷ up) opening bytes item x.0 x.1 a) in
       let less : length (drop x.1 bytes) < 2 ^ 31 = omega (arith, length-drop x.1 bytes, small) in
       let r = led items next mid (position_after p item) (after item (slot ∷ up)) (opening_after item) t.levels t.types (drop x.1 bytes) at t.stand w.deep less more in
@@ -106,11 +112,13 @@ module _ (d : Declarations) where
         most = r.most;
         frame_is = r.frame_is ∙ ap (λ (n : State). n.frame) x.3;
         small = r.small;
+        named = (λ h. r.named (named_after (hint_of p) opening (slot ∷ up) item t.tokens h t.spells));
+        onward = (λ others rest e. subst (Ends d limit opening (slot ∷ up) tys (item ∷ (items ++ others))) (sym (tokens_append t.tokens r.tokens rest)) (t.onward (items ++ others) (r.tokens ++ rest) (r.onward others rest e)));
       }
 
   -- from the beginning of a body on
-  led_body : (body : Option StructId) (frame : List ℕ) (first mid : State) (before : List Item) (place past : ℕ) → length frame < 2 ^ 31 → first ≡ headed_state frame place past → Reads (start d body) first before mid
-      → Led before (start d body) body_nest openings.Body (drop past frame) first mid
+  pub led_body : (body : Option StructId) (frame : List ℕ) (first mid : State) (before : List Item) (place past : ℕ) → length frame < 2 ^ 31 → first ≡ headed_state frame place past → Reads (start d body) first before mid
+      → Led before (start d body) body_nest openings.Body (body_of body ∷ []) (drop past frame) first mid
   led_body body frame first mid before place past small is body_read =
       let from = drop past frame in
       let same : 0 + past ≡ past = omega arith in
@@ -134,7 +142,7 @@ module _ (d : Declarations) where
   value_led (slot ∷ up) opening p levels tys mid next item a stand most small step v =
       let x = reads_back mid p (slot ∷ up) opening (rest mid) item next a step in
       let w = was_read (slot ∷ up) slot (suc (length up)) opening (hint_of p) (rest mid) item x.0 x.1 most small refl refl (sym x.2) in
-      let t = stepped d slot up opening p levels tys (rest mid) item x.0 x.1 stand w.sized most x.2 in
+      let t = stepped d limit least slot up opening p levels tys (rest mid) item x.0 x.1 stand w.sized most x.2 in
       let there = t.value v in
       let left = drop x.0 (rest mid) in
       record {
@@ -154,7 +162,7 @@ pub items_stand : (d : Declarations) (body : Option StructId) (frame : List ℕ)
 items_stand d body frame h items small (first, last, headed, body_read, none, ends) =
     let b = begun_back frame h first headed in
     let r = head_back frame (h, b.0) b.1 b.2 in
-    let l = led_body d body frame first last items b.0 b.1 small b.3 body_read in
+    let l = led_body d 256 (omega arith) body frame first last items b.0 b.1 small b.3 body_read in
     let e = end_back last last (rest last) refl ends in
     let w = end_scanned (rest last) tt e.0 e.1 in
     let lies = r.lies w.0 (l.tokens ++ (mark 93 ∷ [])) (l.lies w.0 (mark 93 ∷ []) w.2) in
@@ -168,10 +176,10 @@ pub value_stands : (d : Declarations) (body : Option StructId) (frame : List ℕ
 value_stands d body frame h first mid next before item small headed body_read step v =
     let b = begun_back frame h first headed in
     let r = head_back frame (h, b.0) b.1 b.2 in
-    let l = led_body d body frame first mid before b.0 b.1 small b.3 body_read in
+    let l = led_body d 256 (omega arith) body frame first mid before b.0 b.1 small b.3 body_read in
     let nest = levels_behind body_nest before in
     let opening = opening_behind openings.Body before in
-    let x = value_led d nest opening (behind (start d body) before) l.levels l.types mid next item l.at l.stand l.most l.small step v in
+    let x = value_led d 256 (omega arith) nest opening (behind (start d body) before) l.levels l.types mid next item l.at l.stand l.most l.small step v in
     let marks = leading opening nest [] in
     let whole = r.lies x.left (l.tokens ++ (marks ++ ([] ∷ []))) (l.lies x.left (marks ++ ([] ∷ [])) x.lies) in
     let tokens = head_tokens h.mtype r.name r.seq (l.tokens ++ marks) in

@@ -29,13 +29,13 @@ range_version = record { least = grind (arith, nat_tests); most = grind (arith, 
 pub range_type : IsRange (pos 1) (pos 4)
 range_type = record { least = grind (arith, nat_tests); most = grind (arith, nat_tests); one = grind (arith, nat_tests); none = grind (arith, nat_tests); some = grind (arith, nat_tests) }
 
-version_digit : (z : ℤ) (digits : List ℕ) → IsInt (pos 1) (pos 1) z digits → digits ≡ mark 49
+pub version_digit : (z : ℤ) (digits : List ℕ) → IsInt (pos 1) (pos 1) z digits → digits ≡ mark 49
 version_digit (pos zero) digits i = let least = i.least in absurd (grind (arith, nat_tests))
 version_digit (pos (suc zero)) digits i = decimal_of 1 digits i.spells (omega arith) ∙ decimal_digit 1 (omega arith)
 version_digit (pos (suc (suc n))) digits i = let most = i.most in absurd (grind (arith, nat_tests))
 version_digit (negsuc n) digits i = let least = i.least in absurd (grind (arith, nat_tests))
 
-type_digits : (z : ℤ) (digits : List ℕ) → IsInt (pos 1) (pos 4) z digits → digits ≡ type_digit (type_of z)
+pub type_digits : (z : ℤ) (digits : List ℕ) → IsInt (pos 1) (pos 4) z digits → digits ≡ type_digit (type_of z)
 type_digits (pos zero) digits i = let least = i.least in absurd (grind (arith, nat_tests))
 type_digits (pos (suc zero)) digits i = decimal_of 1 digits i.spells (omega arith) ∙ decimal_digit 1 (omega arith)
 type_digits (pos (suc (suc zero))) digits i = decimal_of 2 digits i.spells (omega arith) ∙ decimal_digit 2 (omega arith)
@@ -45,13 +45,13 @@ type_digits (pos (suc (suc (suc (suc (suc n)))))) digits i = let most = i.most i
 type_digits (negsuc n) digits i = let least = i.least in absurd (grind (arith, nat_tests))
 
 -- an integer so many bytes on
-int_behind : (low high : ℤ) (reason : Reason) (n : ℕ) (bytes : List ℕ) (z : ℤ) (past : ℕ) → IsRange low high → further n (int_in reason low high) bytes ≡ is_read (z, past)
+pub int_behind : (low high : ℤ) (reason : Reason) (n : ℕ) (bytes : List ℕ) (z : ℤ) (past : ℕ) → IsRange low high → further n (int_in reason low high) bytes ≡ is_read (z, past)
     → (digits : List ℕ) × IsInt low high z digits × Carries n (digits ∷ []) bytes past
 int_behind low high reason n bytes z past range e =
     let b = behind (int_in reason low high) n bytes z past (IsInt low high z) (λ c m h. int_back reason low high z c m range h) e in
     (b.token, b.is, b.carries)
 
-fits_32 : (z : ℤ) → negsuc 2147483647 ≤ℤ z → z ≤ℤ pos 2147483647 → FitsSigned w32 z
+pub fits_32 : (z : ℤ) → negsuc 2147483647 ≤ℤ z → z ≤ℤ pos 2147483647 → FitsSigned w32 z
 fits_32 z a b = record { sfits = grind (arith, nat_tests) }
 
 -- behind the name
@@ -86,7 +86,7 @@ back_back n bytes x past e =
     subst (λ y. BackRead n bytes y past) same.0 (subst (BackRead n bytes (type_of b.0.0, f.0.0)) same.1 read)
 
 -- up to the name
-front_back : (bytes : List ℕ) (x : Unit {0}) (place : ℕ) → front_at bytes ≡ is_read (x, place) → (tail token : List ℕ) (more : Tokens) → Lies tail (token ∷ more) (drop place bytes) → Lies tail (mark 91 ∷ mark 49 ∷ mark 44 ∷ token ∷ more) bytes
+pub front_back : (bytes : List ℕ) (x : Unit {0}) (place : ℕ) → front_at bytes ≡ is_read (x, place) → (tail token : List ℕ) (more : Tokens) → Lies tail (token ∷ more) (drop place bytes) → Lies tail (mark 91 ∷ mark 49 ∷ mark 44 ∷ token ∷ more) bytes
 unfolding front_at
 front_back bytes x place e tail token more lies =
     let a = bound (further 0 (mark_at 91) bytes) _ (x, place) e in

@@ -10,7 +10,7 @@ use Rattle.protocol_traits.specs.declared.fault.Reason.TheVariants as reasons
 use Rattle.json_text.specs.Scan.{is_white}
 use Rattle.json_text.specs.Grammar.{IsWhite, AreWhite}
 use Rattle.json_text_laws.proofs.Choices.{either_way}
-use Rattle.json_text_laws.proofs.Parts.{All, parted, cut_len, drop_front, append_more}
+use Rattle.json_text_laws.proofs.Parts.{All, Apart, parted, cut_len, drop_front, append_more}
 use Rattle.json_protocol.specs.Scan.{Scan, gap, further, shifted, mark_at, word_end, ◌>>=◌}
 use Rattle.json_protocol.specs.Words.{begins_two, begins_three, kind_at, wide_kind_at, large_kind_at}
 use Rattle.json_protocol.specs.Grammar.{Tokens, mark, IsNamed, name_token}
@@ -63,7 +63,7 @@ white_of x e = by_first (either_way (x == 32)) (either_way (x == 9)) (either_way
     by_first (inr t) (inr u) (inl v) = inr (inr (inl (grind (arith, nat_tests))))
     by_first (inr t) (inr u) (inr v) = inr (inr (inr (grind (arith, nat_tests))))
 
-are_white : (xs : List ℕ) → All is_white xs → AreWhite xs
+pub are_white : (xs : List ℕ) → All is_white xs → AreWhite xs
 are_white [] h = tt
 are_white (x ∷ xs) h = (white_of x h.0, are_white xs h.1)
 
@@ -75,7 +75,15 @@ gap_white bytes =
     let rest : drop (gap bytes) bytes ≡ p.rest = ap (λ n. drop n bytes) long ∙ ap (drop (length p.front)) p.joined ∙ drop_front p.front p.rest in
     (p.front, are_white p.front p.all, p.joined ∙ ap (λ r. p.front ++ r) (sym rest))
 
-white_append : (xs ys : List ℕ) → AreWhite xs → AreWhite ys → AreWhite (xs ++ ys)
+-- behind it stands none
+pub gap_apart : (bytes : List ℕ) → Apart is_white (drop (gap bytes) bytes)
+gap_apart bytes =
+    let p = parted is_white bytes in
+    let long : gap bytes ≡ length p.front = ap gap p.joined ∙ cut_len is_white p.front p.rest p.all p.apart in
+    let rest : drop (gap bytes) bytes ≡ p.rest = ap (λ n. drop n bytes) long ∙ ap (drop (length p.front)) p.joined ∙ drop_front p.front p.rest in
+    subst (Apart is_white) (sym rest) p.apart
+
+pub white_append : (xs ys : List ℕ) → AreWhite xs → AreWhite ys → AreWhite (xs ++ ys)
 white_append [] ys a b = b
 white_append (x ∷ xs) ys a b = (a.0, white_append xs ys a.1 b)
 

@@ -1,6 +1,6 @@
 -- What the scan of an item has read are the tokens of one item.
 use Rattle.std.proofs.Common.{◌≡◌, ℕ, ℤ, zero, suc, pos, negsuc, ◌+◌, ◌-◌, ◌*◌, ◌/◌, ◌%◌, ◌<◌, ◌≤◌, ◌^◌, ◌≤ℤ◌, Bool, true, false, cond, List, [], ◌∷◌, ◌++◌, length, drop, ap, ◌∙◌, sym, subst, arith, ◌⊎◌, inl, inr}
-use Rattle.std.specs.Prelude.{nat_lt, ◌==◌, FitsSigned}
+use Rattle.std.specs.Prelude.{nat_lt, int_lt, ◌==◌, FitsSigned}
 use Rattle.std.specs.Int.{w16}
 use Rattle.std.specs.Fmt.{decimal}
 use Rattle.std.proofs.lemmas.Bool.Decides.{nat_tests}
@@ -16,7 +16,7 @@ use Rattle.json_text_laws.specs.Judged.{IsRange}
 use Rattle.json_protocol.specs.Scan.{Scan, gap, further, mark_at}
 use Rattle.json_protocol.specs.Words.{kind_at, quoted_int_in, int_in}
 use Rattle.json_protocol.specs.Values.{i16_low, field_at, first_at, next_at, size_of, size_in, sequence_at, map_head_at, no_pairs_at, end_at}
-use Rattle.json_protocol.specs.Writing.{quoted}
+use Rattle.json_protocol.specs.Writing.{quoted, flag}
 use Rattle.json_protocol.specs.Grammar.{Tokens, mark, IsNamed, name_token, comma}
 use Rattle.json_laws.proofs.Marks.{Lies}
 use Rattle.json_laws.proofs.Inverse.{is_read, is_fault, same_read, no_fault, bound, either, past_fault, no_other, Token, token_lies, Carries, gap_back, further_back, behind, mark_back, mark_behind, Names, kind_back}
@@ -56,7 +56,7 @@ pub record FieldTokens (id : ℤ) (kind : Kind) (bytes : List ℕ) (taken : ℕ)
 abbrev pub IsField : Item → List ℕ → ℕ → Type 0
 IsField item bytes taken = (id : ℤ) × (kind : Kind) × (item ≡ field id kind) × FieldTokens id kind bytes taken
 
-fits_16 : (z : ℤ) → i16_low ≤ℤ z → z ≤ℤ pos 32767 → FitsSigned w16 z
+pub fits_16 : (z : ℤ) → i16_low ≤ℤ z → z ≤ℤ pos 32767 → FitsSigned w16 z
 fits_16 z a b = record { sfits = grind (arith, nat_tests) }
 
 pub field_back : (bytes : List ℕ) (item : Item) (taken : ℕ) → field_at bytes ≡ is_read (item, taken) → IsField item bytes taken
@@ -208,6 +208,13 @@ decimal_of n digits (inl e) small = e.0 ∙ sym (ap decimal (pos_same n 0 e.1) �
 decimal_of n digits (inr (inl e)) small = let same = pos_same n (value_of digits) e.1 in canonical digits e.0 (omega (arith, same)) ∙ ap decimal (sym same)
 decimal_of n digits (inr (inr (xs, is, counting, value))) small = absurd (no_negated n (value_of xs) (counting_some xs counting) value)
 
+-- the one digit of a bool
+pub flag_digits : (z : ℤ) (digits : List ℕ) → IsInt (pos 0) (pos 1) z digits → digits ≡ flag (int_lt (pos 0) z)
+flag_digits (pos zero) digits i = decimal_of 0 digits i.spells (omega arith) ∙ decimal_digit 0 (omega arith)
+flag_digits (pos (suc zero)) digits i = decimal_of 1 digits i.spells (omega arith) ∙ decimal_digit 1 (omega arith)
+flag_digits (pos (suc (suc n))) digits i = let most = i.most in absurd (grind (arith, nat_tests))
+flag_digits (negsuc n) digits i = let least = i.least in absurd (grind (arith, nat_tests))
+
 -- a size's one token
 abbrev pub IsSizeToken : ℕ → List ℕ → Type 0
 IsSizeToken n token = (token ≡ decimal n) × (n < 2 ^ 31)
@@ -223,7 +230,7 @@ size_back bytes n taken e =
     let t = int_back reasons.BadSize (pos 0) (pos 2147483647) a.0.0 bytes a.0.1 range_size a.1 in
     record { token = t.token; rest = t.rest; laid = t.laid; long = sym same.1 ∙ t.long; is = subst (λ k. IsSizeToken k t.token) same.0 (size_token a.0.0 t.token t.is) }
 
-kind_behind : (n : ℕ) (bytes : List ℕ) (kind : Kind) (past : ℕ) → further n kind_at bytes ≡ is_read (kind, past) → IsNamed kind × Carries n (name_token kind ∷ []) bytes past
+pub kind_behind : (n : ℕ) (bytes : List ℕ) (kind : Kind) (past : ℕ) → further n kind_at bytes ≡ is_read (kind, past) → IsNamed kind × Carries n (name_token kind ∷ []) bytes past
 kind_behind n bytes kind past e =
     let b = behind kind_at n bytes kind past (Names kind) (λ d m h. kind_back d kind m h) e in
     (b.is.1, λ tail more lies. subst (λ t. Lies tail (t ∷ more) (drop n bytes)) b.is.0 (b.carries tail more lies))

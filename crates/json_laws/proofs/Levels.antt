@@ -1,8 +1,10 @@
 -- What the open levels still hold, by the grammar: their items and their tokens.
 use Rattle.std.proofs.Common.{◌≡◌, ℕ, ℤ, suc, ◌+◌, ◌-◌, ◌<◌, ◌≤◌, Bool, true, false, List, [], ◌∷◌, ◌++◌, length, refl, ap, ◌∙◌, sym, subst, arith}
 use Rattle.thrift_value.specs.declared.kind.Kind.{Kind}
-use Rattle.thrift_value.specs.Items.{Item}
-use Rattle.thrift_value.specs.Trees.{Tree, Members, Trees, one_tree, Pairs, one_pair, kind_of, count_of_trees, count_of_pairs, items_of, items_of_members, items_of_trees, items_of_pairs, depth_of, depth_of_members, depth_of_trees, depth_of_pairs, IsValue, AreMembers, AreAll, ArePairs as HavePairs}
+use Rattle.std.specs.Prelude.{FitsSigned}
+use Rattle.std.specs.Int.{w16}
+use Rattle.thrift_value.specs.Items.{Item, field}
+use Rattle.thrift_value.specs.Trees.{Tree, Members, one_member, Trees, one_tree, Pairs, one_pair, kind_of, count_of_trees, count_of_pairs, items_of, items_of_members, items_of_trees, items_of_pairs, depth_of, depth_of_members, depth_of_trees, depth_of_pairs, IsValue, AreMembers, AreAll, ArePairs as HavePairs}
 use Rattle.protocol_traits.specs.declared.nest.Slot.{Slot}
 use Rattle.protocol_traits.specs.declared.nest.Slot.TheVariants as slots
 use Rattle.protocol_traits.specs.Stack.{first_of}
@@ -13,8 +15,9 @@ use Rattle.type_tables.specs.Declarations.{Declarations}
 use Rattle.type_walk.specs.Positions.{under}
 use Rattle.json_protocol.specs.declared.opening.Opening.{Opening}
 use Rattle.json_protocol.specs.declared.opening.Opening.TheVariants as openings
-use Rattle.json_protocol.specs.Writing.{is_key}
-use Rattle.json_protocol.specs.Grammar.{Tokens, mark, comma, Spells, SpellsMembers, SpellsTrees, SpellsPairs}
+use Rattle.json_text.specs.Grammar.{SpellsInt}
+use Rattle.json_protocol.specs.Writing.{quoted, is_key}
+use Rattle.json_protocol.specs.Grammar.{Tokens, mark, comma, name_token, IsNamed, Spells, SpellsMembers, SpellsTrees, SpellsPairs}
 use Rattle.binary_laws.proofs.Walking.{CallsFor}
 use Rattle.json_laws.specs.Positions.{declared_of, field_of, element_of, key_of, value_of}
 use Rattle.json_laws.specs.Fronts.{leading, field_leading, is_first}
@@ -50,6 +53,16 @@ in_front A B C items others marks tokens rest b f = record {
 }
 
 module _ (d : Declarations) where
+  -- the type of the value that the innermost level calls for
+  abbrev pub value_type : List Slot → List Ty → Ty
+  value_type (slots.Value k id ∷ up) (ty ∷ tys) = under (field_of d ty id) k
+  value_type (slots.Elements k left ∷ up) (ty ∷ tys) = under (element_of d ty) k
+  value_type (slots.Keys k v left ∷ up) (ty ∷ tys) = under (key_of d ty) k
+  value_type (slots.Values k v left ∷ up) (ty ∷ tys) = under (value_of d ty) v
+  value_type nest tys = types.Unknown
+
+-- a message of so many levels at most
+module _ (d : Declarations) (limit : ℕ) where
   -- a value of this kind inside so many levels
   pub record IsTree (depth : ℕ) (key : Bool) (ty : Ty) (k : Kind) (items : List Item) (tokens : Tokens) : Type 0 where
     pub t : Tree
@@ -57,7 +70,7 @@ module _ (d : Declarations) where
     pub value : IsValue t
     pub spells : Spells (declared_of d) key ty t tokens
     pub is : items ≡ items_of t
-    pub deep : depth_of t + depth ≤ 256
+    pub deep : depth_of t + depth ≤ limit
 
   pub record AreFields (depth : ℕ) (first : Bool) (ty : Ty) (items : List Item) (tokens : Tokens) : Type 0 where
     pub ms : Members
@@ -66,7 +79,7 @@ module _ (d : Declarations) where
     pub spells : SpellsMembers (declared_of d) first ty ms inner
     pub laid : tokens ≡ inner ++ mark 125 ∷ []
     pub is : items ≡ items_of_members ms
-    pub deep : depth_of_members ms + depth ≤ 256
+    pub deep : depth_of_members ms + depth ≤ limit
 
   pub record AreElements (depth : ℕ) (ty : Ty) (k : Kind) (left : ℕ) (items : List Item) (tokens : Tokens) : Type 0 where
     pub ts : Trees
@@ -76,7 +89,7 @@ module _ (d : Declarations) where
     pub spells : SpellsTrees (declared_of d) ty k ts inner
     pub laid : tokens ≡ inner ++ mark 93 ∷ []
     pub is : items ≡ items_of_trees ts
-    pub deep : depth_of_trees ts + depth ≤ 256
+    pub deep : depth_of_trees ts + depth ≤ limit
 
   pub record ArePairs (depth : ℕ) (first : Bool) (ty : Ty) (k v : Kind) (left : ℕ) (items : List Item) (tokens : Tokens) : Type 0 where
     pub ps : Pairs
@@ -86,7 +99,7 @@ module _ (d : Declarations) where
     pub spells : SpellsPairs (declared_of d) first ty k v ps inner
     pub laid : tokens ≡ inner ++ (mark 125 ∷ mark 93 ∷ [])
     pub is : items ≡ items_of_pairs ps
-    pub deep : depth_of_pairs ps + depth ≤ 256
+    pub deep : depth_of_pairs ps + depth ≤ limit
 
   -- with the marks before them
   abbrev pub FieldsLeft : Opening → ℕ → Ty → List Item → Tokens → Type 0
@@ -111,14 +124,6 @@ module _ (d : Declarations) where
   Ends opening [] (ty ∷ tys) items tokens = ⊥
   Ends opening (slot ∷ up) [] items tokens = ⊥
   Ends opening (slot ∷ up) (ty ∷ tys) items tokens = Both (Level opening ty slot (suc (length up))) (Ends openings.Old up tys) items tokens
-
-  -- the type of the value that the innermost level calls for
-  abbrev pub value_type : List Slot → List Ty → Ty
-  value_type (slots.Value k id ∷ up) (ty ∷ tys) = under (field_of d ty id) k
-  value_type (slots.Elements k left ∷ up) (ty ∷ tys) = under (element_of d ty) k
-  value_type (slots.Keys k v left ∷ up) (ty ∷ tys) = under (key_of d ty) k
-  value_type (slots.Values k v left ∷ up) (ty ∷ tys) = under (value_of d ty) v
-  value_type nest tys = types.Unknown
 
   -- a value in front of what a level holds
   to_elements : (depth : ℕ) (ty : Ty) (k : Kind) (left : ℕ) (items mine : List Item) (tokens a : Tokens) → IsTree depth false (under (element_of d ty) k) k items tokens → 0 < left → AreElements depth ty k (left - 1) mine a
@@ -171,7 +176,7 @@ module _ (d : Declarations) where
       → Level opening ty (slots.Values k v left) depth (items ++ mine) (mark 58 ∷ (tokens ++ a))
   to_value depth opening ty k v left items mine tokens a w f = (tokens ++ a, refl, record { first = items; second = mine; front = tokens; back = a; one = w; two = f; is = refl; laid = refl })
 
-  pub with_value : (opening : Opening) (nest : List Slot) (tys : List Ty) (k : Kind) (items others : List Item) (tokens rest : Tokens) → CallsFor nest k → IsTree (length nest) (is_key (first_of nest)) (value_type nest tys) k items tokens
+  pub with_value : (opening : Opening) (nest : List Slot) (tys : List Ty) (k : Kind) (items others : List Item) (tokens rest : Tokens) → CallsFor nest k → IsTree (length nest) (is_key (first_of nest)) (value_type d nest tys) k items tokens
       → Ends openings.Old (spent nest) tys others rest → Ends opening nest tys (items ++ others) (leading opening nest (tokens ++ rest))
   with_value opening [] tys k items others tokens rest c v e = absurd c
   with_value opening (slots.Fields last ∷ up) tys k items others tokens rest c v e = absurd c
@@ -203,3 +208,31 @@ module _ (d : Declarations) where
       let depth = suc (length up) in
       let w = subst (λ z. IsTree depth false (under (value_of d ty) value) z items tokens) (sym c) v in
       in_front (PairsLeft openings.Old depth ty key value (left - 1)) (Level opening ty (slots.Values key value left) depth) (Ends openings.Old up tys) items others (mark 58 ∷ []) tokens rest e (λ mine a f. to_value depth opening ty key value left items mine tokens a w f)
+
+  -- a field in front of its value and the fields behind it
+  pub with_field : (opening : Opening) (depth : ℕ) (ty : Ty) (id : ℤ) (kind : Kind) (digits : List ℕ) → SpellsInt id digits → FitsSigned w16 id → IsNamed kind → (items : List Item) (front : Tokens)
+      → Level openings.Old ty (slots.Value kind id) depth items front → FieldsLeft opening depth ty (field id kind ∷ items) (field_leading opening (comma (is_first opening) ++ (quoted digits ∷ mark 58 ∷ mark 123 ∷ name_token kind ∷ front)))
+  with_field opening depth ty id kind digits spells fits named items front (r, is_front, b) =
+      let v = b.one in
+      let g = b.two.2 in
+      let value = b.front in
+      let first = comma (is_first opening) in
+      let close = mark 125 ∷ [] in
+      let own = kind_of v.t in
+      let body : front ≡ mark 58 ∷ ((value ++ (mark 125 ∷ g.inner)) ++ close) =
+      is_front ∙ ap (λ l. mark 58 ∷ l) (b.laid ∙ ap (λ l. value ++ l) (b.two.1 ∙ ap (λ l. mark 125 ∷ l) g.laid) ∙ sym (tokens_append value (mark 125 ∷ g.inner) close)) in (
+        first ++ (quoted digits ∷ mark 58 ∷ mark 123 ∷ name_token kind ∷ front),
+        refl,
+        record {
+          ms = one_member id v.t g.ms;
+          are = (fits, v.value, g.are);
+          inner = first ++ (quoted digits ∷ mark 58 ∷ mark 123 ∷ name_token own ∷ mark 58 ∷ (value ++ (mark 125 ∷ g.inner)));
+          spells = (digits, value, g.inner, spells, subst IsNamed (sym v.kind) named, subst (λ z. Spells (declared_of d) false (under (field_of d ty id) z) v.t value) (sym v.kind) v.spells, g.spells, refl);
+          laid =
+              ap (λ l. first ++ (quoted digits ∷ mark 58 ∷ mark 123 ∷ name_token kind ∷ l)) body
+              ∙ ap (λ z. first ++ (quoted digits ∷ mark 58 ∷ mark 123 ∷ name_token z ∷ mark 58 ∷ ((value ++ (mark 125 ∷ g.inner)) ++ close))) (sym v.kind)
+              ∙ sym (tokens_append first (quoted digits ∷ mark 58 ∷ mark 123 ∷ name_token own ∷ mark 58 ∷ (value ++ (mark 125 ∷ g.inner))) close);
+          is = ap (λ l. field id kind ∷ l) (b.is ∙ ap (λ l. l ++ b.second) v.is ∙ ap (λ l. items_of v.t ++ l) g.is) ∙ ap (λ z. field id z ∷ (items_of v.t ++ items_of_members g.ms)) (sym v.kind);
+          deep = omega (arith, v.deep, g.deep);
+        },
+      )

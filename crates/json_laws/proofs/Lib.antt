@@ -31,3 +31,15 @@ pub mod KeepingCalls
 pub mod Staying
 pub mod Fronting
 pub mod Cut
+pub mod Named
+pub mod Completing
+pub mod WordsCut
+pub mod ItemsCut
+pub mod Closing
+pub mod HeadCut
+pub mod Viable
+pub mod FirstBad
+pub mod Trailing
+pub mod Standing
+pub mod Told
+pub mod Depth

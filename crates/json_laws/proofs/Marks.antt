@@ -12,7 +12,7 @@ use Rattle.json_laws.specs.Fronts.{BeginsToken}
 
 -- ---- whitespace
 
-white_is : (x : ℕ) → IsWhite x → is_white x ≡ true
+pub white_is : (x : ℕ) → IsWhite x → is_white x ≡ true
 white_is x (inl e) = grind (arith, nat_tests)
 white_is x (inr (inl e)) = grind (arith, nat_tests)
 white_is x (inr (inr (inl e))) = grind (arith, nat_tests)

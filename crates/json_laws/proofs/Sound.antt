@@ -88,9 +88,9 @@ module _ (d : Declarations) where
     are : AreWhite white
     tokens : Tokens
     lies : Lies white tokens bytes
-    ends : Ends d opening nest tys items tokens
+    ends : Ends d 256 opening nest tys items tokens
 
-  last_ends : (opening : Opening) (nest : List Slot) (levels : List Level) (tys : List Ty) (p : Position) → nest ≡ [] → Stand d p nest opening levels tys → Ends d opening nest tys [] (mark 93 ∷ [])
+  last_ends : (opening : Opening) (nest : List Slot) (levels : List Level) (tys : List Ty) (p : Position) → nest ≡ [] → Stand d p nest opening levels tys → Ends d 256 opening nest tys [] (mark 93 ∷ [])
   last_ends opening [] [] [] p none s = (refl, refl)
   last_ends opening [] [] (ty ∷ tys) p none s = absurd s.tied
   last_ends opening [] (level ∷ levels) tys p none s = absurd s.tied
@@ -107,7 +107,7 @@ module _ (d : Declarations) where
   sound (item ∷ items) s last p (slot ∷ up) opening levels tys bytes a stand most small (next, step, more) none end =
       let x = reads_back s p (slot ∷ up) opening bytes item next a step in
       let w = was_read (slot ∷ up) slot (suc (length up)) opening (hint_of p) bytes item x.0 x.1 most small refl refl (sym x.2) in
-      let t = stepped d slot up opening p levels tys bytes item x.0 x.1 stand w.sized most x.2 in
+      let t = stepped d 256 (omega arith) slot up opening p levels tys bytes item x.0 x.1 stand w.sized most x.2 in
       let at = subst (λ n. At n (after item (slot ∷ up)) (opening_after item) (drop x.1 bytes)) (sym x.3) (at_onward s (slot ∷ up) opening bytes item x.0 x.1 a) in
       let less : length (drop x.1 bytes) < 2 ^ 31 = omega (arith, length-drop x.1 bytes, small) in
       let r = sound items next last (position_after p item) (after item (slot ∷ up)) (opening_after item) t.levels t.types (drop x.1 bytes) at t.stand w.deep less more none end in

@@ -205,7 +205,7 @@ module _ (more : List ℕ) where
 
 -- ---- what begins a message is truncated
 
-cut_or_bad : (f : Fault) (r : Reason) → f.reason ≡ r → (f.reason ≡ reasons.Truncated) ⊎ (f.reason ≡ reasons.Truncated → ⊥)
+pub cut_or_bad : (f : Fault) (r : Reason) → f.reason ≡ r → (f.reason ≡ reasons.Truncated) ⊎ (f.reason ≡ reasons.Truncated → ⊥)
 cut_or_bad f reasons.Truncated e = inl e
 cut_or_bad f reasons.Trailing e = inr (λ t. let wrong = sym e ∙ t in absurd (cc))
 cut_or_bad f reasons.TooDeep e = inr (λ t. let wrong = sym e ∙ t in absurd (cc))

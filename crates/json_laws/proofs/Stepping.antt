@@ -43,7 +43,7 @@ one_lead m bytes x place e =
     let same = same_read tt x (a.0.1 + gap (drop a.0.1 bytes)) place a.2 in
     λ tail token more lies. mark_behind m 0 bytes a.0.0 a.0.1 a.1 tail (token ∷ more) (gap_back tail a.0.1 bytes token more (subst (λ n. Lies tail (token ∷ more) (drop n bytes)) (sym same.1) lies))
 
-two_lead : (bytes : List ℕ) (x : Unit {0}) (place : ℕ) → lead_pairs bytes ≡ is_read (x, place) → Leads (λ t. mark 44 ∷ mark 123 ∷ t) bytes place
+pub two_lead : (bytes : List ℕ) (x : Unit {0}) (place : ℕ) → lead_pairs bytes ≡ is_read (x, place) → Leads (λ t. mark 44 ∷ mark 123 ∷ t) bytes place
 unfolding lead_pairs
 two_lead bytes x place e =
     let a = bound (further 0 (mark_at 44) bytes) _ (x, place) e in
@@ -107,7 +107,7 @@ pub record CalledBack (nest : List Slot) (opening : Opening) (hint : Hint) (k : 
   pub sum : place + inner ≡ taken
   pub begins : place ≡ start
 
-more_left : (left : ℕ) → 0 < left → (left == 0) ≡ false
+pub more_left : (left : ℕ) → 0 < left → (left == 0) ≡ false
 more_left left some = grind (arith, nat_tests)
 
 pub called_back : (nest : List Slot) (opening : Opening) (hint : Hint) (k : Kind) (bytes : List ℕ) (item : Item) (start taken : ℕ) → CallsFor nest k → scan_at (length nest) opening hint (first_of nest) bytes ≡ answer ((item, start), taken)

@@ -4,7 +4,7 @@ use Rattle.std.specs.Prelude.{◌==◌, if◌then◌else◌}
 use Rattle.std.proofs.lemmas.Bool.Decides.{nat_tests}
 use Rattle.thrift_value.specs.declared.kind.Kind.{Kind}
 use Rattle.thrift_value.specs.Items.{Item, field, stop, end}
-use Rattle.thrift_value.specs.Trees.{no_members, one_member, no_trees, no_pairs, kind_of, items_of, items_of_members}
+use Rattle.thrift_value.specs.Trees.{no_members, no_trees, no_pairs}
 use Rattle.protocol_traits.specs.declared.nest.Slot.{Slot}
 use Rattle.protocol_traits.specs.declared.nest.Slot.TheVariants as slots
 use Rattle.protocol_traits.specs.Stack.{first_of}
@@ -22,16 +22,16 @@ use Rattle.json_protocol.specs.Scan.{gap}
 use Rattle.json_protocol.specs.Values.{end_at, value_in}
 use Rattle.json_protocol.specs.Reading.{lead_by, lead_key, lead_at, fields_at, item_in, scan_at, opening_after}
 use Rattle.json_protocol.specs.Writing.{quoted, is_key}
-use Rattle.json_protocol.specs.Grammar.{Tokens, mark, comma, name_token, IsNamed, Spells}
+use Rattle.json_protocol.specs.Grammar.{Tokens, mark, comma, name_token}
 use Rattle.binary_laws.proofs.Walking.{CallsFor, length-spent}
-use Rattle.json_laws.specs.Positions.{declared_of, field_of, element_of, key_of, value_of}
+use Rattle.json_laws.specs.Positions.{field_of, element_of, key_of, value_of}
 use Rattle.json_laws.proofs.Marks.{Lies, solid_begins}
 use Rattle.json_laws.proofs.Places.{IsOf, under_of, field_place, at_type}
 use Rattle.json_laws.specs.Fronts.{leading, field_leading, is_first, SpellsValue, SpellsItem, IsOfValue, BeginsToken}
 use Rattle.json_laws.proofs.Trees.{tokens_append}
 use Rattle.json_laws.proofs.Inverse.{is_read}
 use Rattle.json_laws.proofs.ItemsBack.{StopRead, FieldRead, first_back, next_back, end_back}
-use Rattle.json_laws.proofs.Levels.{FieldsLeft, Level as Held, Ends, value_type, with_value}
+use Rattle.json_laws.proofs.Levels.{Level as Held, Ends, value_type, with_value, with_field}
 use Rattle.json_laws.proofs.Begun.{Leaf, Opened, value_next}
 use Rattle.json_laws.proofs.Solid.{value_solid}
 use Rattle.json_laws.proofs.Stepping.{Leads, one_lead, no_lead, field_lead, answer, led_back, moved_on, called_back, value_past, Stand, outer_stand, spent_tied, new_stand}
@@ -55,7 +55,7 @@ field_append openings.Old a b = refl
 abbrev pub StandsAt : Opening → List Slot → List ℕ → ℕ → Type 0
 StandsAt opening nest bytes start = Leads (leading opening nest) bytes start × BeginsToken (drop start bytes)
 
-module _ (d : Declarations) where
+module _ (d : Declarations) (limit : ℕ) (least : 256 ≤ limit) where
   -- the tokens of one item, where the walk stands behind it, and what the levels held before it
   pub record Stepped (p : Position) (nest : List Slot) (opening : Opening) (tys : List Ty) (bytes : List ℕ) (item : Item) (start taken : ℕ) : Type 0 where
     pub tokens : Tokens
@@ -65,13 +65,13 @@ module _ (d : Declarations) where
     pub levels : List Level
     pub types : List Ty
     pub stand : Stand d (position_after p item) (after item nest) (opening_after item) levels types
-    pub onward : (items : List Item) (rest : Tokens) → Ends d (opening_after item) (after item nest) types items rest → Ends d opening nest tys (item ∷ items) (tokens ++ rest)
+    pub onward : (items : List Item) (rest : Tokens) → Ends d limit (opening_after item) (after item nest) types items rest → Ends d limit opening nest tys (item ∷ items) (tokens ++ rest)
 
   same_stand : (p q : Position) (m n : List Slot) (a b : Opening) (levels : List Level) (tys : List Ty) → p ≡ q → m ≡ n → a ≡ b → Stand d p m a levels tys → Stand d q n b levels tys
   same_stand p q m n a b levels tys e f g s = subst (λ x. Stand d x n b levels tys) e (subst (λ x. Stand d p x b levels tys) f (subst (λ x. Stand d p m x levels tys) g s))
 
-  same_ends : (m n : List Slot) (a b : Opening) (tys : List Ty) (items : List Item) (rest : Tokens) → m ≡ n → a ≡ b → Ends d a m tys items rest → Ends d b n tys items rest
-  same_ends m n a b tys items rest f g e = subst (λ x. Ends d b x tys items rest) f (subst (λ x. Ends d x m tys items rest) g e)
+  same_ends : (m n : List Slot) (a b : Opening) (tys : List Ty) (items : List Item) (rest : Tokens) → m ≡ n → a ≡ b → Ends d limit a m tys items rest → Ends d limit b n tys items rest
+  same_ends m n a b tys items rest f g e = subst (λ x. Ends d limit b x tys items rest) f (subst (λ x. Ends d limit x m tys items rest) g e)
 
   -- ---- a value
 
@@ -83,7 +83,7 @@ module _ (d : Declarations) where
     by_leaf : (first : List ℕ) (others : Tokens) → CallsFor nest k → Stand d p nest opening levels tys → p ≡ at_type d levels (value_type d nest tys)
         → ((tail : List ℕ) (more : Tokens) → Lies tail more (drop taken bytes) → Lies tail (leading opening nest (first ∷ (others ++ more))) bytes)
         → SpellsValue (is_key (first_of nest)) (hint_at (value_type d nest tys)) item (first ∷ others) → StandsAt opening nest bytes start
-        → Leaf d (length nest) (is_key (first_of nest)) (value_type d nest tys) k item (first ∷ others) → Stepped p nest opening tys bytes item start taken
+        → Leaf d limit (length nest) (is_key (first_of nest)) (value_type d nest tys) k item (first ∷ others) → Stepped p nest opening tys bytes item start taken
     by_leaf first others c s at lies own there leaf =
         let sp = spent_tied d nest levels tys k c s.tied in
         let moved : position_after p item ≡ standing d sp.new = ap (λ q. position_after q item) at ∙ leaf.moves levels ∙ ap (standing d) sp.is in
@@ -97,13 +97,13 @@ module _ (d : Declarations) where
           stand = same_stand (standing d sp.new) (position_after p item) (spent nest) (after item nest) openings.Old (opening_after item) sp.new tys (sym moved) (sym (leaf.spends nest)) (sym leaf.old) (outer_stand d (spent nest) sp.new tys sp.tied);
           onward = (λ items rest e.
               let e2 = same_ends (after item nest) (spent nest) (opening_after item) openings.Old tys items rest (leaf.spends nest) leaf.old e in
-              subst (Ends d opening nest tys (item ∷ items)) (sym (lead_append opening nest (first ∷ others) rest)) (with_value d opening nest tys k (item ∷ []) items (first ∷ others) rest c leaf.tree e2));
+              subst (Ends d limit opening nest tys (item ∷ items)) (sym (lead_append opening nest (first ∷ others) rest)) (with_value d limit opening nest tys k (item ∷ []) items (first ∷ others) rest c leaf.tree e2));
         }
 
     by_opened : (first : List ℕ) (others : Tokens) → CallsFor nest k → Stand d p nest opening levels tys → p ≡ at_type d levels (value_type d nest tys)
         → ((tail : List ℕ) (more : Tokens) → Lies tail more (drop taken bytes) → Lies tail (leading opening nest (first ∷ (others ++ more))) bytes)
         → SpellsValue (is_key (first_of nest)) (hint_at (value_type d nest tys)) item (first ∷ others) → StandsAt opening nest bytes start
-        → Opened d (length nest) (is_key (first_of nest)) (value_type d nest tys) k item (first ∷ others) → Stepped p nest opening tys bytes item start taken
+        → Opened d limit (length nest) (is_key (first_of nest)) (value_type d nest tys) k item (first ∷ others) → Stepped p nest opening tys bytes item start taken
     by_opened first others c s at lies own there o =
         let sp = spent_tied d nest levels tys k c s.tied in
         let vty = value_type d nest tys in
@@ -119,11 +119,11 @@ module _ (d : Declarations) where
               (new_stand d o.slot (spent nest) o.level sp.new vty tys o.tied o.good sp.tied);
           onward = (λ items rest e.
               let b = same_ends (after item nest) (o.slot ∷ spent nest) (opening_after item) openings.New (vty ∷ tys) items rest (o.adds nest) o.new e in
-              let one = subst (λ n. Held d openings.New vty o.slot (suc n) b.first b.front) (length-spent nest) b.one in
-              let whole = with_value d opening nest tys k (item ∷ b.first) b.second ((first ∷ others) ++ b.front) b.back c (o.tree b.first b.front one) b.two in
+              let one = subst (λ n. Held d limit openings.New vty o.slot (suc n) b.first b.front) (length-spent nest) b.one in
+              let whole = with_value d limit opening nest tys k (item ∷ b.first) b.second ((first ∷ others) ++ b.front) b.back c (o.tree b.first b.front one) b.two in
               let laid : leading opening nest (((first ∷ others) ++ b.front) ++ b.back) ≡ leading opening nest (first ∷ others) ++ rest =
               ap (leading opening nest) (tokens_append (first ∷ others) b.front b.back ∙ ap (λ l. (first ∷ others) ++ l) (sym b.laid)) ∙ sym (lead_append opening nest (first ∷ others) rest) in
-              subst (Ends d opening nest tys (item ∷ items)) laid (subst (λ l. Ends d opening nest tys (item ∷ l) (leading opening nest (((first ∷ others) ++ b.front) ++ b.back))) (sym b.is) whole));
+              subst (Ends d limit opening nest tys (item ∷ items)) laid (subst (λ l. Ends d limit opening nest tys (item ∷ l) (leading opening nest (((first ∷ others) ++ b.front) ++ b.back))) (sym b.is) whole));
         }
 
     value_step : CallsFor nest k → Stand d p nest opening levels tys → p ≡ at_type d levels (value_type d nest tys) → IsOf (value_type d nest tys) k → IsSized item → length nest ≤ 256
@@ -134,7 +134,7 @@ module _ (d : Declarations) where
         let x = called_back nest opening (hint_of p) k bytes item start taken c e in
         let read = subst (λ h. value_in (length nest) key h k (drop x.place bytes) ≡ is_read (item, x.inner)) (ap hint_of at) x.read in
         let y = value_past (length nest) key (hint_at vty) k (drop x.place bytes) item x.inner read in
-        let v = value_next d (length nest) key vty most (drop x.place bytes) item x.inner k of sized y.0 y.1 in
+        let v = value_next d limit (length nest) key vty least most (drop x.place bytes) item x.inner k of sized y.0 y.1 in
         let lies : (tail : List ℕ) (more : Tokens) → Lies tail more (drop taken bytes) → Lies tail (leading opening nest (v.first ∷ (v.others ++ more))) bytes =
         λ tail more h. x.leads tail v.first (v.others ++ more) (v.lies tail more (moved_on tail more bytes x.place x.inner taken x.sum h)) in
         let solid = value_solid key (hint_at vty) item v.first v.others v.spells in
@@ -146,7 +146,7 @@ module _ (d : Declarations) where
       where
         by_next : (first : List ℕ) (others : Tokens) → ((tail : List ℕ) (more : Tokens) → Lies tail more (drop taken bytes) → Lies tail (leading opening nest (first ∷ (others ++ more))) bytes)
             → SpellsValue (is_key (first_of nest)) (hint_at (value_type d nest tys)) item (first ∷ others) → StandsAt opening nest bytes start
-            → Leaf d (length nest) (is_key (first_of nest)) (value_type d nest tys) k item (first ∷ others) ⊎ Opened d (length nest) (is_key (first_of nest)) (value_type d nest tys) k item (first ∷ others) → Stepped p nest opening tys bytes item start taken
+            → Leaf d limit (length nest) (is_key (first_of nest)) (value_type d nest tys) k item (first ∷ others) ⊎ Opened d limit (length nest) (is_key (first_of nest)) (value_type d nest tys) k item (first ∷ others) → Stepped p nest opening tys bytes item start taken
         by_next first others lies own there (inl leaf) = by_leaf first others c s at lies own there leaf
         by_next first others lies own there (inr o) = by_opened first others c s at lies own there o
 
@@ -248,34 +248,6 @@ module _ (d : Declarations) where
       });
     })
 
-    -- a field in front of its value and the fields behind it
-    with_field : (f : FieldRead (is_first opening) item (drop place bytes) inner) (items : List Item) (front : Tokens) → Held d openings.Old ty (slots.Value f.kind f.id) (suc (length up)) items front
-        → FieldsLeft d opening (suc (length up)) ty (field f.id f.kind ∷ items) (field_leading opening (comma (is_first opening) ++ (quoted f.digits ∷ mark 58 ∷ mark 123 ∷ name_token f.kind ∷ front)))
-    with_field f items front (r, is_front, b) =
-        let v = b.one in
-        let g = b.two.2 in
-        let value = b.front in
-        let first = comma (is_first opening) in
-        let close = mark 125 ∷ [] in
-        let own = kind_of v.t in
-        let body : front ≡ mark 58 ∷ ((value ++ (mark 125 ∷ g.inner)) ++ close) =
-        is_front ∙ ap (λ l. mark 58 ∷ l) (b.laid ∙ ap (λ l. value ++ l) (b.two.1 ∙ ap (λ l. mark 125 ∷ l) g.laid) ∙ sym (tokens_append value (mark 125 ∷ g.inner) close)) in (
-          first ++ (quoted f.digits ∷ mark 58 ∷ mark 123 ∷ name_token f.kind ∷ front),
-          refl,
-          record {
-            ms = one_member f.id v.t g.ms;
-            are = (f.fits, v.value, g.are);
-            inner = first ++ (quoted f.digits ∷ mark 58 ∷ mark 123 ∷ name_token own ∷ mark 58 ∷ (value ++ (mark 125 ∷ g.inner)));
-            spells = (f.digits, value, g.inner, f.spells, subst IsNamed (sym v.kind) f.named, subst (λ z. Spells (declared_of d) false (under (field_of d ty f.id) z) v.t value) (sym v.kind) v.spells, g.spells, refl);
-            laid =
-                ap (λ l. first ++ (quoted f.digits ∷ mark 58 ∷ mark 123 ∷ name_token f.kind ∷ l)) body
-                ∙ ap (λ z. first ++ (quoted f.digits ∷ mark 58 ∷ mark 123 ∷ name_token z ∷ mark 58 ∷ ((value ++ (mark 125 ∷ g.inner)) ++ close))) (sym v.kind)
-                ∙ sym (tokens_append first (quoted f.digits ∷ mark 58 ∷ mark 123 ∷ name_token own ∷ mark 58 ∷ (value ++ (mark 125 ∷ g.inner))) close);
-            is = ap (λ l. field f.id f.kind ∷ l) (b.is ∙ ap (λ l. l ++ b.second) v.is ∙ ap (λ l. items_of v.t ++ l) g.is) ∙ ap (λ z. field f.id z ∷ (items_of v.t ++ items_of_members g.ms)) (sym v.kind);
-            deep = omega (arith, v.deep, g.deep);
-          },
-        )
-
     field_step : FieldRead (is_first opening) item (drop place bytes) inner → Stepped p (slots.Fields last ∷ up) opening (ty ∷ tys) bytes item start taken
     field_step f =
         let first = comma (is_first opening) in
@@ -297,7 +269,7 @@ module _ (d : Declarations) where
             second = b.second;
             front = field_leading opening (first ++ (head ++ b.front));
             back = b.back;
-            one = with_field f b.first b.front b.one;
+            one = with_field d limit opening (suc (length up)) ty f.id f.kind f.digits f.spells f.fits f.named b.first b.front b.one;
             two = b.two;
             is = ap (λ l. field f.id f.kind ∷ l) b.is;
             laid =

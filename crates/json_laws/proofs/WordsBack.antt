@@ -86,7 +86,7 @@ closed_back {X} reason all (Whole y m) x taken e =
 closed_back reason all Short x taken e = absurd (no_fault _ (x, taken) e)
 closed_back reason all (Bad place) x taken e = absurd (no_fault _ (x, taken) e)
 
-first_there : (word rest : List ℕ) (n : ℕ) → n ≡ length word → n < length (word ++ rest) → slice_index (word ++ rest) n ≡ 34 → (left : List ℕ) × (rest ≡ 34 ∷ left)
+pub first_there : (word rest : List ℕ) (n : ℕ) → n ≡ length word → n < length (word ++ rest) → slice_index (word ++ rest) n ≡ 34 → (left : List ℕ) × (rest ≡ 34 ∷ left)
 first_there [] [] n e w q = absurd (omega arith)
 first_there [] (x ∷ rest) n e w q = (rest, ap (λ k. k ∷ rest) (ap (λ i. slice_index (x ∷ rest) i) (sym e) ∙ q))
 first_there (y ∷ word) rest zero e w q = absurd (omega arith)
@@ -144,7 +144,7 @@ blob_back bytes meant n e =
 -- ---- numbers
 
 -- a number, whose value is its length
-abbrev IsLong : ℕ → List ℕ → Type 0
+abbrev pub IsLong : ℕ → List ℕ → Type 0
 IsLong n digits = IsNumber digits × (n ≡ length digits)
 
 good_number : (bytes : List ℕ) (x n : ℕ) → GoodNumber bytes x n → Token bytes n (IsLong x)
@@ -173,7 +173,7 @@ quoted_number_back (y ∷ all) x n e =
     let c = closed_back reasons.BadNumber all (number_at all) x n (subst (λ k. closed reasons.BadNumber (k ∷ all) (moved 1 (number_at all)) ≡ is_read (x, n)) is q.1) in
     subst (λ k. Token (k ∷ all) n (IsQuoted (IsLong x))) (sym is) (in_quotes all (number_at all) x n (IsLong x) c (number_whole all x c.size c.scanned))
 
-abbrev IsDouble : Bool → List ℕ → List ℕ → Type 0
+abbrev pub IsDouble : Bool → List ℕ → List ℕ → Type 0
 IsDouble key digits token = IsDoubleToken key digits (token ∷ [])
 
 spelled_back : (from : ℕ) (bytes : List ℕ) (scan : Scan ℕ) (digits : List ℕ) (n : ℕ) → spelled from bytes scan ≡ is_read (digits, n) → (x : ℕ) × (scan ≡ is_read (x, n)) × (take x (drop from bytes) ≡ digits)
@@ -199,31 +199,31 @@ quoted_number bytes digits n e =
 -- ---- the three words
 
 -- one letter after another
-letter : (x y : ℕ) (bytes letters : List ℕ) → x ≡ y → Prefix bytes letters → Prefix (x ∷ bytes) (y ∷ letters)
+pub letter : (x y : ℕ) (bytes letters : List ℕ) → x ≡ y → Prefix bytes letters → Prefix (x ∷ bytes) (y ∷ letters)
 letter x y bytes letters e p = record { rest = p.rest; laid = ap (λ k. k ∷ bytes) e ∙ ap (λ b. y ∷ b) p.laid }
 
-no_letters : (bytes : List ℕ) → Prefix bytes []
+pub no_letters : (bytes : List ℕ) → Prefix bytes []
 no_letters bytes = record { rest = bytes; laid = refl }
 
-abbrev nan : List ℕ
+abbrev pub nan : List ℕ
 nan = 78 ∷ 97 ∷ 78 ∷ []
 
-abbrev infinity : List ℕ
+abbrev pub infinity : List ℕ
 infinity = 73 ∷ 110 ∷ 102 ∷ 105 ∷ 110 ∷ 105 ∷ 116 ∷ 121 ∷ []
 
 -- one byte fits where it is there
 fits_next : (x m : ℕ) (bytes : List ℕ) (at : ℕ) → byte_fits (x ∷ bytes) (suc at) m ≡ byte_fits bytes at m
 fits_next x m bytes at = grind (arith, nat_tests)
 
-fits_first : (x m : ℕ) (bytes : List ℕ) → byte_fits (x ∷ bytes) 0 m ≡ true → x ≡ m
+pub fits_first : (x m : ℕ) (bytes : List ℕ) → byte_fits (x ∷ bytes) 0 m ≡ true → x ≡ m
 fits_first x m bytes e = grind (arith, nat_tests)
 
 -- each of these letters fits from this place on
-abbrev Fits : List ℕ → ℕ → List ℕ → Type 0
+abbrev pub Fits : List ℕ → ℕ → List ℕ → Type 0
 Fits bytes at [] = Unit {0}
 Fits bytes at (m ∷ letters) = (byte_fits bytes at m ≡ true) × Fits bytes (suc at) letters
 
-fits_on : (x : ℕ) (bytes : List ℕ) (at : ℕ) (letters : List ℕ) → Fits (x ∷ bytes) (suc at) letters → Fits bytes at letters
+pub fits_on : (x : ℕ) (bytes : List ℕ) (at : ℕ) (letters : List ℕ) → Fits (x ∷ bytes) (suc at) letters → Fits bytes at letters
 fits_on x bytes at [] h = tt
 fits_on x bytes at (m ∷ letters) h = (sym (fits_next x m bytes at) ∙ h.0, fits_on x bytes (suc at) letters h.1)
 
@@ -232,7 +232,7 @@ fitting bytes [] long h = no_letters bytes
 fitting [] (m ∷ letters) long h = absurd (omega arith)
 fitting (x ∷ bytes) (m ∷ letters) long h = letter x m bytes letters (fits_first x m bytes h.0) (fitting bytes letters (omega arith) (fits_on x bytes 0 letters h.1))
 
-both_hold : (a b : Bool) → (a && b) ≡ true → (a ≡ true) × (b ≡ true)
+pub both_hold : (a b : Bool) → (a && b) ≡ true → (a ≡ true) × (b ≡ true)
 both_hold true true e = (refl, refl)
 both_hold true false e = absurd (cc)
 both_hold false b e = absurd (cc)
@@ -253,7 +253,7 @@ nine_hold a b c d e f false h i p = absurd (cc)
 nine_hold a b c d e f g false i p = absurd (cc)
 nine_hold a b c d e f g h false p = absurd (cc)
 
-infinity_there : (bytes : List ℕ) (at : ℕ) → infinity_fits bytes at ≡ true → Fits bytes at (infinity ++ 34 ∷ [])
+pub infinity_there : (bytes : List ℕ) (at : ℕ) → infinity_fits bytes at ≡ true → Fits bytes at (infinity ++ 34 ∷ [])
 unfolding infinity_fits
 infinity_there bytes at e =
     let n = nine_hold (byte_fits bytes at 73) (byte_fits bytes (at + 1) 110) (byte_fits bytes (at + 2) 102) (byte_fits bytes (at + 3) 105) (byte_fits bytes (at + 4) 110) (byte_fits bytes (at + 5) 105) (byte_fits bytes (at + 6) 116) (byte_fits bytes (at + 7) 121) (byte_fits bytes (at + 8) 34) e in
@@ -279,16 +279,16 @@ word_token key bytes word digits size n is double fits e =
     let same : word ≡ digits = sym (take_front word (34 ∷ p.rest)) ∙ ap (take (length word)) (sym behind) ∙ ap (λ k. take k (drop 1 bytes)) w.1 ∙ s.2 in
     record { token = quoted word; rest = p.rest; laid = p.laid; long = sym w.2 ∙ is; is = double digits (sym same) }
 
-nan_double : (key : Bool) (d : List ℕ) → d ≡ nan → IsDouble key d (quoted nan)
+pub nan_double : (key : Bool) (d : List ℕ) → d ≡ nan → IsDouble key d (quoted nan)
 nan_double key d e = inr (inl e, ap (λ w. quoted w ∷ []) (sym e))
 
-above_double : (key : Bool) (d : List ℕ) → d ≡ infinity → IsDouble key d (quoted infinity)
+pub above_double : (key : Bool) (d : List ℕ) → d ≡ infinity → IsDouble key d (quoted infinity)
 above_double key d e = inr (inr (inl e), ap (λ w. quoted w ∷ []) (sym e))
 
-below_double : (key : Bool) (d : List ℕ) → d ≡ 45 ∷ infinity → IsDouble key d (quoted (45 ∷ infinity))
+pub below_double : (key : Bool) (d : List ℕ) → d ≡ 45 ∷ infinity → IsDouble key d (quoted (45 ∷ infinity))
 below_double key d e = inr (inr (inr e), ap (λ w. quoted w ∷ []) (sym e))
 
-five_hold : (a b c d e : Bool) → (a && b && c && d && e) ≡ true → (a ≡ true) × (b ≡ true) × (c ≡ true) × (d ≡ true) × (e ≡ true)
+pub five_hold : (a b c d e : Bool) → (a && b && c && d && e) ≡ true → (a ≡ true) × (b ≡ true) × (c ≡ true) × (d ≡ true) × (e ≡ true)
 five_hold true true true true true p = (refl, refl, refl, refl, refl)
 five_hold false b c d e p = absurd (cc)
 five_hold a false c d e p = absurd (cc)
@@ -296,7 +296,7 @@ five_hold a b false d e p = absurd (cc)
 five_hold a b c false e p = absurd (cc)
 five_hold a b c d false p = absurd (cc)
 
-three_hold : (a b c : Bool) → (a && b && c) ≡ true → (a ≡ true) × (b ≡ true) × (c ≡ true)
+pub three_hold : (a b c : Bool) → (a && b && c) ≡ true → (a ≡ true) × (b ≡ true) × (c ≡ true)
 three_hold true true true p = (refl, refl, refl)
 three_hold false b c p = absurd (cc)
 three_hold a false c p = absurd (cc)

@@ -5,3 +5,4 @@ pub mod Reads
 pub mod Refused
 pub mod Stated
 pub mod Written
+pub mod Faults

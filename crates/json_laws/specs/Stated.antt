@@ -1,5 +1,5 @@
 -- What is stated of a frame by the grammar and the reader, where an IDL declares something of its body or nothing.
-use Rattle.std.specs.Prelude.{◌≡◌, ℕ, ◌<◌, List, ◌++◌, length, Option}
+use Rattle.std.specs.Prelude.{◌≡◌, ℕ, ◌+◌, ◌<◌, ◌≤◌, List, ◌++◌, length, take, Option}
 use Rattle.thrift_value.specs.Items.{Item}
 use Rattle.thrift_value.specs.Trees.{Message, depth_of_members, items_of_members}
 use Rattle.protocol_traits.specs.declared.fault.Fault.{Fault}
@@ -78,3 +78,25 @@ pub record Begins (k : Known) (bytes : List ℕ) : Type 0 where
   pub message : Message
   pub shallow : depth_of_members message.body < 256
   pub spelled : JsonSpells k message (bytes ++ more)
+
+-- some message, of any depth, begins with them
+abbrev pub IsViable : Known → List ℕ → Type 0
+IsViable k front = (more : List ℕ) × (m : Message) × JsonSpells k m (front ++ more)
+
+-- the fault stands at their end, and some message, of any depth, begins with them
+abbrev pub IsCutShort : Known → List ℕ → Fault → Type 0
+IsCutShort k bytes f = (f.place ≡ length bytes) × IsViable k bytes
+
+-- The first byte that no message allows stands at this place: what stands before it begins a message, of any depth, and with it none begins.
+pub record IsFirstBad (k : Known) (bytes : List ℕ) (place : ℕ) : Type 0 where
+  pub within : place < length bytes
+  pub before : IsViable k (take place bytes)
+  pub behind : IsViable k (take (place + 1) bytes) → ⊥
+
+-- The first byte that no message allows tells the fault: what stands up to it, and it, is refused with the same fault, which stands there or
+-- before it.
+pub record FirstTells (k : Known) (bytes : List ℕ) (f : Fault) : Type 0 where
+  pub place : ℕ
+  pub first : IsFirstBad k bytes place
+  pub refused : IsRefused k (take (place + 1) bytes) f
+  pub before : f.place ≤ place

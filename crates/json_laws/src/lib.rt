@@ -3,7 +3,7 @@
 //! Each law is the contract of a function that does nothing. The code rests on none of them.
 #![tactic(auto)]
 
-ghost use Rattle.std.specs.Prelude.{◌≡◌, ◌<◌, ◌≤◌, ◌^◌, ◌⊎◌, ◌++◌, length, List, ℕ};
+ghost use Rattle.std.specs.Prelude.{◌≡◌, ◌≢◌, ◌<◌, ◌≤◌, ◌^◌, ◌⊎◌, ◌++◌, length, List, ℕ};
 ghost use Rattle.thrift_value.specs.Items.{Item};
 ghost use Rattle.thrift_value.specs.Trees.{Message, depth_of_members};
 ghost use Rattle.protocol_traits.specs.Heads.{Header};
@@ -11,7 +11,8 @@ ghost use Rattle.protocol_traits.specs.declared.fault.Fault.{Fault};
 ghost use Rattle.protocol_traits.specs.declared.fault.Reason.TheVariants as reasons;
 ghost use Rattle.json_text.specs.Grammar.{AreWhite};
 ghost use Rattle.binary_laws.specs.Written.{IsMessage};
-ghost use Rattle.json_laws.specs.Stated.{Known, JsonSpells, IsRead, IsReadWhole, IsReadAs, IsRefused, IsSpelled, SpellsItems, NoMessage, IsTooDeep, IsBad, StaysBad, Begins};
+ghost use Rattle.json_laws.specs.Stated.{Known, JsonSpells, IsRead, IsReadWhole, IsReadAs, IsRefused, IsSpelled, SpellsItems, NoMessage, IsTooDeep, IsBad, StaysBad, Begins, IsViable, IsCutShort, IsFirstBad, FirstTells};
+ghost use Rattle.json_laws.specs.Faults.{FaultStands};
 ghost use Rattle.json_laws.specs.Written.{IsWritten};
 
 /// What the grammar spells is read: the header of the message, the items of its body and the end, for every message of depth
@@ -72,4 +73,37 @@ pub fn refused_stays_refused()
     ensures none { (k : Known) (bytes more : List ℕ) (f : Fault) → IsBad k bytes f → NoMessage k (bytes ++ more) }
     ensures front { (k : Known) (bytes : List ℕ) (f : Fault) → Begins k bytes → IsRefused k bytes f → f.reason ≡ reasons.Truncated }
     ensures cut { (k : Known) (bytes : List ℕ) (f : Fault) → IsRefused k bytes f → f.reason ≡ reasons.Truncated → f.place ≡ length bytes }
+{}
+
+/// A frame is refused as truncated exactly where some bytes behind it make it a message: one that is refused so begins a message, of any
+/// depth, and the place is its end.
+pub fn truncated_is_viable()
+    ensures { (k : Known) (bytes : List ℕ) (f : Fault) → length bytes < 2 ^ 31 → IsRefused k bytes f → f.reason ≡ reasons.Truncated → IsCutShort k bytes f }
+{}
+
+/// A frame that is refused, other than as truncated or as too deep, begins no message, of any depth. So one that begins a message and is
+/// none is refused as truncated, or as too deep.
+pub fn refused_is_not_viable()
+    ensures { (k : Known) (bytes : List ℕ) (f : Fault) → IsBad k bytes f → f.reason ≢ reasons.TooDeep → IsViable k bytes → ⊥ }
+{}
+
+/// The first byte that no message allows tells the fault. A frame that is refused, other than as truncated or as too deep, has one such
+/// byte: what stands before it begins a message, of any depth, and with it none begins. What stands up to it, and it, is refused with the
+/// same fault, which stands there or before it. So what follows tells nothing, and the frame is refused with the same fault whatever comes
+/// behind it.
+pub fn the_first_byte_tells()
+    ensures tells { (k : Known) (bytes : List ℕ) (f : Fault) → length bytes < 2 ^ 31 → IsBad k bytes f → f.reason ≢ reasons.TooDeep → FirstTells k bytes f }
+    ensures one { (k : Known) (bytes : List ℕ) (m n : ℕ) → IsFirstBad k bytes m → IsFirstBad k bytes n → m ≡ n }
+    ensures stays { (k : Known) (bytes more : List ℕ) (f : Fault) → length bytes < 2 ^ 31 → IsBad k bytes f → f.reason ≢ reasons.TooDeep → IsRefused k (bytes ++ more) f }
+{}
+
+/// The fault that refuses a frame stands there, by the grammar. Truncated: some bytes behind the frame make it a message, of any depth, it
+/// is none of depth at most 256, and the place is its end. Trailing: a message stands before the place, and behind it something that is no
+/// whitespace. TooDeep: a struct, map, set or list is called for there, 256 levels lie around it, and no message of depth at most 256
+/// begins with the frame. Else no message, of any depth, begins with it, and before the place stand the first tokens of a message, with
+/// whitespace round them, which has next a token of the sort that the reason names: the version, a type, a kind's name, a field's id, a
+/// size, a bool, a number, a string as text or as base64, or a bracket, a brace, a comma or a colon. The place is where that token is
+/// called for, and no whitespace stands there; in a string as text it is where the string itself is at fault.
+pub fn the_fault_that_stands_there()
+    ensures { (k : Known) (bytes : List ℕ) (f : Fault) → length bytes < 2 ^ 31 → IsRefused k bytes f → FaultStands k bytes f }
 {}

@@ -322,9 +322,9 @@ bad_stays (x ∷ all) more q e = by_b (x == 34) refl
 
 -- ---- what is short can be made good
 
--- the bytes go on to a good string
+-- the bytes go on to a good string, by a few bytes
 abbrev pub Grows : List ℕ → Type 0
-Grows bytes = (more : List ℕ) × (b : List ℕ) × (n : ℕ) × (blob_at (bytes ++ more) ≡ Whole b n)
+Grows bytes = (more : List ℕ) × (b : List ℕ) × (n : ℕ) × (blob_at (bytes ++ more) ≡ Whole b n) × (length more ≤ 5)
 
 closed_good : (symbols padding b : List ℕ) → All is_symbol symbols → All is_padding padding → Apart is_symbol (padding ++ 34 ∷ []) → decoded symbols ≡ Some b → is_padded (length symbols) (length padding) ≡ true
     → blob_at (34 ∷ (symbols ++ (padding ++ 34 ∷ []))) ≡ Whole b (length symbols + length padding + 2)
@@ -334,7 +334,7 @@ closed_good symbols padding b are pads done found test =
 
 empty_good : Grows []
 unfolding encode_symbols
-empty_good = (34 ∷ 34 ∷ [], [], 2, closed_good [] [] [] tt tt refl (encoded_decodes [] tt) refl)
+empty_good = (34 ∷ 34 ∷ [], [], 2, closed_good [] [] [] tt tt refl (encoded_decodes [] tt) refl, omega arith)
 
 closed_never_short : (s k : ℕ) (found : Option (List ℕ)) (x : ℕ) → cond (x == 34) (closed_by s k found) (Bad 0) ≡ Short → ⊥
 closed_never_short s k None x e = by_b (x == 34) e
@@ -380,21 +380,21 @@ done_of (p ∷ padding) h = pad_no_symbol p h.0
 
 -- the padding that is still to come
 with_padding : (symbols padding b : List ℕ) → All is_symbol symbols → All is_padding padding → decoded symbols ≡ Some b → (length padding ≡ 0) ⊎ ((2 ≤ length symbols % 4) × (length symbols % 4 + length padding ≤ 4))
-    → (extra : ℕ) × (is_padded (length symbols) (length padding + extra) ≡ true)
-with_padding symbols padding b are pads found (inl none) = (0, let e : length padding + 0 ≡ 0 = omega arith in ap (is_padded (length symbols)) e)
+    → (extra : ℕ) × (is_padded (length symbols) (length padding + extra) ≡ true) × (extra ≤ 4)
+with_padding symbols padding b are pads found (inl none) = (0, (let e : length padding + 0 ≡ 0 = omega arith in ap (is_padded (length symbols)) e), omega arith)
 with_padding symbols padding b are pads found (inr h) =
     let s = length symbols in
     let k = length padding in
     let low = h.0 in
     let high = h.1 in
-    (4 - s % 4 - k, (let n = k + (4 - s % 4 - k) in let e : n ≡ 4 - s % 4 = omega arith in ap (is_padded s) e ∙ last_padding s low))
+    (4 - s % 4 - k, (let n = k + (4 - s % 4 - k) in let e : n ≡ 4 - s % 4 = omega arith in ap (is_padded s) e ∙ last_padding s low), omega arith)
   where
     last_padding : (s : ℕ) → 2 ≤ s % 4 → is_padded s (4 - s % 4) ≡ true
     last_padding s low = let few : 4 - s % 4 < 3 = omega arith in let whole : (s + (4 - s % 4)) % 4 ≡ 0 = omega arith in grind (arith, nat_tests)
 
-decoded_grows : (symbols padding b : List ℕ) → All is_symbol symbols → All is_padding padding → decoded symbols ≡ Some b → (extra : ℕ) × (is_padded (length symbols) (length padding + extra) ≡ true)
+decoded_grows : (symbols padding b : List ℕ) → All is_symbol symbols → All is_padding padding → decoded symbols ≡ Some b → (extra : ℕ) × (is_padded (length symbols) (length padding + extra) ≡ true) × (extra ≤ 4)
     → Grows (34 ∷ (symbols ++ (padding ++ [])))
-decoded_grows symbols padding b are pads found (extra, test) =
+decoded_grows symbols padding b are pads found (extra, test, few) =
     let all = padding ++ replicate extra 61 in
     let size : length all ≡ length padding + extra = omega (arith, length-append padding (replicate extra 61), length-replicate {A = ℕ} extra 61) in
     let pads_all = all_append is_padding padding (replicate extra 61) pads (padding_all extra) in
@@ -404,6 +404,7 @@ decoded_grows symbols padding b are pads found (extra, test) =
       b,
       length symbols + length all + 2,
       ap (λ r. blob_at (34 ∷ r)) laid ∙ closed_good symbols all b are pads_all (done_of all pads_all) found (ap (is_padded (length symbols)) size ∙ test),
+      omega (arith, few, length-append {A = ℕ} (replicate extra 61) (34 ∷ []), length-replicate {A = ℕ} extra 61),
     )
 
 letters : (k : ℕ) → All is_symbol (replicate k 65)
@@ -422,7 +423,8 @@ filled symbols are =
     let e = groups ((length symbols + k) / 4) all (size ∙ whole_groups (length symbols)) every in
     let found : decoded all ≡ Some e.bytes = ap decoded (sym e.same) ∙ encoded_decodes e.bytes e.are in
     let laid : (symbols ++ []) ++ (replicate k 65 ++ 34 ∷ []) ≡ all ++ 34 ∷ [] = ap (λ r. r ++ (replicate k 65 ++ 34 ∷ [])) (append-nil symbols) ∙ sym (append_more symbols (replicate k 65) (34 ∷ [])) in
-    (replicate k 65 ++ 34 ∷ [], e.bytes, length all + 0 + 2, ap (λ r. blob_at (34 ∷ r)) laid ∙ closed_good all [] e.bytes every tt refl found refl)
+    let few : k ≤ 4 = omega arith in
+    (replicate k 65 ++ 34 ∷ [], e.bytes, length all + 0 + 2, ap (λ r. blob_at (34 ∷ r)) laid ∙ closed_good all [] e.bytes every tt refl found refl, omega (arith, few, length-append {A = ℕ} (replicate k 65) (34 ∷ []), length-replicate {A = ℕ} k 65))
 
 open_grows : (symbols padding : List ℕ) (found : Option (List ℕ)) → decoded symbols ≡ found → Shape symbols padding [] → Open (length symbols) (length padding) found → Grows (34 ∷ (symbols ++ (padding ++ [])))
 open_grows symbols padding None e shape none = subst (λ p. Grows (34 ∷ (symbols ++ (p ++ [])))) (sym (none_of padding none)) (filled symbols shape.are)
@@ -432,7 +434,7 @@ short_by : (symbols padding rest : List ℕ) → Shape symbols padding rest → 
 short_by symbols padding [] shape e = open_grows symbols padding (decoded symbols) refl shape (open_short (length symbols) (length padding) (decoded symbols) e)
 short_by symbols padding (x ∷ rest) shape e = absurd (closed_never_short (length symbols) (length padding) (decoded symbols) x e)
 
-short_grows : (bytes : List ℕ) → blob_at bytes ≡ Short → Grows bytes
+pub short_grows : (bytes : List ℕ) → blob_at bytes ≡ Short → Grows bytes
 short_grows [] e = empty_good
 short_grows (x ∷ all) e = by_b (x == 34) refl
   where

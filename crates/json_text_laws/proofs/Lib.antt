@@ -18,3 +18,4 @@ pub mod Open
 pub mod Sizes
 pub mod Places
 pub mod TextLaw
+pub mod Completed

@@ -143,7 +143,7 @@ to_number xs (minus, whole, fraction, exponent, is, m, w, f, e) = subst GNumber 
 
 -- ---- what the scan tells
 
-number_sound : (run : List ℕ) → number_in run ≡ Number → IsNumber run
+pub number_sound : (run : List ℕ) → number_in run ≡ Number → IsNumber run
 number_sound run e = number_of run (number_part.sound run e)
 
 number_whole : (run : List ℕ) → IsNumber run → number_in run ≡ Number

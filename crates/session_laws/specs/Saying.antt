@@ -61,7 +61,7 @@ BeginsWith protocol header frame = (front : List ℕ) × (rest : List ℕ) × (f
 abbrev pub IsHeadedBy : Passage → Header → List ℕ → Type 0
 IsHeadedBy p header frame = BeginsWith p.from header frame × IsShort p.from frame
 
--- the fault that stands in a frame of this protocol; in one of JSON it is the one with which its reader refuses it
+-- the fault that stands in a frame of this protocol; of JSON it is said too that its reader refuses the frame with it
 abbrev pub FaultBy : Passage → Proto → List ℕ → Fault → Type 0
 FaultBy p protocols.Binary frame f = binary_faults.FaultAt frame f
 FaultBy p protocols.Compact frame f = compact_faults.FaultAt frame f

@@ -166,7 +166,7 @@ module _ (d : Declarations) (service : Option ServiceId) (frame : List ℕ) (sma
           (subst (λ h. shown_by json_source (start_of d route) frame ≡ Line (line_of d service h (items_of_members m.0.body))) m.1
           (subst (λ xs. shown_by json_source (start_of d route) frame ≡ Line (line_of d service header xs)) m.2 is))
       by_outcome (IsCut f header items first last headed reads refuses) =
-          json_cut f header items first last headed reads (json.fault_behind d route frame f header items first last headed reads refuses) refuses
+          json_cut f header items first last headed reads (json.fault_behind d route frame f header items first last small headed reads refuses) refuses
       by_outcome (IsHeadless f e) =
-          TellsNoHeader f (λ header front rest laid spells. json_none frame header f e (front, rest, laid, spells)) (json.fault_before d route frame f e)
+          TellsNoHeader f (λ header front rest laid spells. json_none frame header f e (front, rest, laid, spells)) (json.fault_before d route frame f small e)
           (shown_unread json_source json.levels json.nested (start_of d route) frame f e)

@@ -1,6 +1,6 @@
 -- What each frame gives, and what all of them give.
-use Rattle.std.proofs.Common.{◌≡◌, ℕ, ◌+◌, ◌<◌, true, false, List, [], ◌∷◌, refl, ap, ◌∙◌, sym, inl, inr}
-use Rattle.thrift_value.specs.Trees.{Message, depth_of_members}
+use Rattle.std.proofs.Common.{◌≡◌, ℕ, ◌+◌, true, false, List, [], ◌∷◌, refl, ap, ◌∙◌, sym, inl, inr}
+use Rattle.thrift_value.specs.Trees.{Message}
 use Rattle.protocol_traits.specs.declared.fault.Fault.{Fault}
 use Rattle.protocol_traits.specs.declared.proto.Proto.{Proto}
 use Rattle.protocol_traits.specs.declared.proto.Proto.TheVariants as protocols
@@ -8,10 +8,7 @@ use Rattle.type_tables.specs.Declarations.{Declarations}
 use Rattle.translate_core.specs.declared.route.Route.{Route}
 use Rattle.translate_core.specs.declared.route.Route.TheVariants.{ByName}
 use Rattle.protocol_traits.specs.Heads.{Header}
-use Rattle.translate_core.specs.declared.verdict.Cause.{Cause}
-use Rattle.translate_core.specs.declared.verdict.HeadInfo.{HeadInfo}
-use Rattle.translate_core.specs.declared.verdict.Verdict.TheVariants.{Refused}
-use Rattle.translate_core.specs.Judged.{Judged, judged}
+use Rattle.translate_core.specs.Judged.{Judged}
 use Rattle.framed_transport.specs.Frames.{framed}
 use Rattle.gate_base.specs.Bytes.{AreBytes}
 use Rattle.verdict_laws.specs.Bars.{Spot}
@@ -24,7 +21,7 @@ use Rattle.verdict_laws.proofs.Round.{held_round}
 use Rattle.gate_run.specs.declared.task.Doing.TheVariants.{Convert}
 use Rattle.gate_run.specs.Handling.{translated, treated_by, is_passed, bytes_for, output_of, outputs}
 use Rattle.gate_run.specs.Terms.{Terms, judged_by}
-use Rattle.stream_laws.specs.Streams.{Carries, Gives, GiveAll, AreFrames}
+use Rattle.stream_laws.specs.Streams.{Gives, GiveAll, AreFrames}
 
 -- what is written of a frame, by its verdict
 written : (k : Terms) (from to : Proto) (number : ℕ) (frame : List ℕ) → k.doing ≡ Convert from to → output_of k number frame ≡ bytes_for number (translated (judged_by k from to frame))

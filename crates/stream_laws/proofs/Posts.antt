@@ -1,9 +1,7 @@
 -- What a server has carried whose clients send POSTs, from its clause.
-use Rattle.std.proofs.Common.{◌≡◌, ℕ, ◌<◌, ◌^◌, List, Option, None, Some, Bool, true, false, true≢false, inl, inr, refl, sym, ◌∙◌, subst}
-use Rattle.gate_base.specs.Bytes.{AreBytes}
-use Rattle.gate_hub.specs.Meaning.{Link, Meaning, link_of}
+use Rattle.std.proofs.Common.{◌≡◌, ℕ, ◌<◌, ◌^◌, List, Option, None, Some, Bool, false, true≢false, inl, inr, refl, sym, ◌∙◌, subst}
+use Rattle.gate_hub.specs.Meaning.{Link, Meaning}
 use Rattle.gate_hub.specs.Hubs.{Counts}
-use Rattle.gate_hub.specs.declared.hub.Side.{Side}
 use Rattle.http_front.specs.Fronts.{Reading}
 use Rattle.http_front.specs.Moving.{carried}
 use Rattle.http_front.specs.Posts.{Post}

@@ -1,5 +1,5 @@
 -- What a server has carried, from its clause.
-use Rattle.std.proofs.Common.{◌≡◌, ℕ, inl, inr, Option, None, Some, refl, sym, subst}
+use Rattle.std.proofs.Common.{◌≡◌, ℕ, inl, inr, Option, refl, sym, subst}
 use Rattle.gate_hub.specs.Meaning.{Meaning}
 use Rattle.gate_hub.specs.Hubs.{Counts, StartLeads}
 use Rattle.gate_hub.specs.declared.hub.Began.TheVariants as began

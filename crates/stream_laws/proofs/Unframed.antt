@@ -1,9 +1,8 @@
 -- What a server has carried whose sides have no frames, from its clause.
-use Rattle.std.proofs.Common.{◌≡◌, ℕ, ◌<◌, ◌^◌, Bool, true, false, inl, inr, Option, None, Some, refl, sym, ◌∙◌, subst}
+use Rattle.std.proofs.Common.{◌≡◌, ℕ, ◌<◌, ◌^◌, inl, inr, Option, sym, ◌∙◌, subst}
 use Rattle.gate_base.specs.Bytes.{AreBytes}
 use Rattle.gate_hub.specs.Meaning.{Meaning, link_of}
 use Rattle.gate_hub.specs.Hubs.{Counts, NotStarted}
-use Rattle.gate_hub.specs.declared.hub.Served.{Served}
 use Rattle.gate_hub.specs.declared.hub.Side.{Side}
 use Rattle.gate_hub.specs.declared.hub.Side.TheVariants as side
 use Rattle.stream_messages.specs.declared.lanes.Wrapping.{Wrapping}
@@ -12,16 +11,14 @@ use Rattle.stream_messages.specs.Telling.{Tells, TellsOver}
 use Rattle.unframed_laws.specs.Wrapped.{IsLimited, AreSidesTold}
 use Rattle.proxy_server.specs.Serving.{KeepsFrom}
 use Rattle.gate_words.specs.declared.serving.Serving.{Serving}
-use Rattle.gate_words.specs.declared.peers.Sides.{Sides}
 use Rattle.gate_run.specs.Outcome.{Streams}
-use Rattle.gate_run.specs.Peers.{Unframed, unframed, unframed_tells, unframed_counts, wrapping_by, ServesUnframed}
-use Rattle.gate_run.specs.Serving.{ServesAll, Began, NotBegun, NoMemory, setting_by, served_from}
+use Rattle.gate_run.specs.Peers.{Unframed, unframed, unframed_tells, unframed_counts}
+use Rattle.gate_run.specs.Serving.{ServesAll, Began, NotBegun, NoMemory, served_from}
 use Rattle.gate_run.specs.Undisturbed.{IsUntouched}
 use Rattle.gate_run.specs.declared.start.Start.{Start}
 use Rattle.gate_run.specs.declared.status.Ending.{Ending}
 use Rattle.gate_run.proofs.Wrapped.{tells_before}
-use Rattle.session_laws.specs.Serving.{HasCourse}
-use Rattle.stream_laws.specs.Sessions.{IsCarriedOver, CarriesMessagesOver}
+use Rattle.stream_laws.specs.Sessions.{CarriesMessagesOver}
 use Rattle.stream_laws.proofs.Sessions.{IsServer, fresh}
 
 -- the law of what is told of a side that is wrapped

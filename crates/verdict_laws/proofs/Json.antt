@@ -35,9 +35,10 @@ use Rattle.json_laws.specs.Fronts.{IsOfValue, ValueStands}
 use Rattle.json_laws.specs.Reads.{Reads, IsRead}
 use Rattle.json_laws.specs.Refused.{Refuses, IsRefused}
 use Rattle.json_laws.specs.Refused as refusing
-use Rattle.json_laws.specs.Stated.{JsonSpells}
+use Rattle.json_laws.specs.Stated.{Known, JsonSpells}
 use Rattle.json_laws.proofs.Either.{read_or_refused}
 use Rattle.json_laws.proofs.Fronting.{header_again, name_stands, value_stands}
+use Rattle.json_laws.proofs.Standing.{fault_stands}
 use Rattle.json_laws.proofs.Sound.{same_step, read_spelled}
 use Rattle.json_laws.proofs.Spelled.{spelled_read}
 use Rattle.verdict_laws.specs.Bars.{the_name, behind_items, name_bar_in, bar_in, OfName, OfItem, JsonPlace}
@@ -149,12 +150,16 @@ message_read d route frame header items small read =
     (m.0, m.1, m.2, m.3, subst (λ k. JsonSpells (known_by d route k) m.0 frame) m.1 m.4)
 
 -- the fault of one that is refused
-pub fault_behind : (d : Declarations) (route : Route) (frame : List ℕ) (f : Fault) (header : Header) (items : List Item) (first last : State) → reads_head (begun frame) ≡ Ok (header, first)
-    → Reads (start d (body_of d route header)) first items last → Refuses (refusing.behind (start d (body_of d route header)) items) last f → JsonFault d route frame f
-fault_behind d route frame f header items first last headed reads refuses = (known_by d route header, known_of d route frame header first headed, inr (header, items, first, last, headed, reads, refuses))
+fault_of : (d : Declarations) (route : Route) (frame : List ℕ) (f : Fault) (k : Known) → length frame < 2 ^ 31 → IsKnownOf d route frame k → IsRefused (start k.declared k.body) frame f → JsonFault d route frame f
+fault_of d route frame f k small known refused = (k, known, fault_stands k frame f small refused, refused)
 
-pub fault_before : (d : Declarations) (route : Route) (frame : List ℕ) (f : Fault) → reads_head (begun frame) ≡ Err f → JsonFault d route frame f
-fault_before d route frame f e = (record { declared = d; body = None }, none_known d route frame f e, inl e)
+pub fault_behind : (d : Declarations) (route : Route) (frame : List ℕ) (f : Fault) (header : Header) (items : List Item) (first last : State) → length frame < 2 ^ 31 → reads_head (begun frame) ≡ Ok (header, first)
+    → Reads (start d (body_of d route header)) first items last → Refuses (refusing.behind (start d (body_of d route header)) items) last f → JsonFault d route frame f
+fault_behind d route frame f header items first last small headed reads refuses =
+    fault_of d route frame f (known_by d route header) small (known_of d route frame header first headed) (inr (header, items, first, last, headed, reads, refuses))
+
+pub fault_before : (d : Declarations) (route : Route) (frame : List ℕ) (f : Fault) → length frame < 2 ^ 31 → reads_head (begun frame) ≡ Err f → JsonFault d route frame f
+fault_before d route frame f small e = fault_of d route frame f (record { declared = d; body = None }) small (none_known d route frame f e) (inl e)
 
 -- where an item is called for, by the walk that starts at the header
 pub called_there : (d : Declarations) (route : Route) (header : Header) (items : List Item) (last : State) (step : Step State Item) → reads last (hint_of (refusing.behind (start d (body_of d route header)) items)) ≡ step
@@ -299,8 +304,8 @@ module _ (d : Declarations) (route : Route) (to : Proto) (frame : List ℕ) (sma
           let body = subst (λ k. Reads (start d (body_of d route k)) first (items_of_members m.0.body) last) m.1 (subst (λ xs. Reads (start d (body_of d route header)) first xs last) m.2 reads) in
           by_name m.0 m.4 m.3 first last (subst (λ k. reads_head (begun frame) ≡ Ok (k, first)) m.1 headed) body none ends (name_bar_in to m.0.name) refl
       by_outcome (IsCut f header items first last headed reads refuses) =
-          by_refusal f header items first last headed reads (fault_behind d route frame f header items first last headed reads refuses) refuses
-      by_outcome (IsHeadless f e) = ReadUnread f e (fault_before d route frame f e) (judge_err json_source typed (start_of d route) (info_of d route) target frame f e)
+          by_refusal f header items first last headed reads (fault_behind d route frame f header items first last small headed reads refuses) refuses
+      by_outcome (IsHeadless f e) = ReadUnread f e (fault_before d route frame f small e) (judge_err json_source typed (start_of d route) (info_of d route) target frame f e)
 
 pub json_judged : (d : Declarations) (route : Route) (to : Proto) (frame : List ℕ) → length frame < 2 ^ 31
     → IsReadVerdict json_source (SpellsBy d route protocols.Json) (JsonFault d route) (JsonPlace d route) d route to frame (pairs.judged d route protocols.Json to frame)

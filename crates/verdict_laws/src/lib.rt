@@ -23,7 +23,7 @@ pub fn a_compact_frame_is_judged_by_its_grammar()
 {}
 
 /// The same for a frame of JSON of less than 2^31 bytes. Its strings are spelled by what is declared of their positions; the fault is the one
-/// with which its reader refuses it.
+/// with which its reader refuses it, and stands there by the grammar.
 pub fn a_json_frame_is_judged_by_its_grammar()
     ensures { (d : Declarations) (route : Route) (to : Proto) (frame : List ℕ) → length frame < 2 ^ 31 → IsJsonVerdict d route to frame }
 {}

@@ -1,0 +1,6 @@
+use Rattle.json_laws.proofs.FirstBad.{first_is_one}
+use Rattle.json_laws.proofs.Told.{stays_same, first_tells}
+use Rattle.json_laws.proofs.the_first_byte_tells.Goals as goal
+
+pub returns : goal.returns
+returns c = record { tells = first_tells; one = first_is_one; stays = stays_same }
