@@ -1,13 +1,14 @@
--- Lemmas on tokens that begin a document, and on what declarations mean.
+-- Lemmas on what declarations mean.
 pub mod Firsts
-pub mod Fronts
 pub mod Lawful
 pub mod LookedUp
 pub mod Meant
 pub mod Missing
+pub mod Named
 pub mod Numbered
 pub mod PartsMeant
 pub mod Placed
 pub mod Runs
+pub mod Sized
 pub mod Standing
 pub mod Tables

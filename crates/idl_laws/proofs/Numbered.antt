@@ -7,7 +7,7 @@ use Rattle.idl_laws.proofs.Firsts.{First}
 use Rattle.idl_schema.specs.Numbers.{after, after_all, files_numbers, first_of, numbers_in, numbers_of, start}
 use Rattle.idl_laws.specs.Counts.{all_definitions, definitions_before, definitions_in, enum_number, enums_of, service_number, services_of, struct_number, structs_of, total}
 
-total-append : (w : DefinitionTree → ℕ) (xs ys : List DefinitionTree) → total w (xs ++ ys) ≡ total w xs + total w ys
+pub total-append : (w : DefinitionTree → ℕ) (xs ys : List DefinitionTree) → total w (xs ++ ys) ≡ total w xs + total w ys
 total-append w [] ys = omega arith
 total-append w (x ∷ xs) ys = let rest = total-append w xs ys in omega (arith, rest)
 

@@ -7,12 +7,15 @@ use Rattle.idl_rules.specs.Ids.{counted, id_of}
 use Rattle.idl_names.specs.declared.documents.Spot.{Spot}
 use Rattle.idl_names.specs.Files.{FileTree}
 use Rattle.idl_names.specs.Meaning.{meaning}
+use Rattle.idl_names.specs.Paths.{last_place}
 use Rattle.idl_names.specs.Targets.{definition_at}
 use Rattle.type_tables.specs.declared.declared.FieldInfo.{FieldInfo}
 use Rattle.type_tables.specs.declared.declared.MethodInfo.{MethodInfo}
+use Rattle.type_tables.specs.declared.declared.ServiceId.{ServiceId}
 use Rattle.type_tables.specs.declared.declared.Ty.{Ty}
 use Rattle.type_tables.specs.Declarations.{Declarations}
 use Rattle.type_tables.specs.Fields.{field_in}
+use Rattle.type_tables.specs.Names.{value_of}
 use Rattle.type_tables.specs.Services.{method_in, number}
 use Rattle.idl_laws.specs.Counts.{service_number}
 use Rattle.idl_laws.specs.Declared.{AreFields, IsField, IsMethod}
@@ -77,3 +80,22 @@ module _ (files : List FileTree) (d : Declarations) where
   -- none is missed that a service declares or inherits
   abbrev pub FindsMethods : Type 0
   FindsMethods = (spot : Spot) (word : List ℕ) → method_in d.services (number (service_number files spot)) word ≡ None → (method : MethodInfo) → IsMethodOf spot word method → ⊥
+
+-- the names that services are declared with have no dot, which the grammar sees to
+abbrev pub AreDotless : List FileTree → Type 0
+AreDotless files = (spot : Spot) (name : Name) (base : Option Name) (functions : List FunctionTree) → definition_at files spot ≡ Some (service_of name base functions) → last_place 46 name.text ≡ None
+
+module _ (files : List FileTree) where
+  -- the service that this name means in the root file
+  pub record IsRootService (word : List ℕ) (id : ServiceId) : Type 0 where
+    pub spot : Spot
+    pub name : Name
+    pub base : Option Name
+    pub functions : List FunctionTree
+    pub declared : definition_at files spot ≡ Some (service_of name base functions)
+    pub means : meaning files 0 scopes.Services word ≡ Some spot
+    pub is : id ≡ number (service_number files spot)
+
+  -- each service that is found under a name
+  abbrev pub AnswersServices : Declarations → Type 0
+  AnswersServices d = (word : List ℕ) (id : ServiceId) → value_of word d.names ≡ Some id → IsRootService word id

@@ -4,7 +4,8 @@ ghost use Rattle.idl_names.specs.Files.{FileTree};
 ghost use Rattle.type_tables.specs.Declarations.{Declarations};
 ghost use Rattle.idl_resolve.specs.Loads.{Resolved};
 ghost use Rattle.idl_laws.specs.Declared.{ArePartsMeant, HasAll};
-ghost use Rattle.idl_laws.specs.LookUps.{AnswersIds, AnswersMethods, FindsMethods};
+ghost use Rattle.idl_laws.specs.LookUps.{AnswersIds, AnswersMethods, AnswersServices, AreDotless, FindsMethods};
+ghost use Rattle.idl_laws.specs.Sizes.{HasNoMore};
 ghost use Rattle.idl_laws.specs.TypeMeanings.{MeansOneThing};
 
 /// A type of the text means one thing at most.
@@ -17,6 +18,11 @@ pub fn a_type_means_one_thing()
 /// of these types means something, and its type in the tables denotes that.
 pub fn tables_have_all_that_is_declared()
     ensures { (files : List FileTree) (schema : Declarations) → Resolved files schema → HasAll files schema }
+{}
+
+/// They have nothing besides: as many enums, structs and services as the files declare, and the built-in exception.
+pub fn tables_have_nothing_more()
+    ensures { (files : List FileTree) (schema : Declarations) → Resolved files schema → HasNoMore files schema }
 {}
 
 /// Each part of a type in these tables denotes what a type of the text means.
@@ -39,4 +45,9 @@ pub fn methods_are_own_or_inherited()
 /// Where none is found, the service neither declares nor inherits one of this name.
 pub fn declared_methods_are_found()
     ensures { (files : List FileTree) (schema : Declarations) → Resolved files schema → FindsMethods files schema }
+{}
+
+/// A service that is looked up by a name, as `Name` or `p.Name`, is the one that this name means in the root file.
+pub fn services_have_the_roots_names()
+    ensures { (files : List FileTree) (schema : Declarations) → Resolved files schema → AreDotless files → AnswersServices files schema }
 {}

@@ -2,14 +2,14 @@
 use Rattle.std.proofs.Common.{◌≡◌, ◌∙◌, ap, sym, subst, ℕ, zero, suc, ◌<◌, ◌≤◌, ◌⊎◌, inl, inr, List, [], ◌∷◌, ◌++◌, length, take, drop, arith, refl}
 use Rattle.idl_parser.specs.Seen.{Seen}
 use Rattle.idl_parser.specs.Lexemes.{offset_of}
-use Rattle.idl_laws.specs.Faults.{IsDocument, Begins, IsFaultPlace, IsFaultAt, at_token, at_end}
+use Rattle.grammar_laws.specs.Faults.{IsDocument, Begins, IsFaultPlace, IsFaultAt, at_token, at_end}
 
 append_twice : (xs ys zs : List Seen) → (xs ++ ys) ++ zs ≡ xs ++ (ys ++ zs)
 append_twice [] ys zs = refl
 append_twice (x ∷ xs) ys zs = ap (λ (t : List Seen). x ∷ t) (append_twice xs ys zs)
 
 -- a longer front is a shorter one with more behind it
-longer : (m n : ℕ) (xs : List Seen) → m ≤ n → (more : List Seen) × (take n xs ≡ take m xs ++ more)
+pub longer : (m n : ℕ) (xs : List Seen) → m ≤ n → (more : List Seen) × (take n xs ≡ take m xs ++ more)
 longer zero n xs few = (take n xs, refl)
 longer (suc m) zero xs few = absurd (omega arith)
 longer (suc m) (suc n) [] few = ([], refl)
@@ -22,7 +22,7 @@ all_of (x ∷ xs) = ap (λ (t : List Seen). x ∷ t) (all_of xs)
 front_begins : (xs more : List Seen) → Begins (xs ++ more) → Begins xs
 front_begins xs more b = (more ++ b.0, subst IsDocument (append_twice xs more b.0) b.1)
 
-shorter_begins : (m n : ℕ) (xs : List Seen) → m ≤ n → Begins (take n xs) → Begins (take m xs)
+pub shorter_begins : (m n : ℕ) (xs : List Seen) → m ≤ n → Begins (take n xs) → Begins (take m xs)
 shorter_begins m n xs few b = let split = longer m n xs few in front_begins (take m xs) split.0 (subst Begins split.1 b)
 
 empty_behind : (xs : List Seen) → xs ≡ xs ++ []
@@ -42,7 +42,7 @@ not_behind : (xs : List Seen) (m n : ℕ) → IsFaultPlace xs m → IsFaultPlace
 not_behind xs m n (at_token few b none) other less = none (shorter_begins (suc m) n xs (omega (arith, less)) (begins_before xs n other).1)
 not_behind xs m n (at_end all b none) other less = let within = (begins_before xs n other).0 in omega (arith, within, all, less)
 
-order : (m n : ℕ) → (m ≡ n) ⊎ ((m < n) ⊎ (n < m))
+pub order : (m n : ℕ) → (m ≡ n) ⊎ ((m < n) ⊎ (n < m))
 order zero zero = inl refl
 order zero (suc n) = inr (inl (omega arith))
 order (suc m) zero = inr (inr (omega arith))

@@ -1,0 +1,3 @@
+-- Files are texts.
+pub mod Answered
+pub mod Texts

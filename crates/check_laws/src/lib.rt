@@ -1,0 +1,30 @@
+//! Laws of the check of an IDL: what it answers is what the texts of the files are by the grammar. Each law is the contract
+//! of a function that does nothing. No code rests on them.
+#![tactic(auto)]
+
+ghost use Rattle.std.specs.Prelude.{◌≡◌, ℕ, List, Option, Some};
+ghost use Rattle.idl_files.specs.Walk.{walked};
+ghost use Rattle.gate_idl.specs.Opening.{IsOpened, Opened};
+ghost use Rattle.gate_run.specs.Running.{Obeys, Outside};
+ghost use Rattle.gate_run.specs.declared.status.Ending.{Ending};
+ghost use Rattle.gate_words.specs.declared.command.Command.TheVariants.{Check};
+ghost use Rattle.check_laws.specs.Answers.{IsAnswered, SaysWhatIs};
+ghost use Rattle.check_laws.specs.Held.{IsWalked};
+
+/// The files that a root leads to are each the document of the text that is held under their name; or the walk breaks off at a
+/// text with the very fault that the text has.
+pub fn files_are_their_texts()
+    ensures { (holds : List ℕ → Option (List ℕ)) (root : List ℕ) → IsWalked holds (walked holds root) }
+{}
+
+/// So an IDL that a command opens is what its texts declare, or is refused for what is wrong with them.
+pub fn an_opened_idl_is_its_texts()
+    ensures { (holds : List ℕ → Option (List ℕ)) (root : List ℕ) (answer : Opened) → IsOpened holds root answer → IsAnswered holds answer }
+{}
+
+/// And the command `check`, where the files tell what they hold, writes how much good texts declare, or reports what is wrong;
+/// or a file could not be read, or memory was not found.
+pub fn a_check_says_what_the_texts_are()
+    ensures { (file : List ℕ) (x y : Outside) (ending : Ending) (holds : List ℕ → Option (List ℕ)) → Obeys (Check file) x y ending
+        → x.holds ≡ Some holds → SaysWhatIs holds x.streams y.streams ending }
+{}

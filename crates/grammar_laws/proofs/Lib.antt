@@ -1,0 +1,22 @@
+-- How scans read what the grammar derives.
+pub mod Chains
+pub mod Choices
+pub mod Deepest
+pub mod Definitions
+pub mod Documents
+pub mod Fields
+pub mod Fronts
+pub mod Functions
+pub mod Lexicon
+pub mod Lists
+pub mod Many
+pub mod Members
+pub mod Notes
+pub mod Parsed
+pub mod Reading
+pub mod Singles
+pub mod Steps
+pub mod Texts
+pub mod TokenKinds
+pub mod Types
+pub mod Values

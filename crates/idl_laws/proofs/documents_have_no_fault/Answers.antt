@@ -1,5 +1,0 @@
-use Rattle.idl_laws.proofs.Fronts.{no_fault}
-use Rattle.idl_laws.proofs.documents_have_no_fault.Goals as goal
-
-pub returns : goal.returns
-returns c = no_fault

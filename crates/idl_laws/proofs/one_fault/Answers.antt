@@ -1,5 +1,0 @@
-use Rattle.idl_laws.proofs.Fronts.{one_place}
-use Rattle.idl_laws.proofs.one_fault.Goals as goal
-
-pub returns : goal.returns
-returns c = one_place

@@ -1,5 +1,0 @@
-use Rattle.idl_laws.proofs.Fronts.{one_offset}
-use Rattle.idl_laws.proofs.one_offset.Goals as goal
-
-pub returns : goal.returns
-returns c = one_offset
