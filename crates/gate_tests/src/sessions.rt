@@ -174,6 +174,12 @@ fn feed<J: Judge>(
     Ok(())
 }
 
+/// Whether each side was sent so many bytes of what the row tells.
+fn was_sent(seen: &Seen, row: &Row, client: usize, upstream: usize) -> bool {
+    Some(seen.client.as_slice()) == row.answers.get(..client)
+        && Some(seen.upstream.as_slice()) == row.passed.get(..upstream)
+}
+
 /// Whether a session does what the row tells, fed in pieces of this size while so many bytes are sent at a time.
 fn goes_so<J: Judge>(
     session: &mut Session<J>,
@@ -186,9 +192,7 @@ fn goes_so<J: Judge>(
 {
     for (side, bytes, client, upstream) in row.steps {
         feed(session, *side, bytes, seen, piece, most)?;
-        let is_so = Some(seen.client.as_slice()) == row.answers.get(..*client)
-            && Some(seen.upstream.as_slice()) == row.passed.get(..*upstream);
-        if !is_so {
+        if !was_sent(seen, row, *client, *upstream) {
             return Ok(false);
         }
     }
@@ -197,8 +201,7 @@ fn goes_so<J: Judge>(
     }
     Ok(
         seen.held <= BOUND
-            && seen.client.as_slice() == row.answers
-            && seen.upstream.as_slice() == row.passed
+            && was_sent(seen, row, row.answers.len(), row.passed.len())
             && session.outcome() == row.outcome,
     )
 }
