@@ -1,8 +1,7 @@
 -- The fields of a struct that are looked for.
-use Rattle.std.proofs.Common.{◌≡◌, ℕ, ℤ, zero, suc, ◌+◌, ◌<◌, ◌≤◌, List, [], ◌∷◌, Bool, true, false, ◌&&◌, Option, Some, None, length, drop, refl, ap, ◌∙◌, sym, arith}
-use Rattle.std.specs.Prelude.{slice_get, nat_lt, if◌then◌else◌, not}
+use Rattle.std.proofs.Common.{◌≡◌, ℕ, ℤ, zero, suc, ◌+◌, ◌≤◌, List, [], ◌∷◌, Bool, true, false, ◌&&◌, Some, None, length, drop, refl, ap, ◌∙◌, arith}
+use Rattle.std.specs.Prelude.{slice_get, not}
 use Rattle.std.proofs.lemmas.Bool.Decides.{nat_tests}
-use Rattle.std.proofs.lemmas.Option.{slice_get_within}
 use Rattle.type_tables.specs.declared.declared.FieldInfo.{FieldInfo}
 use Rattle.type_tables.specs.declared.tables.StructDecl.{StructDecl}
 use Rattle.type_tables.specs.Structs.{fields_of, greater, widest, widest_from}

@@ -1,12 +1,12 @@
 -- What is found of a frame, from its parts.
-use Rattle.std.proofs.Common.{◌≡◌, ℕ, List, [], Option, Some, None, Ok, Err, refl, ap, sym, subst, ◌∙◌}
+use Rattle.std.proofs.Common.{◌≡◌, ℕ, List, [], Option, Ok, Err, refl, ap, sym, subst, ◌∙◌}
 use Rattle.type_tables.specs.declared.declared.ServiceId.{ServiceId}
 use Rattle.type_tables.specs.Declarations.{Declarations}
 use Rattle.type_walk.specs.Positions.{Position}
 use Rattle.protocol_traits.specs.declared.fault.Fault.{Fault}
 use Rattle.protocol_traits.specs.Heads.{Header}
 use Rattle.protocol_traits.specs.Steps.{Step as ReadStep, told}
-use Rattle.translate_core.specs.Body.{Source, Ended, Going}
+use Rattle.translate_core.specs.Body.{Source, Ended}
 use Rattle.conform_check.specs.declared.step.Step.{Step}
 use Rattle.conform_check.specs.declared.breach.Breach.{Breach}
 use Rattle.conform_check.specs.declared.breach.Checked.{Checked}

@@ -1,5 +1,5 @@
 -- What is open fits what is declared, behind each event.
-use Rattle.std.proofs.Common.{◌≡◌, ℕ, ℤ, pos, suc, ◌≤◌, ◌<◌, List, [], ◌∷◌, ◌++◌, Bool, true, false, Option, Some, None, length, length-append, subst, refl, ap, ◌∙◌, sym, arith}
+use Rattle.std.proofs.Common.{◌≡◌, ℤ, pos, suc, ◌<◌, List, [], ◌∷◌, ◌++◌, Bool, true, false, Option, Some, None, length, length-append, subst, refl, ap, sym, arith}
 use Rattle.std.specs.Prelude.{is_some, not}
 use Rattle.std.specs.List.{IsDistinct}
 use Rattle.thrift_value.specs.declared.kind.Kind.{Kind}
@@ -21,7 +21,7 @@ use Rattle.conform_check.specs.declared.breach.Breach.{Breach}
 use Rattle.conform_check.specs.declared.breach.Breach.TheVariants as breaches
 use Rattle.conform_check.specs.Inside.{Inside, advanced, announced, closed, in_fields, inside_after, opened, top_seen}
 use Rattle.conform_check.specs.Breaches.{at, breach_unless, declared_for, field_breach, found_in, stood}
-use Rattle.conform_check.specs.Fitting.{AreFields, AreFitting, IsFitting}
+use Rattle.conform_check.specs.Fitting.{AreFitting, IsFitting}
 use Rattle.conform_check.proofs.Ids.{few_ids, fields_more}
 use Rattle.conform_check.proofs.Declared.{within_widest}
 

@@ -1,5 +1,5 @@
 -- What is open while a body is checked, as it lies in memory, and how it fits what is declared.
-use Rattle.std.specs.Prelude.{◌≡◌, ⊤, ℕ, ℤ, zero, suc, pos, ◌≤◌, ◌≤ℤ◌, List, [], ◌∷◌, Option, Some, None, Bool, true, false, slice_get, is_some, length, int_lt, All}
+use Rattle.std.specs.Prelude.{◌≡◌, ⊤, ℕ, ℤ, zero, suc, ◌≤◌, List, [], ◌∷◌, Option, Some, None, true, false, slice_get, is_some, length, int_lt, All}
 use Rattle.protocol_traits.specs.declared.nest.TheConstants.{DEPTH}
 use Rattle.std.specs.List.{IsDistinct}
 use Rattle.std.specs.Ordering.{int_eq}

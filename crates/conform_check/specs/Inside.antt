@@ -1,5 +1,5 @@
 -- Where the next value of each open struct or container stands, and which fields stood in it.
-use Rattle.std.specs.Prelude.{ℕ, ℤ, pos, ◌+◌, List, [], ◌∷◌, ◌++◌, Option, Some, None, if◌then◌else◌, nat_lt}
+use Rattle.std.specs.Prelude.{ℕ, ℤ, pos, ◌+◌, List, [], ◌∷◌, ◌++◌, if◌then◌else◌, nat_lt}
 use Rattle.thrift_value.specs.Items.{Item, field, stop, struct_begin, map_begin, set_begin, list_begin, end}
 use Rattle.conform_check.specs.declared.step.Step.{Step}
 use Rattle.conform_check.specs.declared.step.Step.TheVariants as steps

@@ -1,4 +1,4 @@
-use Rattle.std.proofs.Common.{◌≡◌, Ok, refl, sym, ap, subst, ◌∙◌}
+use Rattle.std.proofs.Common.{refl, subst}
 use Rattle.protocol_traits.specs.Heads.{header_of}
 use Rattle.protocol_traits.specs.Steps.{step_ok, step_err}
 use Rattle.translate_core.specs.Body.{source_of}

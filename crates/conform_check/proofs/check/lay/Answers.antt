@@ -1,4 +1,4 @@
-use Rattle.std.proofs.Common.{◌≡◌, ◌++◌, [], Some, sym, ap, ◌∙◌}
+use Rattle.std.proofs.Common.{◌++◌, [], Some, sym, ap, ◌∙◌}
 use Rattle.conform_check.specs.Inside.{outer}
 use Rattle.conform_check.specs.Checking.{broken, last_steps}
 use Rattle.conform_check.proofs.Shelves.{path_more}

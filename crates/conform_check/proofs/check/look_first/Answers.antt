@@ -1,4 +1,4 @@
-use Rattle.std.proofs.Common.{◌≡◌, ◌<◌, length, None, Some, sym, ap, ◌∙◌, arith}
+use Rattle.std.proofs.Common.{Some, sym, ap, ◌∙◌, arith}
 use Rattle.thrift_value.specs.Items.{item_of}
 use Rattle.conform_check.specs.Checking.{placed}
 use Rattle.conform_check.specs.Fitting.{Opened}

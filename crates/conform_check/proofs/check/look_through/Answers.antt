@@ -1,11 +1,10 @@
-use Rattle.std.proofs.Common.{◌≡◌, ◌<◌, ◌≤◌, ◌+◌, List, [], ◌∷◌, length, refl, sym, ap, subst, ◌∙◌, arith, None, Some, Option}
+use Rattle.std.proofs.Common.{◌≡◌, ◌<◌, ◌≤◌, ◌+◌, [], ◌∷◌, length, refl, sym, ap, subst, ◌∙◌, arith, None}
 use Rattle.std.specs.Prelude.{IfOk}
 use Rattle.thrift_value.specs.Items.{Item, item_of}
 use Rattle.protocol_traits.specs.Follow.{depth_after}
 use Rattle.protocol_traits.specs.Steps.{Step, step_ok, step_err}
-use Rattle.type_walk.specs.Positions.{after}
 use Rattle.translate_core.specs.Positions.{typed}
-use Rattle.translate_core.specs.Body.{moved, source_of, going}
+use Rattle.translate_core.specs.Body.{source_of, going}
 use Rattle.translate_core.proofs.Whole.{whole_step, whole_fault, whole_end}
 use Rattle.conform_check.specs.Inside.{in_fields, inside_after}
 use Rattle.conform_check.specs.Checking.{begun, check_target, checking, kept_broken}

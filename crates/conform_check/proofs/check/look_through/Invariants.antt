@@ -1,6 +1,5 @@
-use Rattle.std.proofs.Common.{◌≡◌, ◌≤◌, List, ℕ, [], length, None}
+use Rattle.std.proofs.Common.{◌≡◌, ◌≤◌, List, [], length, None}
 use Rattle.std.specs.Vec.{vec_capacity}
-use Rattle.type_tables.specs.Structs.{widest}
 use Rattle.translate_core.specs.Positions.{typed}
 use Rattle.translate_core.specs.Body.{whole, source_of, going}
 use Rattle.conform_check.specs.Inside.{Inside}

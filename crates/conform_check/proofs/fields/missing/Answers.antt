@@ -1,4 +1,4 @@
-use Rattle.std.proofs.Common.{◌≡◌, ◌≤◌, false, length, ap, sym, ◌∙◌, arith}
+use Rattle.std.proofs.Common.{◌≡◌, false, sym, ◌∙◌, arith}
 use Rattle.type_tables.specs.Structs.{fields_of}
 use Rattle.conform_check.specs.Breaches.{is_missing}
 use Rattle.conform_check.proofs.Declared.{all_looked, is_first, none_left, not_missing, not_this, within_widest}

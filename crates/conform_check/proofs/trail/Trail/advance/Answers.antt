@@ -1,4 +1,4 @@
-use Rattle.std.proofs.Common.{◌≡◌, ◌<◌, length, ap, sym, subst, ◌∙◌, arith}
+use Rattle.std.proofs.Common.{◌<◌, length, ap, ◌∙◌, arith}
 use Rattle.conform_check.specs.Inside.{advanced, next_step}
 use Rattle.conform_check.specs.Fitting.{Opened, Shelved}
 use Rattle.conform_check.proofs.Shelves.{advanced_top, length_levels}

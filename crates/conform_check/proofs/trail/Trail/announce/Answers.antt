@@ -1,4 +1,4 @@
-use Rattle.std.proofs.Common.{◌≡◌, ◌<◌, ◌++◌, ◌∷◌, [], length, ap, sym, subst, ◌∙◌, arith}
+use Rattle.std.proofs.Common.{◌<◌, ◌++◌, ◌∷◌, [], length, ap, ◌∙◌, arith}
 use Rattle.std.specs.Int.{w16}
 use Rattle.std.proofs.lemmas.Int.{to_z-of_z}
 use Rattle.conform_check.specs.declared.step.Step.TheVariants as steps

@@ -1,6 +1,6 @@
-use Rattle.std.proofs.Common.{◌≡◌, ◌<◌, ◌≤◌, ◌++◌, ◌∷◌, [], length, length-append, ap, ◌∙◌, arith, get_or}
-use Rattle.conform_check.specs.Fitting.{Opened, Shelved}
-use Rattle.conform_check.proofs.Shelves.{length_levels, outer_top, path_step}
+use Rattle.std.proofs.Common.{◌++◌, ◌∷◌, [], length, length-append, ap, ◌∙◌, arith, get_or}
+use Rattle.conform_check.specs.Fitting.{Shelved}
+use Rattle.conform_check.proofs.Shelves.{path_step}
 use Rattle.conform_check.proofs.trail.Trail.lay_path.Goals as goal
 
 pub loop-at-preserved : goal.loop-at-preserved

@@ -1,4 +1,4 @@
-use Rattle.std.proofs.Common.{◌≡◌, ◌≤◌, [], length}
+use Rattle.std.proofs.Common.{◌≡◌, [], length}
 use Rattle.std.specs.Vec.{vec_capacity}
 use Rattle.conform_check.specs.Inside.{path_to}
 use Rattle.conform_check.specs.Fitting.{first_levels}

@@ -1,6 +1,4 @@
-use Rattle.std.proofs.Common.{◌≡◌, ◌<◌, length, length-append, ap, sym, ◌∙◌, arith}
-use Rattle.std.proofs.lemmas.Grind.{common_steps}
-use Rattle.conform_check.proofs.Shelves.{ready_more, ready_none}
+use Rattle.std.proofs.Common.{arith}
 use Rattle.conform_check.proofs.trail.Trail.new.Goals as goal
 
 pub invariant_of-result : goal.invariant_of-result

@@ -1,4 +1,4 @@
-use Rattle.std.proofs.Common.{◌≡◌, ◌<◌, ◌+◌, ◌∷◌, length, ap, sym, refl, ◌∙◌, arith}
+use Rattle.std.proofs.Common.{◌<◌, ◌+◌, ◌∷◌, length, ap, refl, ◌∙◌, arith}
 use Rattle.conform_check.specs.Inside.{opened}
 use Rattle.conform_check.specs.Fitting.{Opened}
 use Rattle.conform_check.proofs.Shelves.{opened_next, length_levels}
