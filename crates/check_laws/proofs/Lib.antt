@@ -1,3 +1,4 @@
 -- Files are texts.
 pub mod Answered
+pub mod Dotless
 pub mod Texts

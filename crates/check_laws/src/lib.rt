@@ -3,18 +3,25 @@
 #![tactic(auto)]
 
 ghost use Rattle.std.specs.Prelude.{◌≡◌, ℕ, List, Option, Some};
+ghost use Rattle.idl_names.specs.Files.{FileTree};
 ghost use Rattle.idl_files.specs.Walk.{walked};
+ghost use Rattle.idl_laws.specs.LookUps.{AreDotless};
 ghost use Rattle.gate_idl.specs.Opening.{IsOpened, Opened};
 ghost use Rattle.gate_run.specs.Running.{Obeys, Outside};
 ghost use Rattle.gate_run.specs.declared.status.Ending.{Ending};
 ghost use Rattle.gate_words.specs.declared.command.Command.TheVariants.{Check};
 ghost use Rattle.check_laws.specs.Answers.{IsAnswered, SaysWhatIs};
-ghost use Rattle.check_laws.specs.Held.{IsWalked};
+ghost use Rattle.check_laws.specs.Held.{AreHeld, IsWalked};
 
 /// The files that a root leads to are each the document of the text that is held under their name; or the walk breaks off at a
 /// text with the very fault that the text has.
 pub fn files_are_their_texts()
     ensures { (holds : List ℕ → Option (List ℕ)) (root : List ℕ) → IsWalked holds (walked holds root) }
+{}
+
+/// No service of such files has a name with a dot, so a name that means one is cut at the right place.
+pub fn services_have_no_dots()
+    ensures { (holds : List ℕ → Option (List ℕ)) (files : List FileTree) → AreHeld holds files → AreDotless files }
 {}
 
 /// So an IDL that a command opens is what its texts declare, or is refused for what is wrong with them.

@@ -1,4 +1,4 @@
--- The lexemes, keywords and faults of the parser by name. The parser keeps their types to itself, so each is taken from a definition that has it.
+-- The lexemes and keywords of the parser by name. The parser keeps their types to itself, so each is taken from a definition that has it.
 use Rattle.std.proofs.Common.{◌≡◌, ℕ, ℤ, List, [], ◌∷◌, ◌++◌, Option, Some, None}
 use Rattle.idl_document.specs.declared.document.Asked.TheVariants as asks
 use Rattle.idl_document.specs.declared.document.BaseWord.{BaseWord}
@@ -183,8 +183,3 @@ service_word {k} c = k
 
 pattern abbrev pub Service : Keyword
 Service = service_word DerivesDefinition.service
-
--- ---- faults
-
-abbrev fault_type : {F : Type 0} → (ℕ → F) → Type 0
-fault_type {F} f = F

@@ -24,7 +24,7 @@ use Rattle.idl_laws.specs.LookUps.{AnswersServices, AreDotless, IsRootService}
 use Rattle.idl_laws.proofs.Firsts.{First}
 use Rattle.idl_laws.proofs.Numbered.{service_counts}
 
-abbrev Names : Type 0
+abbrev pub Names : Type 0
 Names = List (List ℕ × ServiceId)
 
 -- among two lists of names
@@ -67,7 +67,7 @@ module _ (files : List FileTree) (file : ℕ) (word p : List ℕ) (prefix : pref
         ∙ ap (λ (o : Option ℕ). option_map suc o) f.first;
   }
 
-  names_are : (n : First) (name : Name) (base : Option Name) (functions : List FunctionTree) (ds : List DefinitionTree) →
+  pub names_are : (n : First) (name : Name) (base : Option Name) (functions : List FunctionTree) (ds : List DefinitionTree) →
       (shares files file n (service_of name base functions ∷ ds)).names ≡ (p ++ name.text, number n.services) ∷ (shares files file (after n (service_of name base functions)) ds).names
   names_are n name base functions ds =
       ap (λ (o : Option (List ℕ)). with_name [] (root_name o name.text) (number n.services) ++ (shares files file (after n (service_of name base functions)) ds).names) prefix
@@ -113,7 +113,7 @@ module _ (files : List FileTree) (file : ℕ) (word p : List ℕ) (prefix : pref
 
 -- a file that the root doesn't name puts no name there
 module _ (files : List FileTree) (file : ℕ) (none : prefix_of files file ≡ None) where
-  no_names : (n : First) (ds : List DefinitionTree) → (shares files file n ds).names ≡ []
+  pub no_names : (n : First) (ds : List DefinitionTree) → (shares files file n ds).names ≡ []
   no_names n [] = refl
   no_names n (const_of name ty value ∷ ds) = no_names (after n (const_of name ty value)) ds
   no_names n (typedef_of name ty ∷ ds) = no_names (after n (typedef_of name ty)) ds
@@ -189,10 +189,10 @@ behind_dot (b ∷ base) name zero e = absurd (omega (arith, e))
 behind_dot (b ∷ base) name (suc n) e = behind_dot base name n (omega (arith, e))
 
 -- an included file is meant by the base name that its prefix has
-record Prefixed (files : List FileTree) (file : ℕ) (p : List ℕ) : Type 0 where
-  base : List ℕ
-  spelled : p ≡ base ++ 46 ∷ []
-  leads : included files 0 base ≡ Some file
+pub record Prefixed (files : List FileTree) (file : ℕ) (p : List ℕ) : Type 0 where
+  pub base : List ℕ
+  pub spelled : p ≡ base ++ 46 ∷ []
+  pub leads : included files 0 base ≡ Some file
 
 place_is : (file : ℕ) (o : Option ℕ) → is_place file o ≡ true → o ≡ Some file
 place_is file None e = absurd (cc)
@@ -214,9 +214,9 @@ by_file : (files : List FileTree) (file : ℕ) (p : List ℕ) (b : Bool) → (fi
 by_file files file p true t h = let none : file ≡ 0 = grind (arith, nat_tests) in inl (none, cc)
 by_file files file p false t h = inr (in_paths files file p (root_paths (slice_get files 0)) h)
 
-prefixed : (files : List FileTree) (file : ℕ) (p : List ℕ) → prefix_of files file ≡ Some p → ((file ≡ 0) × (p ≡ [])) ⊎ Prefixed files file p
+pub prefixed_by : (files : List FileTree) (file : ℕ) (p : List ℕ) → prefix_of files file ≡ Some p → ((file ≡ 0) × (p ≡ [])) ⊎ Prefixed files file p
 unfolding prefix_of
-prefixed files file p h = by_file files file p (file == 0) refl h
+prefixed_by files file p h = by_file files file p (file == 0) refl h
 
 module _ (files : List FileTree) (word : List ℕ) (id : ServiceId) (r : FoundAt files word id 0 start files) (dotless : AreDotless files) where
   spot : Spot
@@ -268,7 +268,7 @@ module _ (files : List FileTree) (word : List ℕ) (id : ServiceId) (r : FoundAt
     base = r.found.base;
     functions = r.found.functions;
     declared = declared;
-    means = means (prefixed files r.at r.p r.prefix);
+    means = means (prefixed_by files r.at r.p r.prefix);
     is = r.found.is ∙ ap number (service_counts files (spot_at r.at r.found.place) r.found.m numbered);
   }
 

@@ -1,12 +1,12 @@
 -- What the look-ups of a schema answer, by what the files declare.
-use Rattle.std.specs.Prelude.{◌≡◌, ℕ, ℤ, List, [], ◌∷◌, take, slice_get, Option, Some, None}
+use Rattle.std.specs.Prelude.{◌≡◌, ℕ, ℤ, List, [], ◌∷◌, take, slice_get, Option, Some, None, ◌++◌, ◌⊎◌}
 use Rattle.idl_document.specs.declared.document.Name.{Name}
 use Rattle.idl_document.specs.Trees.{service_of, FieldTree, FunctionTree}
 use Rattle.idl_rules.specs.declared.scopes.Scope.TheVariants as scopes
 use Rattle.idl_rules.specs.Ids.{counted, id_of}
 use Rattle.idl_names.specs.declared.documents.Spot.{Spot}
 use Rattle.idl_names.specs.Files.{FileTree}
-use Rattle.idl_names.specs.Meaning.{meaning}
+use Rattle.idl_names.specs.Meaning.{included, meaning}
 use Rattle.idl_names.specs.Paths.{last_place}
 use Rattle.idl_names.specs.Targets.{definition_at}
 use Rattle.type_tables.specs.declared.declared.FieldInfo.{FieldInfo}
@@ -16,6 +16,7 @@ use Rattle.type_tables.specs.declared.declared.Ty.{Ty}
 use Rattle.type_tables.specs.Declarations.{Declarations}
 use Rattle.type_tables.specs.Fields.{field_in}
 use Rattle.type_tables.specs.Names.{value_of}
+use Rattle.type_tables.specs.Roots.{only, rooted}
 use Rattle.type_tables.specs.Services.{method_in, number}
 use Rattle.idl_laws.specs.Counts.{service_number}
 use Rattle.idl_laws.specs.Declared.{AreFields, IsField, IsMethod}
@@ -99,3 +100,33 @@ module _ (files : List FileTree) where
   -- each service that is found under a name
   abbrev pub AnswersServices : Declarations → Type 0
   AnswersServices d = (word : List ℕ) (id : ServiceId) → value_of word d.names ≡ Some id → IsRootService word id
+
+  -- what a service of the file at this place is called in the root file: its name there, or behind the base name of an include that leads to the file
+  pub data IsRootName (file : ℕ) (name : List ℕ) : List ℕ → Type 0 where
+    own : file ≡ 0 → IsRootName file name name
+    prefixed : (base : List ℕ) → included files 0 base ≡ Some file → IsRootName file name ((base ++ 46 ∷ []) ++ name)
+
+  -- the root file, or one that it includes
+  abbrev pub IsNearRoot : ℕ → Type 0
+  IsNearRoot file = (file ≡ 0) ⊎ ((base : List ℕ) × (included files 0 base ≡ Some file))
+
+  -- each service of the root file, and of those that it includes, is found under such a name
+  abbrev pub FindsServices : Declarations → Type 0
+  FindsServices d =
+      (spot : Spot) (name : Name) (base : Option Name) (functions : List FunctionTree) → definition_at files spot ≡ Some (service_of name base functions) → IsNearRoot spot.file →
+      (word : List ℕ) × IsRootName spot.file name.text word × ((id : ServiceId) × (value_of word d.names ≡ Some id))
+
+  -- the one service that the root file declares
+  pub record IsOnlyService (id : ServiceId) : Type 0 where
+    pub spot : Spot
+    pub name : Name
+    pub base : Option Name
+    pub functions : List FunctionTree
+    pub root : spot.file ≡ 0
+    pub declared : definition_at files spot ≡ Some (service_of name base functions)
+    pub is : id ≡ number (service_number files spot)
+    pub alone : (other : Spot) (n : Name) (b : Option Name) (fs : List FunctionTree) → other.file ≡ 0 → definition_at files other ≡ Some (service_of n b fs) → other ≡ spot
+
+  -- the service that is used where none is named
+  abbrev pub AnswersOnly : Declarations → Type 0
+  AnswersOnly d = (id : ServiceId) → (only (rooted d.names) ≡ Some id → IsOnlyService id) × (IsOnlyService id → only (rooted d.names) ≡ Some id)

@@ -4,7 +4,7 @@ ghost use Rattle.idl_names.specs.Files.{FileTree};
 ghost use Rattle.type_tables.specs.Declarations.{Declarations};
 ghost use Rattle.idl_resolve.specs.Loads.{Resolved};
 ghost use Rattle.idl_laws.specs.Declared.{ArePartsMeant, HasAll};
-ghost use Rattle.idl_laws.specs.LookUps.{AnswersIds, AnswersMethods, AnswersServices, AreDotless, FindsMethods};
+ghost use Rattle.idl_laws.specs.LookUps.{AnswersIds, AnswersMethods, AnswersOnly, AnswersServices, AreDotless, FindsMethods, FindsServices};
 ghost use Rattle.idl_laws.specs.Sizes.{HasNoMore};
 ghost use Rattle.idl_laws.specs.TypeMeanings.{MeansOneThing};
 
@@ -50,4 +50,14 @@ pub fn declared_methods_are_found()
 /// A service that is looked up by a name, as `Name` or `p.Name`, is the one that this name means in the root file.
 pub fn services_have_the_roots_names()
     ensures { (files : List FileTree) (schema : Declarations) → Resolved files schema → AreDotless files → AnswersServices files schema }
+{}
+
+/// Each service of the root file, and of the files that it includes, is found under a name that it has there.
+pub fn the_roots_services_are_found()
+    ensures { (files : List FileTree) (schema : Declarations) → Resolved files schema → FindsServices files schema }
+{}
+
+/// The service that is used where none is named is the only one that the root file declares.
+pub fn the_only_service_is_the_roots()
+    ensures { (files : List FileTree) (schema : Declarations) → Resolved files schema → AreDotless files → AnswersOnly files schema }
 {}
