@@ -10,8 +10,21 @@ use type_tables::{MethodInfo, Schema, ServiceId};
 ///
 /// A prefix that means no service finds nothing. `default` is a service of this schema.
 #[inline(always)]
-#[tactic(auto, unfolding(crate::specs::Names::find_in))]
 pub fn find(schema: &Schema, default: Option<ServiceId>, name: &[u8]) -> Option<MethodInfo>
+    requires { IfSome default (λ s. s.0 < length schema.now.services) }
+    ensures value { result ≡ find_in schema.now default name.now }
+    ensures known { IfSome result (IsKnownMethod schema.now) }
+{
+    // Without an IDL no name means a method. So it is not searched for a colon.
+    if default.is_none() && !schema.names_services() {
+        return None;
+    }
+    find_by_parts(schema, default, name)
+}
+
+// The same, where a name may mean something.
+#[tactic(auto, unfolding(crate::specs::Names::find_in))]
+fn find_by_parts(schema: &Schema, default: Option<ServiceId>, name: &[u8]) -> Option<MethodInfo>
     requires { IfSome default (λ s. s.0 < length schema.now.services) }
     ensures value { result ≡ find_in schema.now default name.now }
     ensures known { IfSome result (IsKnownMethod schema.now) }

@@ -1,15 +1,17 @@
 //! Fields whose values are no levels: what announces a value, and the value.
-ghost use Rattle.std.specs.Prelude.{◌≡◌, ◌<◌, ◌^◌, length, true, Some, IfSome};
+ghost use Rattle.std.specs.Prelude.{◌≡◌, ℤ, ◌<◌, ◌^◌, length, true, Some, IfSome};
 ghost use Rattle.thrift_value.specs.declared.kind.Kind.{Kind};
 ghost use Rattle.thrift_value.specs.Items.{field};
-ghost use Rattle.protocol_traits.specs.Forms.{IsPast};
+ghost use Rattle.protocol_traits.specs.declared.forms.Container.{Container};
+ghost use Rattle.protocol_traits.specs.declared.forms.Lead.{Lead};
+ghost use Rattle.protocol_traits.specs.Forms.{IsPast, container_kind, lead_item};
 ghost use Rattle.type_tables.specs.declared.declared.Ty.{Ty};
 ghost use Rattle.type_walk.specs.Positions.{field_type, hint_at, in_struct};
 ghost use Rattle.translate_core.specs.Quick.{Grows, HasRoom, Informs, TookLeafField, TookTextField};
 
 use crate::known::Known;
 use crate::leaves::{Leaf, Reach, take_text};
-use protocol_traits::{FormRead, FormWrite, Hint, Opening, Stand};
+use protocol_traits::{Container, FormRead, FormWrite, Hint, Lead, Opening, Stand};
 use thrift_value::Kind;
 use type_tables::Schema;
 
@@ -106,4 +108,43 @@ fn text_hint<R: FormRead, W: FormWrite, K: Known>(known: K, schema: &Schema, id:
         return known.field(schema, id, Kind::Str).hint();
     }
     Hint::Unknown
+}
+
+/// The kind of a container.
+#[inline(always)]
+pub fn container_kind(container: Container) -> Kind
+    ensures kind { result ≡ container_kind container }
+    ensures apart { result ≡ Kind.Bool → ⊥ }
+{
+    match container {
+        Container::Map => Kind::Map,
+        Container::Set => Kind::Set,
+        Container::List => Kind::List,
+    }
+}
+
+/// What a lead announces that announces a list or set.
+#[inline(always)]
+pub fn sequence_of(lead: Lead) -> Option<Container>
+    ensures no_map { IfSome result (λ container. container ≡ Container.Map → ⊥) }
+    ensures item { IfSome result (λ container. (id : ℤ) → lead_item lead id ≡ field id (container_kind container)) }
+{
+    match lead {
+        Lead::Set => Some(Container::Set),
+        Lead::List => Some(Container::List),
+        _ => None,
+    }
+}
+
+/// Which container a kind is that is a list's or set's.
+#[inline(always)]
+pub fn sequence_kind(kind: Kind) -> Option<Container>
+    ensures no_map { IfSome result (λ container. container ≡ Container.Map → ⊥) }
+    ensures kind { IfSome result (λ container. kind ≡ container_kind container) }
+{
+    match kind {
+        Kind::Set => Some(Container::Set),
+        Kind::List => Some(Container::List),
+        _ => None,
+    }
 }

@@ -9,7 +9,10 @@ ghost use Rattle.protocol_traits.specs.declared.forms.Stand.{Stand};
 ghost use Rattle.protocol_traits.specs.Forms.{IsPast, container_kind};
 ghost use Rattle.translate_core.specs.Quick.{Grows, HasRoom, Informs, TookElements, TookField, TookFields, TookLead, TookPairs, TookRun, TookValue, reached};
 
-use crate::fields::{BEFORE_FIELD, take_flag, take_leaf_field, take_text_field};
+use crate::fields::{
+    BEFORE_FIELD, container_kind, sequence_kind, sequence_of, take_flag, take_leaf_field,
+    take_text_field,
+};
 use crate::known::Known;
 use crate::leaves::{
     AROUND, BoolLeaf, DoubleLeaf, I8Leaf, I16Leaf, I32Leaf, I64Leaf, Reach, UuidLeaf, take_leaf,
@@ -126,70 +129,25 @@ fn take_field<R: FormRead, W: FormWrite, K: Known>(
         Lead::Str => take_text_field::<R, W, K>(
             known, schema, frame, at, cells, to, opening, last, id, behind,
         ),
-        Lead::Struct => take_level_field::<R, W, K>(
-            known,
-            schema,
-            frame,
-            at,
-            cells,
-            to,
-            opening,
-            last,
-            id,
-            Kind::Struct,
-            behind,
-            depth,
+        Lead::Struct => take_struct_field::<R, W, K>(
+            known, schema, frame, at, cells, to, opening, last, id, behind, depth,
         ),
-        Lead::Map => take_level_field::<R, W, K>(
-            known,
-            schema,
-            frame,
-            at,
-            cells,
-            to,
-            opening,
-            last,
-            id,
-            Kind::Map,
-            behind,
-            depth,
+        Lead::Map => take_map_field::<R, W, K>(
+            known, schema, frame, at, cells, to, opening, last, id, behind, depth,
         ),
-        Lead::Set => take_level_field::<R, W, K>(
-            known,
-            schema,
-            frame,
-            at,
-            cells,
-            to,
-            opening,
-            last,
-            id,
-            Kind::Set,
-            behind,
-            depth,
-        ),
-        Lead::List => take_level_field::<R, W, K>(
-            known,
-            schema,
-            frame,
-            at,
-            cells,
-            to,
-            opening,
-            last,
-            id,
-            Kind::List,
-            behind,
-            depth,
-        ),
-        Lead::Stop | Lead::Bad => None,
+        _ => {
+            let container = sequence_of(lead)?;
+            take_list_field::<R, W, K>(
+                known, schema, frame, at, cells, to, opening, last, id, container, behind, depth,
+            )
+        }
     }
 }
 
-/// Takes a field whose value is a level.
+/// Takes a field whose value is a struct.
 #[cycle(body)]
 #[inline(always)]
-fn take_level_field<R: FormRead, W: FormWrite, K: Known>(
+fn take_struct_field<R: FormRead, W: FormWrite, K: Known>(
     known: K,
     schema: &Schema,
     frame: &[u8],
@@ -199,7 +157,6 @@ fn take_level_field<R: FormRead, W: FormWrite, K: Known>(
     opening: Opening,
     last: i16,
     id: i16,
-    kind: Kind,
     behind: usize,
     depth: usize,
 ) -> Option<Reach>
@@ -208,25 +165,86 @@ fn take_level_field<R: FormRead, W: FormWrite, K: Known>(
     requires size { length frame.now < 2 ^ 31 }
     requires place { IsPast at frame.now behind }
     requires room { HasRoom BEFORE_FIELD frame.now at cells.old to }
-    requires apart { kind ≡ Kind.Bool → ⊥ }
     requires shallow { depth ≤ DEPTH }
     ensures kept { length cells.new ≡ length cells.old }
     ensures past { IfSome result (λ x. IsPast at frame.now x.read) }
     ensures grows { IfSome result (λ x. Grows at to x.read x.written) }
-    ensures takes { TookField R.ReadRules W.WireWrite (K.means known) schema.now depth frame.now at opening last kind id behind cells.old to cells.new result }
+    ensures takes { TookField R.ReadRules W.WireWrite (K.means known) schema.now depth frame.now at opening last Kind.Struct id behind cells.old to cells.new result }
 {
+    let next = known.field(schema, id, Kind::Struct);
+    let value = W::field(cells, to, opening, last, id, Kind::Struct);
+    let stand = Stand::Field;
+    take_struct::<R, W, K>(next, schema, frame, behind, cells, value, stand, depth)
+}
+
+/// Takes a field whose value is a map.
+#[cycle(body)]
+#[inline(always)]
+fn take_map_field<R: FormRead, W: FormWrite, K: Known>(
+    known: K,
+    schema: &Schema,
+    frame: &[u8],
+    at: usize,
+    cells: &mut [u8],
+    to: usize,
+    opening: Opening,
+    last: i16,
+    id: i16,
+    behind: usize,
+    depth: usize,
+) -> Option<Reach>
+    requires known { K.sound known schema.now }
+    requires informed { Informs K.tells R.hinted W.hinted W.marked }
+    requires size { length frame.now < 2 ^ 31 }
+    requires place { IsPast at frame.now behind }
+    requires room { HasRoom BEFORE_FIELD frame.now at cells.old to }
+    requires shallow { depth ≤ DEPTH }
+    ensures kept { length cells.new ≡ length cells.old }
+    ensures past { IfSome result (λ x. IsPast at frame.now x.read) }
+    ensures grows { IfSome result (λ x. Grows at to x.read x.written) }
+    ensures takes { TookField R.ReadRules W.WireWrite (K.means known) schema.now depth frame.now at opening last Kind.Map id behind cells.old to cells.new result }
+{
+    let next = known.field(schema, id, Kind::Map);
+    let value = W::field(cells, to, opening, last, id, Kind::Map);
+    let stand = Stand::Field;
+    take_map::<R, W, K>(next, schema, frame, behind, cells, value, stand, depth)
+}
+
+/// Takes a field whose value is a list or set.
+#[cycle(body)]
+#[inline(always)]
+fn take_list_field<R: FormRead, W: FormWrite, K: Known>(
+    known: K,
+    schema: &Schema,
+    frame: &[u8],
+    at: usize,
+    cells: &mut [u8],
+    to: usize,
+    opening: Opening,
+    last: i16,
+    id: i16,
+    container: Container,
+    behind: usize,
+    depth: usize,
+) -> Option<Reach>
+    requires known { K.sound known schema.now }
+    requires informed { Informs K.tells R.hinted W.hinted W.marked }
+    requires size { length frame.now < 2 ^ 31 }
+    requires place { IsPast at frame.now behind }
+    requires room { HasRoom BEFORE_FIELD frame.now at cells.old to }
+    requires no_map { container ≡ Container.Map → ⊥ }
+    requires shallow { depth ≤ DEPTH }
+    ensures kept { length cells.new ≡ length cells.old }
+    ensures past { IfSome result (λ x. IsPast at frame.now x.read) }
+    ensures grows { IfSome result (λ x. Grows at to x.read x.written) }
+    ensures takes { TookField R.ReadRules W.WireWrite (K.means known) schema.now depth frame.now at opening last (container_kind container) id behind cells.old to cells.new result }
+{
+    let kind = container_kind(container);
     let next = known.field(schema, id, kind);
     let value = W::field(cells, to, opening, last, id, kind);
-    take_level::<R, W, K>(
-        next,
-        schema,
-        frame,
-        behind,
-        cells,
-        value,
-        Stand::Field,
-        kind,
-        depth,
+    let stand = Stand::Field;
+    take_list::<R, W, K>(
+        next, schema, frame, behind, cells, value, stand, container, depth,
     )
 }
 
@@ -258,29 +276,10 @@ fn take_level<R: FormRead, W: FormWrite, K: Known>(
     match kind {
         Kind::Struct => take_struct::<R, W, K>(known, schema, frame, at, cells, to, stand, depth),
         Kind::Map => take_map::<R, W, K>(known, schema, frame, at, cells, to, stand, depth),
-        Kind::Set => take_list::<R, W, K>(
-            known,
-            schema,
-            frame,
-            at,
-            cells,
-            to,
-            stand,
-            Container::Set,
-            depth,
-        ),
-        Kind::List => take_list::<R, W, K>(
-            known,
-            schema,
-            frame,
-            at,
-            cells,
-            to,
-            stand,
-            Container::List,
-            depth,
-        ),
-        _ => None,
+        _ => {
+            let container = sequence_kind(kind)?;
+            take_list::<R, W, K>(known, schema, frame, at, cells, to, stand, container, depth)
+        }
     }
 }
 
@@ -439,7 +438,7 @@ fn take_struct<R: FormRead, W: FormWrite, K: Known>(
 
 /// Takes a list or set inside so many levels.
 #[cycle(body)]
-#[inline(never)]
+#[inline(always)]
 fn take_list<R: FormRead, W: FormWrite, K: Known>(
     known: K,
     schema: &Schema,

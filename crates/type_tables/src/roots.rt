@@ -1,5 +1,5 @@
 //! The names of services, and how many of them are the root file's own.
-ghost use Rattle.std.specs.Prelude.{◌≡◌, [], None, OnOk, OnErr};
+ghost use Rattle.std.specs.Prelude.{◌≡◌, [], None, OnOk, OnErr, length};
 ghost use Rattle.type_tables.specs.Names.{value_of};
 ghost use Rattle.type_tables.specs.Roots.{dotless, named_place, only, rooted, with_name};
 ghost use Rattle.type_tables.specs.RootCount.{root_with};
@@ -45,6 +45,13 @@ impl ServiceNames {
             table: NameTable::new(alloc),
             root: Root::None,
         }
+    }
+
+    /// How many names there are.
+    pub(crate) fn len(&self) -> usize
+        ensures { result ≡ length self.now }
+    {
+        self.table.len()
     }
 
     /// The service of this name.

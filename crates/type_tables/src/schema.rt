@@ -92,6 +92,14 @@ impl Schema {
         self.tables.types[t.0 as usize]
     }
 
+    /// Whether some name means a service in the root file.
+    #[inline(always)]
+    pub fn names_services(&self) -> bool
+        ensures { result ≡ nat_lt 0 (length self.now.names) }
+    {
+        self.tables.services.is_named()
+    }
+
     /// The service that this name means in the root file, as `Name` or `p.Name`.
     pub fn service(&self, name: &[u8]) -> Option<ServiceId>
         ensures value { result ≡ value_of name.now self.now.names }

@@ -1,5 +1,5 @@
 //! The services, with their names and their methods.
-ghost use Rattle.std.specs.Prelude.{◌≡◌, ◌<◌, ◌+◌, ◌^◌, [], length, IfOk, option_copied, slice_get};
+ghost use Rattle.std.specs.Prelude.{◌≡◌, ◌<◌, ◌+◌, ◌^◌, [], length, IfOk, nat_lt, option_copied, slice_get};
 ghost use Rattle.type_tables.specs.Adding.{Adds};
 ghost use Rattle.type_tables.specs.Names.{value_of, name_place};
 ghost use Rattle.type_tables.specs.Roots.{only, rooted, named_place};
@@ -54,6 +54,14 @@ impl ServiceList {
         ensures { result.now ≡ self.now.list }
     {
         self.list.as_slice()
+    }
+
+    /// Whether some service has a name in the root file.
+    #[inline(always)]
+    pub(crate) fn is_named(&self) -> bool
+        ensures { result ≡ nat_lt 0 (length self.now.names) }
+    {
+        self.names.len() > 0
     }
 
     /// The service of this name.

@@ -108,35 +108,57 @@ take_field-returns-in-Str-clause-takes g t c =
 
 pub take_field-returns-in-Struct-clause-takes : goal.take_field-returns-in-Struct-clause-takes
 take_field-returns-in-Struct-clause-takes g t c =
-    let takes = rw (to_z-of_z w16 c.args.last c.ranges.last, to_z-of_z w16 c.args.id c.ranges.id) at c.take_level_field.ensures.takes in
+    let takes = rw (to_z-of_z w16 c.args.last c.ranges.last, to_z-of_z w16 c.args.id c.ranges.id) at c.take_struct_field.ensures.takes in
     rw c.in-Struct.is takes
 
 pub take_field-returns-in-Map-clause-takes : goal.take_field-returns-in-Map-clause-takes
 take_field-returns-in-Map-clause-takes g t c =
-    let takes = rw (to_z-of_z w16 c.args.last c.ranges.last, to_z-of_z w16 c.args.id c.ranges.id) at c.take_level_field-in-Map.ensures.takes in
+    let takes = rw (to_z-of_z w16 c.args.last c.ranges.last, to_z-of_z w16 c.args.id c.ranges.id) at c.take_map_field.ensures.takes in
     rw c.in-Map.is takes
 
-pub take_field-returns-in-Set-clause-takes : goal.take_field-returns-in-Set-clause-takes
-take_field-returns-in-Set-clause-takes g t c =
-    let takes = rw (to_z-of_z w16 c.args.last c.ranges.last, to_z-of_z w16 c.args.id c.ranges.id) at c.take_level_field-in-Set.ensures.takes in
-    rw c.in-Set.is takes
+pub take_field-returns-in_ok-container-in_default-clause-takes : goal.take_field-returns-in_ok-container-in_default-clause-takes
+take_field-returns-in_ok-container-in_default-clause-takes g t c =
+    let takes = rw (to_z-of_z w16 c.args.last c.ranges.last, to_z-of_z w16 c.args.id c.ranges.id) at c.take_list_field.ensures.takes in
+    rw (c.in_ok-container-in_default.ensures.item c.args.id) takes
 
-pub take_field-returns-in-List-clause-takes : goal.take_field-returns-in-List-clause-takes
-take_field-returns-in-List-clause-takes g t c =
-    let takes = rw (to_z-of_z w16 c.args.last c.ranges.last, to_z-of_z w16 c.args.id c.ranges.id) at c.take_level_field-in-List.ensures.takes in
-    rw c.in-List.is takes
-
-pub take_level_field-returns-clause-takes : goal.take_level_field-returns-clause-takes
-take_level_field-returns-clause-takes g t c =
+pub take_struct_field-returns-clause-takes : goal.take_struct_field-returns-clause-takes
+take_struct_field-returns-clause-takes g t c =
     let source = source_in g.R.ReadRules in
     let target = target_in g.W.WireWrite in
     let d = c.args.schema.now in
     let spells = rw (to_z-of_z w16 c.args.last c.ranges.last, to_z-of_z w16 c.args.id c.ranges.id) at c.field-value.ensures.spells in
     let next = rw (to_z-of_z w16 c.args.id c.ranges.id) at c.field-next.ensures.means in
-    if_some _ _ c.take_level.result (λ (x : Reach) whole ty means.
+    if_some _ _ c.take_struct.result (λ (x : Reach) whole ty means.
     takes_field source target g.R.ReadRules.stands_at g.W.WireWrite.stands_at c.args.frame.now g.R.ReadRules.pays g.met.W.FormWrite.goes_on
-    d ty c.args.depth c.args.at c.args.behind x.read c.args.opening c.args.last c.args.id c.args.kind c.args.cells.now c.field-value.new.cells c.take_level.new.cells c.args.to c.field-value.result x.written
-    spells (whole (field_type d (Some (in_struct ty)) c.args.id c.args.kind) (next ty means))) c.take_level.ensures.takes
+    d ty c.args.depth c.args.at c.args.behind x.read c.args.opening c.args.last c.args.id kinds.Struct c.args.cells.now c.field-value.new.cells c.take_struct.new.cells c.args.to c.field-value.result x.written
+    spells (whole (field_type d (Some (in_struct ty)) c.args.id kinds.Struct) (next ty means))) c.take_struct.ensures.takes
+
+pub take_map_field-returns-clause-takes : goal.take_map_field-returns-clause-takes
+take_map_field-returns-clause-takes g t c =
+    let source = source_in g.R.ReadRules in
+    let target = target_in g.W.WireWrite in
+    let d = c.args.schema.now in
+    let spells = rw (to_z-of_z w16 c.args.last c.ranges.last, to_z-of_z w16 c.args.id c.ranges.id) at c.field-value.ensures.spells in
+    let next = rw (to_z-of_z w16 c.args.id c.ranges.id) at c.field-next.ensures.means in
+    if_some _ _ c.take_map.result (λ (x : Reach) whole ty means.
+    takes_field source target g.R.ReadRules.stands_at g.W.WireWrite.stands_at c.args.frame.now g.R.ReadRules.pays g.met.W.FormWrite.goes_on
+    d ty c.args.depth c.args.at c.args.behind x.read c.args.opening c.args.last c.args.id kinds.Map c.args.cells.now c.field-value.new.cells c.take_map.new.cells c.args.to c.field-value.result x.written
+    spells (whole (field_type d (Some (in_struct ty)) c.args.id kinds.Map) (next ty means))) c.take_map.ensures.takes
+
+pub take_list_field-returns-clause-takes : goal.take_list_field-returns-clause-takes
+take_list_field-returns-clause-takes g t c =
+    let source = source_in g.R.ReadRules in
+    let target = target_in g.W.WireWrite in
+    let d = c.args.schema.now in
+    let spells = rw (to_z-of_z w16 c.args.last c.ranges.last, to_z-of_z w16 c.args.id c.ranges.id, c.container_kind-kind.ensures.kind) at c.field-value.ensures.spells in
+    let next = rw (to_z-of_z w16 c.args.id c.ranges.id, c.container_kind-kind.ensures.kind) at c.field-next.ensures.means in
+    if_some _ _ c.take_list.result (λ (x : Reach) whole ty means.
+    takes_field source target g.R.ReadRules.stands_at g.W.WireWrite.stands_at c.args.frame.now g.R.ReadRules.pays g.met.W.FormWrite.goes_on
+    d ty c.args.depth c.args.at c.args.behind x.read c.args.opening c.args.last c.args.id (container_kind c.args.container) c.args.cells.now c.field-value.new.cells c.take_list.new.cells c.args.to c.field-value.result x.written
+    spells (whole (field_type d (Some (in_struct ty)) c.args.id (container_kind c.args.container)) (next ty means))) c.take_list.ensures.takes
+
+pub take_level-returns-in_ok-container-in_default-clause-takes : goal.take_level-returns-in_ok-container-in_default-clause-takes
+take_level-returns-in_ok-container-in_default-clause-takes g t c = rw c.in_ok-container-in_default.ensures.kind c.take_list.ensures.takes
 
 pub take_value-returns-in-Str-clause-takes : goal.take_value-returns-in-Str-clause-takes
 take_value-returns-in-Str-clause-takes g t c =

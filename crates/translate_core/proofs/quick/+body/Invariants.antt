@@ -34,8 +34,14 @@ decreases-take_fields g l = rank l.depth 9
 abbrev pub decreases-take_field : goal.decreases-take_field
 decreases-take_field g l = rank l.depth 8
 
-abbrev pub decreases-take_level_field : goal.decreases-take_level_field
-decreases-take_level_field g l = rank l.depth 7
+abbrev pub decreases-take_struct_field : goal.decreases-take_struct_field
+decreases-take_struct_field g l = rank l.depth 7
+
+abbrev pub decreases-take_map_field : goal.decreases-take_map_field
+decreases-take_map_field g l = rank l.depth 7
+
+abbrev pub decreases-take_list_field : goal.decreases-take_list_field
+decreases-take_list_field g l = rank l.depth 7
 
 abbrev pub decreases-take_value : goal.decreases-take_value
 decreases-take_value g l = rank l.depth 8

@@ -1,6 +1,5 @@
-use Rattle.std.proofs.Common.{◌≡◌, ◌+◌, ◌-◌, ◌<◌, ℕ, List, ◌∷◌, length, Some, arith, refl, subst, ◌∙◌}
+use Rattle.std.proofs.Common.{◌≡◌, ◌+◌, ◌-◌, ℕ, ◌∷◌, Some, arith, refl, subst, ◌∙◌}
 use Rattle.protocol_traits.specs.declared.forms.Opening.TheVariants as openings
-use Rattle.protocol_traits.specs.declared.nest.Slot.{Slot}
 use Rattle.protocol_traits.specs.declared.nest.Slot.TheVariants as slots
 use Rattle.type_walk.specs.Positions.{Position, called_for, passed, standing}
 use Rattle.translate_core.specs.Body.{source_in, target_in}

@@ -1,4 +1,4 @@
-use Rattle.std.proofs.Common.{◌≡◌, ◌+◌, ◌-◌, ◌*◌, ◌≤◌, ◌<◌, ℕ, List, ◌∷◌, length}
+use Rattle.std.proofs.Common.{◌≡◌, ◌+◌, ◌-◌, ◌≤◌, ℕ, List, ◌∷◌, length}
 use Rattle.protocol_traits.specs.declared.forms.Opening.{Opening}
 use Rattle.protocol_traits.specs.declared.nest.Slot.{Slot}
 use Rattle.protocol_traits.specs.declared.nest.Slot.TheVariants as slots

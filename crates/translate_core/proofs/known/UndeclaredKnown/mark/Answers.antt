@@ -1,4 +1,4 @@
-use Rattle.std.proofs.Common.{◌≡◌, sym}
+use Rattle.std.proofs.Common.{sym}
 use Rattle.translate_core.proofs.known.UndeclaredKnown.mark.Goals as goal
 
 pub returns : goal.returns
