@@ -1,3 +1,4 @@
-pub mod Utf8
 pub mod Computed
 pub mod PlaceWords
+pub mod LaidWords
+pub mod Utf8

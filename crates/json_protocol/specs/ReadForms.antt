@@ -1,14 +1,13 @@
 -- The quick forms of the JSON protocol's reader: where it stands, and what one form says of it.
-use Rattle.std.proofs.Common.{◌≡◌, ℕ, ℤ, pos, zero, suc, ◌+◌, ◌-◌, ◌<◌, ◌≤◌, ◌≤ℤ◌, Bool, true, false, List, [], ◌∷◌, length, take, drop, Some, None, Ok, Err, refl, sym, ap, subst, ◌∙◌, arith, length-drop}
+use Rattle.std.proofs.Common.{◌≡◌, ℕ, ℤ, pos, zero, suc, ◌+◌, ◌-◌, ◌<◌, ◌≤◌, Bool, true, false, List, [], ◌∷◌, length, take, drop, Some, Ok, refl, sym, ap, subst, ◌∙◌, arith, length-drop}
 use Rattle.std.specs.Prelude.{negsuc, int_lt, nat_lt, nat_le, ◌==◌, ◌&&◌, if◌then◌else◌, slice_index}
 use Rattle.std.proofs.lemmas.Bool.Decides.{nat_tests}
 use Rattle.std.proofs.lemmas.List.{drop-drop, get_or-drop}
 use Rattle.std.proofs.lemmas.List.Sums.{prefix_len-drop_no, prefix_len-drop_all}
 use Rattle.thrift_value.specs.declared.kind.Kind.{Kind}
 use Rattle.thrift_value.specs.declared.kind.Kind.TheVariants as kinds
-use Rattle.thrift_value.specs.Items.{Item, field, stop, bool_value, i8_value, i16_value, i32_value, i64_value, text, struct_begin, empty_map, map_begin, end}
+use Rattle.thrift_value.specs.Items.{Item, field, stop, bool_value, i8_value, i16_value, i32_value, i64_value, text, struct_begin, end}
 use Rattle.thrift_value.specs.declared.kind.MessageType.{MessageType}
-use Rattle.protocol_traits.specs.declared.fault.Reason.{Reason}
 use Rattle.protocol_traits.specs.declared.fault.Reason.TheVariants as reasons
 use Rattle.protocol_traits.specs.declared.forms.Container.{Container}
 use Rattle.protocol_traits.specs.declared.forms.Container.TheVariants as containers
@@ -21,7 +20,7 @@ use Rattle.protocol_traits.specs.declared.nest.Slot.TheVariants as slots
 use Rattle.protocol_traits.specs.declared.proto.Hint.{Hint}
 use Rattle.protocol_traits.specs.declared.proto.Hint.TheVariants as hints
 use Rattle.protocol_traits.specs.Follow.{after}
-use Rattle.protocol_traits.specs.Forms.{opening_after, elements_item, container_kind, pairs_item, part, Calls, IsDone, IsPast, Steps, StepsTwice, StepsValue, StepsInto}
+use Rattle.protocol_traits.specs.Forms.{elements_item, container_kind, pairs_item, part, Calls, IsDone, IsPast, Steps, StepsTwice, StepsValue, StepsInto}
 use Rattle.protocol_traits.specs.Heads.{Header}
 use Rattle.protocol_traits.specs.Stack.{first_of}
 use Rattle.protocol_traits.specs.Steps.{told}
@@ -35,11 +34,11 @@ use Rattle.json_text.specs.Blob.{blob_at}
 use Rattle.json_text.specs.Lengths.{BlobFits, blob_fits}
 use Rattle.json_protocol.specs.declared.opening.Opening.{Opening as Own}
 use Rattle.json_protocol.specs.declared.opening.Opening.TheVariants as owns
-use Rattle.json_protocol.specs.Scan.{Scan, fault, item, shifted, gap, further, mark_at, ◌>>=◌}
-use Rattle.json_protocol.specs.Words.{kind_at, quoted_int_in, whole_in, text_in, blob_in, string_in}
-use Rattle.json_protocol.specs.Values.{i16_low, field_at, first_at, next_at, bool_at, i8_at, i16_at, i32_at, i64_at, struct_at, size_in, sequence_at, list_at, set_at, map_head_at, no_pairs_at, map_then, map_at, end_at, value_at, opens, value_in}
+use Rattle.json_protocol.specs.Scan.{Scan, fault, item, shifted, gap, further, mark_at}
+use Rattle.json_protocol.specs.Words.{kind_at, int_in, quoted_int_in, whole_in, text_in, blob_in, string_in}
+use Rattle.json_protocol.specs.Values.{i16_low, field_at, first_at, next_at, bool_at, i8_at, i16_at, i32_at, i64_at, struct_at, size_in, sequence_at, list_at, set_at, map_head_at, no_pairs_at, map_at, end_at, value_at, opens, value_in}
 use Rattle.json_protocol.specs.Reading.{State, begun, rest, lead_by, lead_pairs, lead_fields, lead_key, lead_at, fields_at, item_in, begun_at, led, opening_after as own_after, reads}
-use Rattle.json_protocol.specs.Head.{front_at, back_at, head_at, headed, reads_head, end_scan, reads_end}
+use Rattle.json_protocol.specs.Head.{type_of, front_at, back_at, head_at, reads_head, end_scan, reads_end}
 use Rattle.json_protocol.specs.Laws.{reads_ok}
 use Rattle.json_protocol.specs.WriteForms.{own, same_after, stand_key}
 
@@ -698,6 +697,37 @@ ends_past containers.Set frame at behind e = (omega (arith, e.1), omega (arith, 
 ends_past containers.List frame at behind e = (omega (arith, e.1), omega (arith, e.2))
 
 -- ---- the header and the end of the frame
+
+-- what stands at a place, from the front of the frame
+place_found : {X : Type 0} (frame : List ℕ) (at behind : ℕ) (scan : List ℕ → Scan X) (x : X) → is_white (slice_index frame at) ≡ false → Finds frame at scan x behind → further at scan frame ≡ Ok (x, behind)
+place_found frame at behind scan x solid found =
+    further_found frame 0 at at behind scan x (omega arith) (omega arith) (omega (arith, found.1.0, found.1.1)) solid (omega (arith, found.1.0)) found.0 ∙ ap (λ n. Ok (x, n)) (omega arith)
+
+place_mark : (frame : List ℕ) (at mark behind : ℕ) → is_white mark ≡ false → IsMark frame at mark behind → further at (mark_at mark) frame ≡ Ok (tt, behind)
+place_mark frame at mark behind solid m = further_mark frame 0 at at mark behind (omega arith) (omega arith) solid m ∙ ap (λ n. Ok (tt, n)) (omega arith)
+
+-- a bracket, the version and a comma
+pub front_found : (frame : List ℕ) (version past start : ℕ) (value : ℤ) → IsMark frame 0 91 version → is_white (slice_index frame version) ≡ false → Finds frame version (int_in reasons.BadVersion (pos 1) (pos 1)) value past → IsMark frame past 44 start
+    → is_white (slice_index frame start) ≡ false → front_at frame ≡ Ok (tt, start)
+unfolding front_at
+front_found frame version past start value bracket clear number comma solid =
+    let none : start + gap (drop start frame) ≡ start = omega (arith, gap_none frame start comma.2 solid) in
+    rw (place_mark frame 0 91 version refl bracket, place_found frame version past (int_in reasons.BadVersion (pos 1) (pos 1)) value clear number, place_mark frame past 44 start refl comma) (ap (λ n. Ok (tt, n)) none)
+
+-- the type and the number behind the name, with commas
+pub back_found : (frame : List ℕ) (name code kind_end number last behind : ℕ) (kind seq : ℤ) (mtype : MessageType) → mtype ≡ type_of kind → IsMark frame name 44 code → is_white (slice_index frame code) ≡ false → Finds frame code (int_in reasons.BadType (pos 1) (pos 4)) kind kind_end
+    → IsMark frame kind_end 44 number → is_white (slice_index frame number) ≡ false → Finds frame number (int_in reasons.BadNumber (negsuc 2147483647) (pos 2147483647)) seq last → IsMark frame last 44 behind
+    → back_at name frame ≡ Ok ((mtype, seq), behind)
+unfolding back_at
+back_found frame name code kind_end number last behind kind seq mtype is first clear typed second solid numbered third =
+    rw (
+      place_mark frame name 44 code refl first,
+      place_found frame code kind_end (int_in reasons.BadType (pos 1) (pos 4)) kind clear typed,
+      place_mark frame kind_end 44 number refl second,
+      place_found frame number last (int_in reasons.BadNumber (negsuc 2147483647) (pos 2147483647)) seq solid numbered,
+      place_mark frame last 44 behind refl third,
+    )
+    (ap (λ (t : MessageType). Ok ((t, seq), behind)) (sym is))
 
 -- a header from its words
 pub head_found : (frame : List ℕ) (start finish behind : ℕ) (name : List ℕ) (mtype : MessageType) (seq : ℤ) → front_at frame ≡ Ok (tt, start) → start < finish → text_at (drop start frame) ≡ Whole name (finish + 1 - start)

@@ -1,5 +1,6 @@
 //! The header and the end of a message.
-ghost use Rattle.std.specs.Prelude.{◌≡◌, ℕ, ◌+◌, ◌≤◌, ◌≤ℤ◌, length, drop, pos, IfOk, IfSome};
+ghost use Rattle.std.specs.Prelude.{◌≡◌, ℕ, ◌+◌, ◌≤◌, ◌<◌, ◌≤ℤ◌, length, drop, pos, false, slice_index, Ok, IfOk, IfSome};
+ghost use Rattle.json_text.specs.Scan.{is_white};
 ghost use Rattle.protocol_traits.specs.Steps.{seen};
 ghost use Rattle.json_protocol.specs.Scan.{IsWithin, Keeps, further, shifted, string_scan};
 ghost use Rattle.json_protocol.specs.Words.{int_in, text_in};
@@ -7,10 +8,11 @@ ghost use Rattle.protocol_traits.specs.Heads.{header_of};
 ghost use Rattle.json_protocol.specs.ReadForms.{HeadFound};
 ghost use Rattle.json_protocol.specs.Head.{type_of, front_at, back_at, head_at, head_scan, end_scan};
 
+use crate::places::behind_mark;
 use crate::room::Room;
 use crate::scan::{gap_from, mark_from};
 use crate::word::int_in;
-use json_text::plain_text;
+use json_text::{plain_int, plain_text};
 use protocol_traits::{Fault, Head, Reason, fault_at};
 use thrift_value::MessageType;
 
@@ -109,25 +111,48 @@ pub fn head_at<'f>(
     Ok(((Head { name, mtype, seq }, start), taken))
 }
 
-/// The header, where its name has no escape and a byte stands behind it.
+/// The header in its plain spelling, where its name has no escape and a byte stands behind it.
+#[inline(always)]
 pub fn front_of(frame: &[u8]) -> Option<(Head<'_>, usize)>
     ensures { IfSome result (λ x. HeadFound frame.now (header_of x.0) x.1) }
 {
-    let start = match front_at(frame) {
-        Ok((_, start)) => start,
-        Err(_) => return None,
-    };
+    let start = name_place(frame)?;
     let stop = plain_text(frame, start)?;
-    match back_at(frame, stop + 1) {
-        Ok(((mtype, seq), behind)) => {
-            if behind == frame.len() {
-                return None;
-            }
-            let name = &frame[start + 1..stop];
-            Some((Head { name, mtype, seq }, behind))
-        }
-        Err(_) => None,
+    let code = behind_mark(frame, stop + 1, b',')?;
+    let (kind, end) = plain_int(frame, code)?;
+    if kind < 1 || kind > 4 {
+        return None;
     }
+    let number = behind_mark(frame, end, b',')?;
+    let (seq, end) = plain_int(frame, number)?;
+    if seq < -2147483648 || seq > 2147483647 {
+        return None;
+    }
+    let behind = behind_mark(frame, end, b',')?;
+    let name = &frame[start + 1..stop];
+    Some((
+        Head {
+            name,
+            mtype: type_of(kind),
+            seq: seq as i32,
+        },
+        behind,
+    ))
+}
+
+/// The place of the name, behind the bracket and the version.
+#[inline(always)]
+fn name_place(frame: &[u8]) -> Option<usize>
+    ensures place { IfSome result (λ x. x < length frame.now) }
+    ensures found { IfSome result (λ x. is_white (slice_index frame.now x) ≡ false → front_at frame.now ≡ Ok (tt, x)) }
+{
+    let version = behind_mark(frame, 0, b'[')?;
+    let (value, end) = plain_int(frame, version)?;
+    if value != 1 {
+        return None;
+    }
+    let start = behind_mark(frame, end, b',')?;
+    Some(start)
 }
 
 /// The closing bracket, and only whitespace behind it.

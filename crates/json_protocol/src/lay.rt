@@ -1,5 +1,5 @@
 //! The pieces of plain TJSON laid into cells from a place on.
-ghost use Rattle.std.specs.Prelude.{◌≡◌, ◌+◌, ◌≤◌, ◌∷◌, [], ◌++◌, length, take};
+ghost use Rattle.std.specs.Prelude.{◌≡◌, ℤ, pos, ◌+◌, ◌≤◌, ◌≤ℤ◌, ◌<ℤ◌, ◌∷◌, [], ◌++◌, length, take};
 ghost use Rattle.std.specs.Fmt.{signed_decimal};
 ghost use Rattle.json_protocol.specs.Writing.{quoted, kind_name, number, flag, field_spelling};
 ghost use Rattle.json_protocol.specs.WriteForms.{stand_lead, stand_key, field_marks, stop_marks, end_marks};
@@ -175,8 +175,23 @@ fn lay_head(cells: &mut [u8], to: usize, id: i64, kind: Kind) -> usize
     ensures laid { take result cells.new ≡ take to cells.old ++ field_spelling id kind }
     ensures short { result ≤ to + (length (signed_decimal id) + 9) }
 {
+    if 0 <= id && id < 10 {
+        return lay_short_head(cells, to, id, kind);
+    }
     let to = lay_quoted(cells, to, id);
     lay_both(cells, to, b":{", quoted_name(kind))
+}
+
+/// The same for an id of one digit.
+#[inline(always)]
+fn lay_short_head(cells: &mut [u8], to: usize, id: i64, kind: Kind) -> usize
+    requires room { to + 10 ≤ length cells.old }
+    requires digit { (pos 0 ≤ℤ id) × (id <ℤ pos 10) }
+    ensures laid { take result cells.new ≡ take to cells.old ++ field_spelling id kind }
+    ensures short { result ≤ to + 10 }
+{
+    let name = lay(cells, to, &[b'"', b'0' + id as u8, b'"', b':', b'{']);
+    lay(cells, name, quoted_name(kind))
 }
 
 /// Lays a field's id and kind with the marks before them.

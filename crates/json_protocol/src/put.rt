@@ -130,8 +130,9 @@ fn kind_name(kind: Kind) -> &'static [u8]
     }
 }
 
-fn type_digit(mtype: MessageType) -> &'static [u8]
-    ensures { result.now ≡ type_digit mtype }
+pub fn type_digit(mtype: MessageType) -> &'static [u8]
+    ensures digit { result.now ≡ type_digit mtype }
+    ensures one { length result.now ≡ 1 }
 {
     match mtype {
         MessageType::Call => b"1",

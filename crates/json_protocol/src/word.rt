@@ -6,7 +6,7 @@ ghost use Rattle.json_protocol.specs.Scan.{IsWithin, further, word_end, byte_fit
 ghost use Rattle.json_protocol.specs.Words.{begins_two, begins_three, large_kind_at, wide_kind_at, kind_at, int_in, closed, quoted_int_in, whole_in, infinity_fits, spelled, number_in, quoted_number_in, double_in};
 
 use crate::scan::{byte_fits, gap_from};
-use json_text::{Scan, read_int, read_number};
+use json_text::{Scan, plain_int, read_int, read_number};
 use protocol_traits::{Fault, Reason, fault_at};
 use thrift_value::Kind;
 
@@ -51,6 +51,11 @@ pub fn int_in(reason: Reason, low: i64, high: i64, bytes: &[u8]) -> Result<(i64,
     ensures range { IfOk result (λ x. (low ≤ℤ x.0) × (x.0 ≤ℤ high)) }
     ensures exact { result ≡ int_in reason low high bytes.now }
 {
+    if let Some((value, end)) = plain_int(bytes, 0) {
+        if low <= value && value <= high {
+            return Ok((value, end));
+        }
+    }
     match read_int(bytes, 0, low, high) {
         Scan::Whole(value, end) => Ok((value, end)),
         Scan::Short => Err(fault_at(bytes.len(), Reason::Truncated)),

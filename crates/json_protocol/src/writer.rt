@@ -13,6 +13,7 @@ ghost use Rattle.json_protocol.specs.Weights.{plain_nests, light_head, light};
 use crate::opening::{Opening, opening_after};
 use crate::put::{is_key, lead, put_head, put_item};
 use gate_io::Out;
+use json_text::is_plain_ascii;
 use protocol_traits::{Bar, Head, Hint, Mark, Nest, Slot, WireWrite, follow};
 use std::marker::Model;
 use thrift_value::{Event, Kind};
@@ -70,7 +71,7 @@ impl WireWrite for JsonWrite {
     }
 
     fn takes_name(name: &[u8]) -> Result<(), Bar> {
-        if is_text(name) {
+        if is_plain_ascii(name) || is_text(name) {
             return Ok(());
         }
         Err(Bar::NotUtf8)
@@ -106,10 +107,7 @@ impl WireWrite for JsonWrite {
 pub fn is_text(bytes: &[u8]) -> bool
     ensures { result ≡ is_utf8 bytes.now }
 {
-    match simdutf8::compat::from_utf8(bytes) {
-        Ok(_) => true,
-        Err(_) => false,
-    }
+    simdutf8::is_utf8(bytes)
 }
 
 fn takes_string(bytes: &[u8], hint: Hint) -> Result<(), Bar>

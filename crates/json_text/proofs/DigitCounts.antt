@@ -1,7 +1,7 @@
 -- How many digits a number has, by the powers of ten that it lies between.
-use Rattle.std.proofs.Common.{◌≡◌, ℕ, zero, suc, ◌+◌, ◌*◌, ◌/◌, ◌%◌, ◌^◌, ◌<◌, ◌≤◌, [], ◌∷◌, length, refl, sym, ap, subst, ◌∙◌, arith, length-append}
+use Rattle.std.proofs.Common.{◌≡◌, ℕ, zero, suc, ◌+◌, ◌*◌, ◌/◌, ◌%◌, ◌^◌, ◌<◌, ◌≤◌, [], ◌∷◌, length, ap, ◌∙◌, arith, length-append}
 use Rattle.std.specs.Fmt.{decimal}
-use Rattle.std.proofs.lemmas.Fmt.{decimal_nonempty, decimal_step, decimal_digit, length-decimal-le}
+use Rattle.std.proofs.lemmas.Fmt.{decimal_nonempty, decimal_step, length-decimal-le}
 
 power_some : (k : ℕ) → 1 ≤ 10 ^ k
 power_some zero = omega arith
@@ -20,6 +20,3 @@ pub counted : (k n : ℕ) → 10 ^ k ≤ n → n < 10 * 10 ^ k → n < 2 ^ 64 �
 counted k n low high small =
     let most : length (decimal n) ≤ suc k = length-decimal-le (suc k) n (omega arith) (omega (arith, high)) small in
     omega (arith, most, at_least k n low small)
-
-pub zero_counted : (n : ℕ) → n ≡ 0 → 1 ≡ length (decimal n)
-zero_counted n none = sym (ap (λ k. length (decimal k)) none ∙ ap length (decimal_digit 0 (omega arith)))

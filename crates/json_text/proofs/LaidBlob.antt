@@ -1,5 +1,5 @@
 -- A base64 string laid into cells.
-use Rattle.std.proofs.Common.{◌≡◌, ℕ, zero, suc, ◌+◌, ◌-◌, ◌*◌, ◌/◌, ◌≤◌, List, [], ◌∷◌, ◌++◌, length, take, drop, ap, sym, ◌∙◌, arith, length-take, length-append}
+use Rattle.std.proofs.Common.{◌≡◌, ℕ, zero, suc, ◌+◌, ◌*◌, ◌/◌, ◌≤◌, List, [], ◌∷◌, ◌++◌, length, take, ap, ◌∙◌, arith, length-take, length-append}
 use Rattle.std.proofs.lemmas.List.{take-append-le, append_assoc}
 use borrow.Rule.Slice.PartMut.{put_mid, post_of}
 use Rattle.json_text.specs.Blob.{symbols_of, blob_spelling}

@@ -12,3 +12,5 @@ pub mod PlainInts
 pub mod PlainTexts
 pub mod DigitCounts
 pub mod LaidBlob
+pub mod LaidDigits
+pub mod LaidText

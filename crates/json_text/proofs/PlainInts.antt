@@ -1,14 +1,13 @@
 -- An integer read digit by digit where it stands.
-use Rattle.std.proofs.Common.{◌≡◌, ℕ, ℤ, pos, negsuc, ◌+◌, ◌-◌, ◌*◌, ◌<◌, ◌≤◌, ◌≤ℤ◌, Bool, true, false, List, [], ◌∷◌, ◌++◌, length, take, drop, get_or, Option, Some, None, refl, sym, ap, subst, ◌∙◌, arith, length-drop, length-take}
-use Rattle.std.specs.Prelude.{nat_le, nat_lt, int_lt, not, ◌&&◌, ◌||◌, ◌==◌, slice_index}
+use Rattle.std.proofs.Common.{◌≡◌, ℕ, ℤ, pos, negsuc, ◌+◌, ◌-◌, ◌*◌, ◌<◌, ◌≤◌, ◌≤ℤ◌, Bool, true, false, List, [], ◌∷◌, ◌++◌, length, take, drop, get_or, Some, refl, sym, ap, subst, ◌∙◌, arith, length-drop}
+use Rattle.std.specs.Prelude.{nat_le, nat_lt, not, ◌&&◌, ◌||◌, ◌==◌, slice_index}
 use Rattle.std.proofs.lemmas.Bool.Decides.{nat_tests}
-use Rattle.std.proofs.lemmas.List.{take_more, append_assoc, append-nil, get_or-drop, get_or-take, length-take-le, drop-drop, drop-take, take-take}
-use Rattle.std.proofs.lemmas.List.Sums.{prefix_len-drop_yes, prefix_len_is, prefix_len_passes, prefix_len_stops, prefix_len-le-length}
+use Rattle.std.proofs.lemmas.List.{take_more, append_assoc, append-nil, get_or-drop, get_or-take, length-take-le, drop-drop, drop-take}
+use Rattle.std.proofs.lemmas.List.Sums.{prefix_len-drop_yes, prefix_len_is, prefix_len_passes, prefix_len_stops}
 use Rattle.std.specs.List.{prefix_len}
 use Rattle.std.specs.Char.{is_ascii_digit}
-use Rattle.json_text.specs.declared.scanned.Scan.{Scan}
 use Rattle.json_text.specs.declared.scanned.Scan.TheVariants.{Whole}
-use Rattle.json_text.specs.Int.{is_int_byte, digits_from, magnitude, integer, positive, negative, within, run_scan, int_run, int_at}
+use Rattle.json_text.specs.Int.{is_int_byte, digits_from, magnitude, integer, within, run_scan, int_at}
 
 -- the digits so far make this number, whatever follows
 pub record Digits (bytes : List ℕ) (at stop value : ℕ) : Type 0 where

@@ -1,6 +1,6 @@
 -- The words of JSON as relations, in the terms of RFC 8259 and RFC 4648. No scan is named here: these say which bytes a
 -- word is, and which value they spell.
-use Rattle.std.specs.Prelude.{◌≡◌, ⊤, ℕ, ℤ, zero, suc, pos, negsuc, ◌+◌, ◌-◌, ◌*◌, ◌/◌, ◌%◌, ◌<◌, ◌≤◌, ◌⊎◌, List, [], ◌∷◌, ◌++◌, length, replicate}
+use Rattle.std.specs.Prelude.{◌≡◌, ⊤, ℕ, ℤ, zero, suc, pos, negsuc, ◌+◌, ◌-◌, ◌*◌, ◌%◌, ◌<◌, ◌≤◌, ◌⊎◌, List, [], ◌∷◌, ◌++◌, length, replicate}
 use Rattle.std.specs.Char.{IsScalar, encode_utf8}
 use Rattle.base64.specs.Rfc4648.{encode_symbols}
 

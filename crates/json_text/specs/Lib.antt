@@ -9,3 +9,4 @@ pub mod Blob
 pub mod Lengths
 pub mod Grammar
 pub mod Places
+pub mod Digits

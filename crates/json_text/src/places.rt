@@ -144,7 +144,7 @@ fn plain_run(bytes: &[u8], at: usize) -> (usize, bool)
 
 /// A set bit for each byte that is not ASCII.
 #[inline(always)]
-fn highs(block: u8x32) -> u64
+pub(crate) fn highs(block: u8x32) -> u64
     ensures { result ≡ mask_l (map is_high block) }
 {
     block.simd_ge(u8x32::splat(128)).to_bitmask()

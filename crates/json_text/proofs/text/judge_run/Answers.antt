@@ -1,4 +1,4 @@
-use Rattle.std.proofs.Common.{◌≡◌, ◌∙◌, ◌-◌, arith, length-drop, length, take, drop, ℕ}
+use Rattle.std.proofs.Common.{◌≡◌, ◌∙◌, ◌-◌, arith, rules, length-drop, length, take, drop, ℕ}
 use Rattle.std.proofs.lemmas.List.{length-take-le}
 use Rattle.std.proofs.lemmas.Str.{utf8_valid_len-IsUtf8}
 use Rattle.json_text.proofs.text.judge_run.Goals as goal
@@ -8,3 +8,9 @@ returns-in-Ok c =
     let run = take (c.args.stop - c.args.from) (drop c.args.from c.args.bytes.now) in
     let long : length run ≡ c.args.stop - c.args.from = length-take-le (c.args.stop - c.args.from) (drop c.args.from c.args.bytes.now) (omega (arith, length-drop {A = ℕ})) in
     utf8_valid_len-IsUtf8 run c.in-Ok.ensures.cases.1 ∙ long
+
+pub returns-then-is_utf8 : goal.returns-then-is_utf8
+returns-then-is_utf8 c =
+    let run = take (c.args.stop - c.args.from) (drop c.args.from c.args.bytes.now) in
+    let long : length run ≡ c.args.stop - c.args.from = length-take-le (c.args.stop - c.args.from) (drop c.args.from c.args.bytes.now) (omega (arith, length-drop {A = ℕ})) in
+    utf8_valid_len-IsUtf8 run (c.is_utf8.ensures.0 (search rules)) ∙ long
