@@ -11,7 +11,7 @@ use Rattle.json_text.specs.Grammar.{AreWhite}
 use Rattle.json_text_laws.proofs.Parts.{Apart, append_more}
 use Rattle.json_protocol.specs.Scan.{Scan, fault, gap, further, shifted, mark_at, ◌>>=◌}
 use Rattle.json_protocol.specs.Grammar.{Tokens, Laid, mark}
-use Rattle.json_laws.specs.Faults.{IsSort, IsInside}
+use Rattle.json_laws.specs.Faults.{IsSort, IsInside, IsUnlike, NoneStands}
 use Rattle.json_laws.proofs.Marks.{Lies, here, cut}
 use Rattle.json_laws.proofs.Trees.{tokens_append}
 use Rattle.json_laws.proofs.Inverse.{is_read, is_fault, white_append, gap_white, gap_apart, Carries}
@@ -48,6 +48,7 @@ pub record IsBadPart (f : Fault) (bytes left token : List ℕ) : Type 0 where
   pub sort : IsSort f.reason token
   pub inside : ℕ
   pub stands : IsInside f.reason left inside
+  pub unlike : IsUnlike f.reason left token
   pub there : drop f.place bytes ≡ drop inside left
   pub some : 1 ≤ length (drop inside left)
 
@@ -174,16 +175,16 @@ shown_struck n g f bytes left token is s = subst (λ h. Struck h bytes left toke
   where
     of_struck : Struck g (drop n bytes) left token → Struck (record { place = n + g.place; reason = g.reason }) bytes left token
     of_struck (inl c) = inl c
-    of_struck (inr b) = inr (record { sort = b.sort; inside = b.inside; stands = b.stands; there = sym (drop-drop g.place n bytes) ∙ b.there; some = b.some })
+    of_struck (inr b) = inr (record { sort = b.sort; inside = b.inside; stands = b.stands; unlike = b.unlike; there = sym (drop-drop g.place n bytes) ∙ b.there; some = b.some })
 
 pub shown_strikes : (n : ℕ) (g f : Fault) (bytes : List ℕ) (tokens : Tokens) → Shown n g f → Strikes 0 (drop n bytes) g tokens → Strikes n bytes f tokens
 shown_strikes n g f bytes tokens is s =
     record { before = s.before; token = s.token; later = s.later; are = s.are; front = s.front; left = s.left; laid = s.laid; is = s.is; solid = s.solid; struck = shown_struck n g f bytes s.left s.token is s.struck }
 
 -- what is wrong right there
-pub bad_here : {X : Type 0} → (reason : Reason) (f : Fault) (bytes token : List ℕ) → ((left : List ℕ) → IsInside reason left 0) → IsSort reason token → 1 ≤ length bytes → fault {X = X} 0 reason ≡ is_fault f → Struck f bytes bytes token
-bad_here {X} reason f bytes token plain sort some e =
-    subst (λ g. Struck g bytes bytes token) (same_fault {X = X} (record { place = 0; reason = reason }) f e) (inr (record { sort = sort; inside = 0; stands = plain bytes; there = refl; some = some }))
+pub bad_here : {X : Type 0} → (reason : Reason) (f : Fault) (bytes token : List ℕ) → IsInside reason bytes 0 × IsUnlike reason bytes token → IsSort reason token → 1 ≤ length bytes → fault {X = X} 0 reason ≡ is_fault f → Struck f bytes bytes token
+bad_here {X} reason f bytes token here sort some e =
+    subst (λ g. Struck g bytes bytes token) (same_fault {X = X} (record { place = 0; reason = reason }) f e) (inr (record { sort = sort; inside = 0; stands = here.0; unlike = here.1; there = refl; some = some }))
 
 pub cut_here : {X : Type 0} → (place : ℕ) (f : Fault) (bytes more token : List ℕ) → bytes ++ more ≡ token → fault {X = X} place reasons.Truncated ≡ is_fault f → Struck f bytes bytes token
 cut_here {X} place f bytes more token is e = inl (sym (ap (λ (g : Fault). g.reason) (same_fault {X = X} (record { place = place; reason = reasons.Truncated }) f e)), (more, is))
@@ -210,6 +211,14 @@ further_cut scan n bytes f e =
 
 -- ---- marks
 
+-- another byte stands there
+pub unlike_mark : (x m : ℕ) (bytes : List ℕ) → (x == m) ≡ false → NoneStands (λ token. token ≡ mark m) (x ∷ bytes)
+unlike_mark x m bytes other token rest is e = let same : x ≡ m = ap (λ l. cells_head l x) (e ∙ ap (λ t. t ++ rest) is) in grind (arith, nat_tests)
+  where
+    cells_head : List ℕ → ℕ → ℕ
+    cells_head [] n = n
+    cells_head (y ∷ ys) n = y
+
 pub mark_struck : (m : ℕ) (bytes : List ℕ) (f : Fault) → mark_at m bytes ≡ is_fault f → Struck f bytes bytes (mark m)
 unfolding mark_at
 mark_struck m [] f e = cut_here {X = Unit {0}} 0 f [] (mark m) (mark m) refl e
@@ -217,7 +226,7 @@ mark_struck m (x ∷ bytes) f e = by_some (either_fault (nat_lt (length (x ∷ b
   where
     by_mark : (((x == m) ≡ true) × (is_read {X = Unit {0}} (tt, 1) ≡ is_fault f)) ⊎ (((x == m) ≡ false) × (fault {X = Unit {0}} 0 reasons.BadToken ≡ is_fault f)) → Struck f (x ∷ bytes) (x ∷ bytes) (mark m)
     by_mark (inl h) = absurd (no_read (tt, 1) f h.1)
-    by_mark (inr h) = bad_here {X = Unit {0}} reasons.BadToken f (x ∷ bytes) (mark m) (λ left. refl) (m, refl) (omega arith) h.1
+    by_mark (inr h) = bad_here {X = Unit {0}} reasons.BadToken f (x ∷ bytes) (mark m) (refl, unlike_mark x m bytes h.0) (m, refl) (omega arith) h.1
 
     by_some : ((nat_lt (length (x ∷ bytes)) 1 ≡ true) × (fault {X = Unit {0}} 0 reasons.Truncated ≡ is_fault f)) ⊎ ((nat_lt (length (x ∷ bytes)) 1 ≡ false) × (cond (x == m) (is_read {X = Unit {0}} (tt, 1)) (fault {X = Unit {0}} 0 reasons.BadToken) ≡ is_fault f)) → Struck f (x ∷ bytes) (x ∷ bytes) (mark m)
     by_some (inl h) = absurd (let none = h.0 in grind (arith, nat_tests))

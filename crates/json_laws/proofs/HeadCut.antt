@@ -1,5 +1,5 @@
 -- A header that a fault strikes: it begins one of the grammar, up to the token that is struck.
-use Rattle.std.proofs.Common.{◌≡◌, ℕ, ℤ, pos, negsuc, ◌+◌, false, List, [], ◌∷◌, drop, refl, ap, ◌∙◌, sym, subst, arith, inl}
+use Rattle.std.proofs.Common.{◌≡◌, ℕ, ℤ, pos, negsuc, ◌+◌, false, List, [], ◌∷◌, ◌++◌, drop, refl, ap, ◌∙◌, sym, subst, arith, inl}
 use Rattle.std.specs.Prelude.{int_lt, FitsSigned}
 use Rattle.std.specs.Int.{w32}
 use Rattle.std.proofs.lemmas.Bool.Decides.{nat_tests}
@@ -18,7 +18,7 @@ use Rattle.json_protocol.specs.Head.{type_of, front_at, back_at, head_at}
 use Rattle.json_protocol.specs.Writing.{type_digit}
 use Rattle.json_protocol.specs.Grammar.{Tokens, mark}
 use Rattle.json_text_laws.specs.Judged.{IsRange}
-use Rattle.json_laws.specs.Faults.{IsSort, IsInside}
+use Rattle.json_laws.specs.Faults.{IsSort}
 use Rattle.json_laws.specs.Fronts.{head_tokens}
 use Rattle.json_laws.proofs.Marks.{Lies}
 use Rattle.json_laws.proofs.Inverse.{is_read, is_fault, same_read, bound, Carries, Token, token_lies, shifted_back}
@@ -26,18 +26,27 @@ use Rattle.json_laws.proofs.WordsBack.{text_back}
 use Rattle.json_laws.proofs.ItemsBack.{range_32}
 use Rattle.json_laws.proofs.HeadBack.{range_version, range_type, version_digit, type_digits, int_behind, fits_32, front_back}
 use Rattle.json_laws.proofs.Completing.{gap_solid, Strikes, strikes_more, strikes_here, behind_goes, no_read, bound_fault, shifted_fault, shown_struck, word_cut, lead_goes}
-use Rattle.json_laws.proofs.WordsCut.{Sorts, SomeInt, int_cut, int_one, text_cut}
+use Rattle.json_laws.proofs.Spelled.{version_in, type_in}
+use Rattle.json_laws.proofs.WordsCut.{Plain, Fresh, int_absent, Sorts, SomeInt, int_cut, int_one, text_cut}
 use Rattle.json_laws.proofs.ItemsCut.{by_side, past_mark, at_mark}
 
 -- an integer is struck, of a range without a minus
-at_int : (reason : Reason) (low high : ℤ) (token : List ℕ) (n : ℕ) (bytes : List ℕ) (f : Fault) (tokens : Tokens) → IsRange low high → int_lt low (pos 0) ≡ false → ((left : List ℕ) → IsInside reason left 0) → IsSort reason token
+at_int : (reason : Reason) (low high : ℤ) (token : List ℕ) (n : ℕ) (bytes : List ℕ) (f : Fault) (tokens : Tokens) → IsRange low high → int_lt low (pos 0) ≡ false → Plain reason → IsSort reason token → Fresh reason (int_in reason low high) (λ t. t ≡ token)
     → further n (int_in reason low high) bytes ≡ is_fault f → Strikes n bytes f (token ∷ tokens)
-at_int reason low high token n bytes f tokens range more plain sort e =
-    let w = word_cut (int_in reason low high) (λ t. t ≡ token) n bytes f (int_one reason low high token range more plain sort) e in
+at_int reason low high token n bytes f tokens range more plain sort fresh e =
+    let w = word_cut (int_in reason low high) (λ t. t ≡ token) n bytes f (int_one reason low high token range more plain sort fresh) e in
     strikes_more n bytes f (token ∷ []) tokens (subst (λ k. Strikes n bytes f (k ∷ [])) w.1 w.2)
 
 past_token : (n past : ℕ) (token same : List ℕ) (bytes : List ℕ) (f : Fault) (tokens : Tokens) → token ≡ same → Carries n (token ∷ []) bytes past → Strikes past bytes f tokens → Strikes n bytes f (same ∷ tokens)
 past_token n past token same bytes f tokens is carries s = subst (λ k. Strikes n bytes f (k ∷ tokens)) is (behind_goes n past (token ∷ []) tokens bytes f carries s)
+
+no_version : Fresh reasons.BadVersion (int_in reasons.BadVersion (pos 1) (pos 1)) (λ t. t ≡ mark 49)
+no_version bytes f e token is other rest same ends stands = int_absent reasons.BadVersion (pos 1) (pos 1) (pos 1) bytes f (49 ∷ []) rest e (version_in []) ends (stands ∙ ap (λ t. t ++ rest) same)
+
+no_type : Fresh reasons.BadType (int_in reasons.BadType (pos 1) (pos 4)) (λ t. t ≡ type_digit types.Call)
+no_type bytes f e token is other rest (t, same) ends stands =
+    let i = type_in [] t in
+    int_absent reasons.BadType (pos 1) (pos 4) (pos i.0) bytes f (type_digit t) rest e i.1.0 ends (stands ∙ ap (λ t. t ++ rest) same)
 
 front_cut : (bytes : List ℕ) (f : Fault) (tokens : Tokens) → front_at bytes ≡ is_fault f → Strikes 0 bytes f (mark 91 ∷ mark 49 ∷ mark 44 ∷ tokens)
 unfolding front_at
@@ -45,7 +54,7 @@ front_cut bytes f tokens e =
     by_side (bound_fault (further 0 (mark_at 91) bytes) _ f e)
     (λ h. at_mark 91 0 bytes f (mark 49 ∷ mark 44 ∷ tokens) h)
     (λ a. past_mark 91 0 bytes f a.0.0 a.0.1 (mark 49 ∷ mark 44 ∷ tokens) a.1 (by_side (bound_fault (further a.0.1 (int_in reasons.BadVersion (pos 1) (pos 1)) bytes) _ f a.2)
-    (λ h. at_int reasons.BadVersion (pos 1) (pos 1) (mark 49) a.0.1 bytes f (mark 44 ∷ tokens) range_version (grind (arith, nat_tests)) (λ left. refl) refl h)
+    (λ h. at_int reasons.BadVersion (pos 1) (pos 1) (mark 49) a.0.1 bytes f (mark 44 ∷ tokens) range_version (grind (arith, nat_tests)) (λ left. refl) refl no_version h)
     (λ b. let v = int_behind (pos 1) (pos 1) reasons.BadVersion a.0.1 bytes b.0.0 b.0.1 range_version b.1 in
     past_token a.0.1 b.0.1 v.0 (mark 49) bytes f (mark 44 ∷ tokens) (version_digit b.0.0 v.0 v.1) v.2 (by_side (bound_fault (further b.0.1 (mark_at 44) bytes) _ f b.2)
     (λ h. at_mark 44 b.0.1 bytes f tokens h)
@@ -80,14 +89,14 @@ back_cut n bytes f e =
     (λ h. of_type n bytes f types.Call (at_mark 44 n bytes f (type_digit types.Call ∷ mark 44 ∷ (48 ∷ []) ∷ mark 44 ∷ []) h))
     (λ a. by_side (bound_fault (further a.0.1 (int_in reasons.BadType (pos 1) (pos 4)) bytes) _ f a.2)
     (λ h. of_type n bytes f types.Call (past_mark 44 n bytes f a.0.0 a.0.1 (type_digit types.Call ∷ mark 44 ∷ (48 ∷ []) ∷ mark 44 ∷ []) a.1
-    (at_int reasons.BadType (pos 1) (pos 4) (type_digit types.Call) a.0.1 bytes f (mark 44 ∷ (48 ∷ []) ∷ mark 44 ∷ []) range_type (grind (arith, nat_tests)) (λ left. refl) (types.Call, refl) h)))
+    (at_int reasons.BadType (pos 1) (pos 4) (type_digit types.Call) a.0.1 bytes f (mark 44 ∷ (48 ∷ []) ∷ mark 44 ∷ []) range_type (grind (arith, nat_tests)) (λ left. refl) (types.Call, refl) no_type h)))
     (λ b. let v = int_behind (pos 1) (pos 4) reasons.BadType a.0.1 bytes b.0.0 b.0.1 range_type b.1 in
     let front = λ (later : Tokens) (s : Strikes b.0.1 bytes f later).
     past_mark 44 n bytes f a.0.0 a.0.1 (type_digit (type_of b.0.0) ∷ later) a.1 (past_token a.0.1 b.0.1 v.0 (type_digit (type_of b.0.0)) bytes f later (type_digits b.0.0 v.0 v.1) v.2 s) in
     by_side (bound_fault (further b.0.1 (mark_at 44) bytes) _ f b.2)
     (λ h. of_type n bytes f (type_of b.0.0) (front (mark 44 ∷ (48 ∷ []) ∷ mark 44 ∷ []) (at_mark 44 b.0.1 bytes f ((48 ∷ []) ∷ mark 44 ∷ []) h)))
     (λ c. by_side (bound_fault (further c.0.1 (int_in reasons.BadNumber (negsuc 2147483647) (pos 2147483647)) bytes) _ f c.2)
-    (λ h. let w = word_cut (int_in reasons.BadNumber (negsuc 2147483647) (pos 2147483647)) (SomeInt (negsuc 2147483647) (pos 2147483647)) c.0.1 bytes f (int_cut reasons.BadNumber (negsuc 2147483647) (pos 2147483647) range_32 sorts_seq) h in
+    (λ h. let w = word_cut (int_in reasons.BadNumber (negsuc 2147483647) (pos 2147483647)) (SomeInt (negsuc 2147483647) (pos 2147483647)) c.0.1 bytes f (int_cut reasons.BadNumber (negsuc 2147483647) (pos 2147483647) range_32 sorts_seq (λ b g h token is. tt)) h in
     let z = w.1.0 in
     let is = w.1.1 in
     record {

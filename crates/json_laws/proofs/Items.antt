@@ -200,7 +200,7 @@ module _ (tail : List ℕ) where
 
   -- ---- numbers
 
-  flag_in : (b : Bool) → (n : ℤ) × IsIn (pos 0) (pos 1) n (flag b) × (bool_value (int_lt (pos 0) n) ≡ bool_value b)
+  pub flag_in : (b : Bool) → (n : ℤ) × IsIn (pos 0) (pos 1) n (flag b) × (bool_value (int_lt (pos 0) n) ≡ bool_value b)
   flag_in true = (pos 1, record { spells = inr (inl ((omega arith, omega arith, tt), refl)); least = grind (arith, nat_tests); most = grind (arith, nat_tests); fits = (grind (arith, nat_tests), grind (arith, nat_tests)) }, refl)
   flag_in false = (pos 0, record { spells = inl (refl, refl); least = grind (arith, nat_tests); most = grind (arith, nat_tests); fits = (grind (arith, nat_tests), grind (arith, nat_tests)) }, refl)
 

@@ -22,7 +22,7 @@ use Rattle.json_text_laws.proofs.Completed.{no_blob}
 use Rattle.json_protocol.specs.Scan.{fault, further, mark_at}
 use Rattle.json_protocol.specs.Words.{kind_at, int_in, quoted_int_in, whole_in, double_in, text_in, blob_in, string_in}
 use Rattle.json_protocol.specs.Values.{i16_low, field_at, first_at, next_at, bool_at, i8_at, i16_at, i32_at, i64_at, double_at, struct_at, size_in, sequence_at, list_at, set_at, map_head_at, no_pairs_at, map_then, map_at, value_at}
-use Rattle.json_protocol.specs.Writing.{quoted, number}
+use Rattle.json_protocol.specs.Writing.{flag, quoted, number}
 use Rattle.json_protocol.specs.Grammar.{Tokens, mark, comma, name_token, IsNamed, map_tokens, IsStringToken, IsLooseToken, Spells}
 use Rattle.json_laws.specs.Positions.{declared_of}
 use Rattle.json_laws.proofs.Marks.{Lies}
@@ -31,8 +31,10 @@ use Rattle.json_laws.proofs.WordsBack.{IsInt, IsQuoted, quoted_back}
 use Rattle.json_laws.proofs.HeadBack.{fits_32}
 use Rattle.json_laws.proofs.ItemsBack.{range_flag, range_8, range_16, range_32, range_64, range_size, fits_16, flag_digits, kind_behind, mark_first, MapHeadRead, map_head_back}
 use Rattle.json_laws.specs.Faults.{IsSort}
-use Rattle.json_laws.proofs.Completing.{Struck, Strikes, strikes_more, strikes_here, behind_goes, no_read, bound_fault, either_fault, Shown, shown_strikes, bad_here, cut_here, StrikesOne, word_cut, further_cut, mark_struck, mark_cut}
-use Rattle.json_laws.proofs.WordsCut.{Sorts, SomeInt, int_one, quoted_cut, SomeWhole, whole_cut, SomeName, kind_cut, SomeDouble, double_cut, StringStrike, text_cut, blob_cut}
+use Rattle.json_laws.proofs.Completing.{Struck, Strikes, strikes_more, strikes_here, behind_goes, no_read, bound_fault, either_fault, Shown, shown_strikes, bad_here, unlike_mark, cut_here, StrikesOne, word_cut, further_cut, mark_struck, mark_cut}
+use Rattle.json_laws.proofs.Items.{flag_in}
+use Rattle.json_laws.proofs.Words.{in_16, decimal_in}
+use Rattle.json_laws.proofs.WordsCut.{Fresh, int_absent, quoted_absent, whole_absent, Sorts, SomeInt, int_one, quoted_cut, SomeWhole, whole_cut, SomeName, kind_cut, SomeDouble, double_cut, StringStrike, text_cut, blob_cut}
 
 -- one of two
 pub by_side : {A B C : Type 0} → A ⊎ B → (A → C) → (B → C) → C
@@ -86,11 +88,15 @@ sorts_id = record { plain = (λ left. refl); sort = of_token }
     of_token : (token : List ℕ) → IsQuoted (SomeInt i16_low (pos 32767)) token → IsSort reasons.BadId token
     of_token token (digits, (z, is), same) = (z, digits, is.spells, same)
 
+no_id : Fresh reasons.BadId (quoted_int_in reasons.BadId i16_low (pos 32767)) (IsQuoted (SomeInt i16_low (pos 32767)))
+no_id bytes f e token is other rest (id, digits, spells, fits, same) stands =
+    quoted_absent reasons.BadId i16_low (pos 32767) id bytes f digits rest e (in_16 id digits spells fits) (stands ∙ ap (λ t. t ++ rest) same)
+
 field_cut : (bytes : List ℕ) (f : Fault) → Apart is_white bytes → field_at bytes ≡ is_fault f → FieldGoes true bytes f
 unfolding field_at
 field_cut bytes f solid e =
     by_side (bound_fault (quoted_int_in reasons.BadId i16_low (pos 32767) bytes) _ f e)
-    (λ h. of_token (quoted_cut reasons.BadId i16_low (pos 32767) range_16 sorts_id bytes f h))
+    (λ h. of_token (quoted_cut reasons.BadId i16_low (pos 32767) range_16 sorts_id no_id bytes f h))
     (λ a. of_read a.0.0 a.0.1 (quoted_back reasons.BadId i16_low (pos 32767) a.0.0 bytes a.0.1 range_16 a.1)
     (by_side (bound_fault (further a.0.1 (mark_at 58) bytes) _ f a.2)
     (λ h. (kinds.I8, refl, at_mark 58 a.0.1 bytes f (mark 123 ∷ name_token kinds.I8 ∷ []) h))
@@ -133,8 +139,8 @@ FieldsCut first bytes f = Strikes 0 bytes f (mark 125 ∷ []) ⊎ FieldGoes firs
 nothing_left : (f : Fault) → fault {X = Item} 0 reasons.Truncated ≡ is_fault f → Strikes 0 [] f (mark 125 ∷ [])
 nothing_left f e = strikes_here 0 [] f (mark 125) tt (cut_here {X = Item} 0 f [] (mark 125) (mark 125) refl e)
 
-no_brace : (x : ℕ) (bytes : List ℕ) (f : Fault) → Apart is_white (x ∷ bytes) → fault {X = Item} 0 reasons.BadToken ≡ is_fault f → Strikes 0 (x ∷ bytes) f (mark 125 ∷ [])
-no_brace x bytes f solid e = strikes_here 0 (x ∷ bytes) f (mark 125) solid (bad_here {X = Item} reasons.BadToken f (x ∷ bytes) (mark 125) (λ left. refl) (125, refl) (omega arith) e)
+no_brace : (x : ℕ) (bytes : List ℕ) (f : Fault) → Apart is_white (x ∷ bytes) → (x == 125) ≡ false → fault {X = Item} 0 reasons.BadToken ≡ is_fault f → Strikes 0 (x ∷ bytes) f (mark 125 ∷ [])
+no_brace x bytes f solid other e = strikes_here 0 (x ∷ bytes) f (mark 125) solid (bad_here {X = Item} reasons.BadToken f (x ∷ bytes) (mark 125) (refl, unlike_mark x 125 bytes other) (125, refl) (omega arith) e)
 
 pub first_cut : (bytes : List ℕ) (f : Fault) → Apart is_white bytes → first_at bytes ≡ is_fault f → FieldsCut true bytes f
 unfolding first_at
@@ -146,7 +152,7 @@ first_cut (x ∷ bytes) f solid e =
     (λ g. absurd (no_read _ f g.1))
     (λ g. by_side (either_fault (x == 34) (field_at (x ∷ bytes)) (fault 0 reasons.BadToken) f g.1)
     (λ k. inr (field_cut (x ∷ bytes) f solid k.1))
-    (λ k. inl (no_brace x bytes f solid k.1))))
+    (λ k. inl (no_brace x bytes f solid g.0 k.1))))
 
 pub next_cut : (bytes : List ℕ) (f : Fault) → Apart is_white bytes → next_at bytes ≡ is_fault f → FieldsCut false bytes f
 unfolding next_at
@@ -158,7 +164,7 @@ next_cut (x ∷ bytes) f solid e =
     (λ g. absurd (no_read _ f g.1))
     (λ g. by_side (either_fault (x == 44) (further 1 field_at (x ∷ bytes)) (fault 0 reasons.BadToken) f g.1)
     (λ k. inr (behind_comma k.0 (further_cut field_at 1 (x ∷ bytes) f k.1)))
-    (λ k. inl (no_brace x bytes f solid k.1))))
+    (λ k. inl (no_brace x bytes f solid g.0 k.1))))
   where
     behind_comma : (x == 44) ≡ true → (at : ℕ) × (g : Fault) × (field_at (drop at (x ∷ bytes)) ≡ is_fault g) × Shown at g f × Apart is_white (drop at (x ∷ bytes)) × ((tokens : Tokens) → Strikes at (x ∷ bytes) f tokens → Strikes 1 (x ∷ bytes) f tokens) → FieldGoes false (x ∷ bytes) f
     behind_comma h (at, g, scan, shown, solid_too, back) =
@@ -178,10 +184,14 @@ next_cut (x ∷ bytes) f solid e =
 
 -- ---- sizes, lists, sets and maps
 
+no_size : Fresh reasons.BadSize (int_in reasons.BadSize (pos 0) (pos 2147483647)) (λ t. t ≡ decimal 0)
+no_size bytes f e token is other rest (n, small, same) ends stands =
+    int_absent reasons.BadSize (pos 0) (pos 2147483647) (pos n) bytes f (decimal n) rest e (decimal_in n small) ends (stands ∙ ap (λ t. t ++ rest) same)
+
 size_strikes : StrikesOne size_in (λ token. token ≡ decimal 0)
 size_strikes bytes f e =
     by_side (bound_fault (int_in reasons.BadSize (pos 0) (pos 2147483647) bytes) _ f e)
-    (λ h. int_one reasons.BadSize (pos 0) (pos 2147483647) (decimal 0) range_size (grind (arith, nat_tests)) (λ left. refl) (0, refl) bytes f h)
+    (λ h. int_one reasons.BadSize (pos 0) (pos 2147483647) (decimal 0) range_size (grind (arith, nat_tests)) (λ left. refl) (0, refl) no_size bytes f h)
     (λ a. absurd (no_read _ f a.2))
 
 at_size : (n : ℕ) (bytes : List ℕ) (f : Fault) (tokens : Tokens) → further n size_in bytes ≡ is_fault f → Strikes n bytes f (decimal 0 ∷ tokens)
@@ -303,12 +313,33 @@ module _ (d : Declarations) (key : Bool) (ty : Ty) where
       of_token : (token : List ℕ) → SomeWhole key (pos 0) (pos 1) token → IsSort reasons.BadBool token
       of_token token (digits, z, is, same) = (key, int_lt (pos 0) z, same ∙ ap (number key) (flag_digits z digits is))
 
+  -- the quotes tell whether it is a key
+  abbrev first_of : List ℕ → ℕ
+  first_of [] = 0
+  first_of (x ∷ xs) = x
+
+  flag_digit : (b : Bool) → 48 ≤ first_of (flag b)
+  flag_digit true = omega arith
+  flag_digit false = omega arith
+
+  same_key : (a b : Bool) (c d : Bool) → number a (flag c) ≡ number b (flag d) → a ≡ b
+  same_key true true c d e = refl
+  same_key false false c d e = refl
+  same_key true false c d e = let same : 34 ≡ first_of (flag d) = ap first_of e in absurd (omega (arith, same, flag_digit d))
+  same_key false true c d e = let same : first_of (flag c) ≡ 34 = ap first_of e in absurd (omega (arith, same, flag_digit c))
+
+  no_bool : Fresh reasons.BadBool (whole_in key reasons.BadBool (pos 0) (pos 1)) (SomeWhole key (pos 0) (pos 1))
+  no_bool bytes f e token (digits, z, is, laid) own (a, at) other rest (b, same) ends stands =
+      let keys : own ≡ key = same_key own key a (int_lt (pos 0) z) (sym at ∙ laid ∙ ap (number key) (flag_digits z digits is)) in
+      let i = flag_in [] b in
+      whole_absent key reasons.BadBool (pos 0) (pos 1) i.0 bytes f (flag b) rest e i.1 ends (stands ∙ ap (λ t. t ++ rest) (same ∙ ap (λ k. number k (flag b)) keys))
+
   bool_cut : (bytes : List ℕ) (f : Fault) → Apart is_white bytes → bool_at key bytes ≡ is_fault f → ValueGoes kinds.Bool bytes f
   unfolding bool_at
   bool_cut bytes f solid e =
       by_side (bound_fault (whole_in key reasons.BadBool (pos 0) (pos 1) bytes) _ f e)
       (λ h. of_whole (pos 0) (pos 1) kinds.Bool bytes f (λ z. truth (int_lt (pos 0) z)) (λ z. refl) (λ z digits is. (tt, omega arith, ap (λ w. number key w ∷ []) (flag_digits z digits is)))
-      solid (whole_cut key reasons.BadBool (pos 0) (pos 1) range_flag sorts_bool bytes f h))
+      solid (whole_cut key reasons.BadBool (pos 0) (pos 1) range_flag sorts_bool no_bool bytes f h))
       (λ a. absurd (no_read _ f a.2))
 
   fits_8 : (z : ℤ) → negsuc 127 ≤ℤ z → z ≤ℤ pos 127 → FitsSigned w8 z
@@ -322,7 +353,7 @@ module _ (d : Declarations) (key : Bool) (ty : Ty) where
   i8_cut bytes f solid e =
       by_side (bound_fault (whole_in key reasons.BadNumber (negsuc 127) (pos 127) bytes) _ f e)
       (λ h. of_whole (negsuc 127) (pos 127) kinds.I8 bytes f whole_8 (λ z. refl) (λ z digits is. (fits_8 z is.least is.most, omega arith, (digits, is.spells, refl)))
-      solid (whole_cut key reasons.BadNumber (negsuc 127) (pos 127) range_8 (sorts_number (negsuc 127) (pos 127)) bytes f h))
+      solid (whole_cut key reasons.BadNumber (negsuc 127) (pos 127) range_8 (sorts_number (negsuc 127) (pos 127)) (λ b g h token is. tt) bytes f h))
       (λ a. absurd (no_read _ f a.2))
 
   i16_cut : (bytes : List ℕ) (f : Fault) → Apart is_white bytes → i16_at key bytes ≡ is_fault f → ValueGoes kinds.I16 bytes f
@@ -330,7 +361,7 @@ module _ (d : Declarations) (key : Bool) (ty : Ty) where
   i16_cut bytes f solid e =
       by_side (bound_fault (whole_in key reasons.BadNumber i16_low (pos 32767) bytes) _ f e)
       (λ h. of_whole i16_low (pos 32767) kinds.I16 bytes f whole_16 (λ z. refl) (λ z digits is. (fits_16 z is.least is.most, omega arith, (digits, is.spells, refl)))
-      solid (whole_cut key reasons.BadNumber i16_low (pos 32767) range_16 (sorts_number i16_low (pos 32767)) bytes f h))
+      solid (whole_cut key reasons.BadNumber i16_low (pos 32767) range_16 (sorts_number i16_low (pos 32767)) (λ b g h token is. tt) bytes f h))
       (λ a. absurd (no_read _ f a.2))
 
   i32_cut : (bytes : List ℕ) (f : Fault) → Apart is_white bytes → i32_at key bytes ≡ is_fault f → ValueGoes kinds.I32 bytes f
@@ -338,7 +369,7 @@ module _ (d : Declarations) (key : Bool) (ty : Ty) where
   i32_cut bytes f solid e =
       by_side (bound_fault (whole_in key reasons.BadNumber (negsuc 2147483647) (pos 2147483647) bytes) _ f e)
       (λ h. of_whole (negsuc 2147483647) (pos 2147483647) kinds.I32 bytes f whole_32 (λ z. refl) (λ z digits is. (fits_32 z is.least is.most, omega arith, (digits, is.spells, refl)))
-      solid (whole_cut key reasons.BadNumber (negsuc 2147483647) (pos 2147483647) range_32 (sorts_number (negsuc 2147483647) (pos 2147483647)) bytes f h))
+      solid (whole_cut key reasons.BadNumber (negsuc 2147483647) (pos 2147483647) range_32 (sorts_number (negsuc 2147483647) (pos 2147483647)) (λ b g h token is. tt) bytes f h))
       (λ a. absurd (no_read _ f a.2))
 
   i64_cut : (bytes : List ℕ) (f : Fault) → Apart is_white bytes → i64_at key bytes ≡ is_fault f → ValueGoes kinds.I64 bytes f
@@ -346,7 +377,7 @@ module _ (d : Declarations) (key : Bool) (ty : Ty) where
   i64_cut bytes f solid e =
       by_side (bound_fault (whole_in key reasons.BadNumber (negsuc 9223372036854775807) (pos 9223372036854775807) bytes) _ f e)
       (λ h. of_whole (negsuc 9223372036854775807) (pos 9223372036854775807) kinds.I64 bytes f whole_64 (λ z. refl) (λ z digits is. (fits_64 z is.least is.most, omega arith, (digits, is.spells, refl)))
-      solid (whole_cut key reasons.BadNumber (negsuc 9223372036854775807) (pos 9223372036854775807) range_64 (sorts_number (negsuc 9223372036854775807) (pos 9223372036854775807)) bytes f h))
+      solid (whole_cut key reasons.BadNumber (negsuc 9223372036854775807) (pos 9223372036854775807) range_64 (sorts_number (negsuc 9223372036854775807) (pos 9223372036854775807)) (λ b g h token is. tt) bytes f h))
       (λ a. absurd (no_read _ f a.2))
 
   double_goes : (bytes : List ℕ) (f : Fault) → Apart is_white bytes → double_at key bytes ≡ is_fault f → ValueGoes kinds.Double bytes f

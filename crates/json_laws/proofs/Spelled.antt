@@ -88,13 +88,13 @@ module _ (tail : List ℕ) where
 
   -- ---- the header
 
-  version_in : IsIn (pos 1) (pos 1) (pos 1) (49 ∷ [])
+  pub version_in : IsIn (pos 1) (pos 1) (pos 1) (49 ∷ [])
   version_in = record { spells = inr (inl ((omega arith, omega arith, tt), refl)); least = grind (arith, nat_tests); most = grind (arith, nat_tests); fits = (grind (arith, nat_tests), grind (arith, nat_tests)) }
 
-  abbrev IsType : MessageType → ℕ → Type 0
+  abbrev pub IsType : MessageType → ℕ → Type 0
   IsType t n = IsIn (pos 1) (pos 4) (pos n) (type_digit t) × (type_of (pos n) ≡ t)
 
-  type_in : (t : MessageType) → (n : ℕ) × IsType t n
+  pub type_in : (t : MessageType) → (n : ℕ) × IsType t n
   type_in types.Call = (1, (record { spells = inr (inl ((omega arith, omega arith, tt), refl)); least = grind (arith, nat_tests); most = grind (arith, nat_tests); fits = (grind (arith, nat_tests), grind (arith, nat_tests)) }, refl))
   type_in types.Reply = (2, (record { spells = inr (inl ((omega arith, omega arith, tt), refl)); least = grind (arith, nat_tests); most = grind (arith, nat_tests); fits = (grind (arith, nat_tests), grind (arith, nat_tests)) }, refl))
   type_in types.Exception = (3, (record { spells = inr (inl ((omega arith, omega arith, tt), refl)); least = grind (arith, nat_tests); most = grind (arith, nat_tests); fits = (grind (arith, nat_tests), grind (arith, nat_tests)) }, refl))

@@ -648,6 +648,7 @@ part_stands k bytes f room refused other part = of_frame (refused_strikes k.decl
           is = s.is;
           inside = b.inside;
           stands = b.stands;
+          unlike = b.unlike;
           place = omega (arith, ap length b.there, length-drop f.place bytes, length-drop b.inside s.left, b.some, ap length s.is, length-append s.front s.left);
           within = omega (arith, b.some, length-drop b.inside s.left);
           begins = solid_there s.left s.solid (omega (arith, b.some, length-drop b.inside s.left));

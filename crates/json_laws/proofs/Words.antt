@@ -63,7 +63,7 @@ int_solid z digits (inr (inr (xs, is, counting, value))) = subst IsSolid (sym is
 number_no_int : (x : ℕ) → is_number_byte x ≡ false → is_int_byte x ≡ false
 number_no_int x e = grind (arith, nat_tests)
 
-int_apart : (rest : List ℕ) → Apart is_number_byte rest → Apart is_int_byte rest
+pub int_apart : (rest : List ℕ) → Apart is_number_byte rest → Apart is_int_byte rest
 int_apart [] h = tt
 int_apart (x ∷ xs) h = number_no_int x h
 
@@ -91,7 +91,7 @@ int_scan low high z digits rest i apart =
 none_more : {X : Type 0} → (reason : Reason) (bytes : List ℕ) (scan : Text X) (x : X) (n : ℕ) → scan ≡ Whole x n → item reason bytes (moved 0 scan) ≡ Ok (x, n)
 none_more reason bytes scan x n e = ap (λ s. item reason bytes (moved 0 s)) e ∙ ap (λ k. Ok (x, k)) (omega arith)
 
-int_read : (reason : Reason) (low high z : ℤ) (digits rest : List ℕ) → IsIn low high z digits → Apart is_int_byte rest → int_in reason low high (digits ++ rest) ≡ Ok (z, length digits)
+pub int_read : (reason : Reason) (low high z : ℤ) (digits rest : List ℕ) → IsIn low high z digits → Apart is_int_byte rest → int_in reason low high (digits ++ rest) ≡ Ok (z, length digits)
 unfolding int_in
 int_read reason low high z digits rest i apart = none_more reason (digits ++ rest) (int_at low high (digits ++ rest)) z (length digits) (int_scan low high z digits rest i apart)
 
@@ -120,7 +120,7 @@ behind_quote reason low high all =
     let some : nat_lt (length (34 ∷ all)) 1 ≡ false = grind (arith, nat_tests) in
     cond_false (nat_lt (length (34 ∷ all)) 1) (fault 0 reasons.Truncated) (closed reason (34 ∷ all) (moved 1 (int_at low high all))) some
 
-quoted_read : (reason : Reason) (low high z : ℤ) (digits rest : List ℕ) → IsIn low high z digits → quoted_int_in reason low high (quoted digits ++ rest) ≡ Ok (z, length (quoted digits))
+pub quoted_read : (reason : Reason) (low high z : ℤ) (digits rest : List ℕ) → IsIn low high z digits → quoted_int_in reason low high (quoted digits ++ rest) ≡ Ok (z, length (quoted digits))
 quoted_read reason low high z digits rest i =
     ap (quoted_int_in reason low high) (quoted_append digits rest) ∙ behind_quote reason low high (digits ++ 34 ∷ rest)
     ∙ closes reason digits rest (int_at low high (digits ++ 34 ∷ rest)) z (int_scan low high z digits (34 ∷ rest) i refl) ∙ ap (λ k. Ok (z, k)) (quoted_length digits)
@@ -217,7 +217,7 @@ number_solid false digits h = h
 
 -- ---- kinds
 
-kind_read : (kind : Kind) (rest : List ℕ) → IsNamed kind → kind_at (name_token kind ++ rest) ≡ Ok (kind, length (name_token kind))
+pub kind_read : (kind : Kind) (rest : List ℕ) → IsNamed kind → kind_at (name_token kind ++ rest) ≡ Ok (kind, length (name_token kind))
 unfolding kind_at wide_kind_at large_kind_at
 kind_read kinds.Bool rest named = grind (arith, nat_tests)
 kind_read kinds.I8 rest named = grind (arith, nat_tests)

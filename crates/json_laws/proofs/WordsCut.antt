@@ -22,7 +22,8 @@ use Rattle.json_text_laws.proofs.NumberLaw.{number_judged}
 use Rattle.json_text_laws.proofs.TextLaw.{text_judged}
 use Rattle.json_text_laws.proofs.BlobLaw.{blob_judged}
 use Rattle.json_text_laws.proofs.Choices.{either_way}
-use Rattle.json_text_laws.proofs.Parts.{append_more}
+use Rattle.json_text.specs.Number.{is_number_byte}
+use Rattle.json_text_laws.proofs.Parts.{Apart, append_more}
 use Rattle.json_text_laws.proofs.Completed.{int_nothing, int_short, number_nothing, number_goes, text_inside, text_goes, blob_nothing, no_blob, blob_goes}
 use Rattle.json_protocol.specs.Scan.{Scan, fault, item, byte_fits, word_end}
 use Rattle.json_protocol.specs.Words.{begins_two, begins_three, kind_at, wide_kind_at, large_kind_at, int_in, closed, quoted_int_in, whole_in, infinity_fits, spelled, number_in, quoted_number_in, double_in, text_in, blob_in}
@@ -30,7 +31,8 @@ use Rattle.json_protocol.specs.Writing.{quoted, number}
 use Rattle.json_protocol.specs.Grammar.{IsNamed, name_token}
 use Rattle.json_laws.proofs.Inverse.{is_read, is_fault, Token, Names}
 use Rattle.json_laws.proofs.WordsBack.{IsInt, int_whole, IsQuoted, IsLong, number_whole, IsDouble, nan, infinity, Fits, fits_first, fits_on, both_hold, three_hold, five_hold, infinity_there, nan_double, above_double, below_double}
-use Rattle.json_laws.specs.Faults.{IsSort, IsInside}
+use Rattle.json_laws.proofs.Words.{kind_read, IsIn, int_read, int_apart, quoted_read}
+use Rattle.json_laws.specs.Faults.{IsSort, IsInside, IsUnlike, NoneStands, EndsNumber}
 use Rattle.json_laws.proofs.Completing.{Goes, Struck, no_read, same_fault, bad_here, cut_here, either_fault, StrikesOne}
 
 -- ---- words of json_text
@@ -49,13 +51,21 @@ Strike f bytes Is = (token : List ℕ) × Is token × Struck f bytes bytes token
 goes_strike : {X : Type 0} → (place : ℕ) (f : Fault) (bytes : List ℕ) (Is : List ℕ → Type 0) → Goes Is bytes → fault {X = X} place reasons.Truncated ≡ is_fault f → Strike f bytes Is
 goes_strike {X} place f bytes Is (more, is) e = (bytes ++ more, is, cut_here {X = X} place f bytes more (bytes ++ more) refl e)
 
+-- what is told right there
+abbrev pub Plain : Reason → Type 0
+Plain reason = (left : List ℕ) → IsInside reason left 0
+
+-- where the scan is at fault none stands that it reads
+abbrev pub Fresh : {X : Type 0} → Reason → (List ℕ → Scan X) → (List ℕ → Type 0) → Type 0
+Fresh reason scan Is = (bytes : List ℕ) (f : Fault) → scan bytes ≡ is_fault f → (token : List ℕ) → Is token → IsUnlike reason bytes token
+
 -- what a reason's tokens are, that stand right there
 pub record Sorts (reason : Reason) (Is : List ℕ → Type 0) : Type 0 where
-  pub plain : (left : List ℕ) → IsInside reason left 0
+  pub plain : Plain reason
   pub sort : (token : List ℕ) → Is token → IsSort reason token
 
-bad_strike : {X : Type 0} → (reason : Reason) (f : Fault) (bytes : List ℕ) (Is : List ℕ → Type 0) → Sorts reason Is → Goes Is [] → 1 ≤ length bytes → fault {X = X} 0 reason ≡ is_fault f → Strike f bytes Is
-bad_strike {X} reason f bytes Is sorts (token, is) some e = (token, is, bad_here {X = X} reason f bytes token sorts.plain (sorts.sort token is) some e)
+bad_strike : {X : Type 0} → (reason : Reason) (f : Fault) (bytes : List ℕ) (Is : List ℕ → Type 0) → Sorts reason Is → ((token : List ℕ) → Is token → IsUnlike reason bytes token) → Goes Is [] → 1 ≤ length bytes → fault {X = X} 0 reason ≡ is_fault f → Strike f bytes Is
+bad_strike {X} reason f bytes Is sorts fresh (token, is) some e = (token, is, bad_here {X = X} reason f bytes token (sorts.plain bytes, fresh token is) (sorts.sort token is) some e)
 
 -- an integer of this range
 abbrev pub SomeInt : ℤ → ℤ → List ℕ → Type 0
@@ -90,20 +100,37 @@ int_bad low high bytes place range e = ((subst (Judges (GoodInt low high) bytes)
     of_bytes [] h = let wrong : Short ≡ Bad place = sym (int_nothing low high) ∙ h in absurd (cc)
     of_bytes (x ∷ b) h = omega arith
 
-pub int_cut : (reason : Reason) (low high : ℤ) → IsRange low high → Sorts reason (SomeInt low high) → StrikesOne (int_in reason low high) (SomeInt low high)
+pub int_cut : (reason : Reason) (low high : ℤ) → IsRange low high → Sorts reason (SomeInt low high) → Fresh reason (int_in reason low high) (SomeInt low high) → StrikesOne (int_in reason low high) (SomeInt low high)
 unfolding int_in
-int_cut reason low high range sorts bytes f e = by_item (item_fault reason bytes (int_at low high bytes) f e)
+int_cut reason low high range sorts fresh bytes f e = by_item (item_fault reason bytes (int_at low high bytes) f e)
   where
     by_item : ((int_at low high bytes ≡ Short) × (fault {X = ℤ} (length bytes) reasons.Truncated ≡ is_fault f)) ⊎ ((place : ℕ) × (int_at low high bytes ≡ Bad place) × (fault {X = ℤ} (0 + place) reason ≡ is_fault f)) → Strike f bytes (SomeInt low high)
     by_item (inl h) = goes_strike {X = ℤ} (length bytes) f bytes (SomeInt low high) (int_goes low high bytes range h.0) h.1
     by_item (inr (place, h, same)) =
         let b = int_bad low high bytes place range h in
-        bad_strike {X = ℤ} reason f bytes (SomeInt low high) sorts (least_int low high range) b.1 (subst (λ n. fault {X = ℤ} (0 + n) reason ≡ is_fault f) b.0 same)
+        bad_strike {X = ℤ} reason f bytes (SomeInt low high) sorts (fresh bytes f e) (least_int low high range) b.1 (subst (λ n. fault {X = ℤ} (0 + n) reason ≡ is_fault f) b.0 same)
+
+-- where a scan for an integer of this range is at fault, none stands and ends
+apart_of : (rest : List ℕ) → EndsNumber rest → Apart is_number_byte rest
+apart_of [] ends = tt
+apart_of (x ∷ rest) ends = ends
+
+pub int_absent : (reason : Reason) (low high z : ℤ) (bytes : List ℕ) (f : Fault) (digits rest : List ℕ) → int_in reason low high bytes ≡ is_fault f → IsIn low high z digits → EndsNumber rest → bytes ≡ digits ++ rest → ⊥
+int_absent reason low high z bytes f digits rest e i ends stands =
+    no_read (z, length digits) f (sym (ap (int_in reason low high) stands ∙ int_read reason low high z digits rest i (int_apart rest (apart_of rest ends))) ∙ e)
+
+pub quoted_absent : (reason : Reason) (low high z : ℤ) (bytes : List ℕ) (f : Fault) (digits rest : List ℕ) → quoted_int_in reason low high bytes ≡ is_fault f → IsIn low high z digits → bytes ≡ quoted digits ++ rest → ⊥
+quoted_absent reason low high z bytes f digits rest e i stands =
+    no_read (z, length (quoted digits)) f (sym (ap (quoted_int_in reason low high) stands ∙ quoted_read reason low high z digits rest i) ∙ e)
+
+pub whole_absent : (key : Bool) (reason : Reason) (low high z : ℤ) (bytes : List ℕ) (f : Fault) (digits rest : List ℕ) → whole_in key reason low high bytes ≡ is_fault f → IsIn low high z digits → EndsNumber rest → bytes ≡ number key digits ++ rest → ⊥
+whole_absent true reason low high z bytes f digits rest e i ends stands = quoted_absent reason low high z bytes f digits rest e i stands
+whole_absent false reason low high z bytes f digits rest e i ends stands = int_absent reason low high z bytes f digits rest e i ends stands
 
 -- a range without a minus: one token may be chosen
-pub int_one : (reason : Reason) (low high : ℤ) (token : List ℕ) → IsRange low high → int_lt low (pos 0) ≡ false → ((left : List ℕ) → IsInside reason left 0) → IsSort reason token → StrikesOne (int_in reason low high) (λ t. t ≡ token)
+pub int_one : (reason : Reason) (low high : ℤ) (token : List ℕ) → IsRange low high → int_lt low (pos 0) ≡ false → Plain reason → IsSort reason token → Fresh reason (int_in reason low high) (λ t. t ≡ token) → StrikesOne (int_in reason low high) (λ t. t ≡ token)
 unfolding int_in
-int_one reason low high token range more plain sort bytes f e = by_item (item_fault reason bytes (int_at low high bytes) f e)
+int_one reason low high token range more plain sort fresh bytes f e = by_item (item_fault reason bytes (int_at low high bytes) f e)
   where
     by_short : (bytes ≡ []) ⊎ ((bytes ≡ 45 ∷ []) × (int_lt low (pos 0) ≡ true)) → fault {X = ℤ} (length bytes) reasons.Truncated ≡ is_fault f → Strike f bytes (λ t. t ≡ token)
     by_short (inl none) same = (token, refl, cut_here {X = ℤ} (length bytes) f bytes token token (ap (λ b. b ++ token) none) same)
@@ -113,7 +140,7 @@ int_one reason low high token range more plain sort bytes f e = by_item (item_fa
     by_item (inl h) = by_short (int_short low high bytes h.0) h.1
     by_item (inr (place, h, same)) =
         let b = int_bad low high bytes place range h in
-        (token, refl, bad_here {X = ℤ} reason f bytes token plain sort b.1 (subst (λ n. fault {X = ℤ} (0 + n) reason ≡ is_fault f) b.0 same))
+        (token, refl, bad_here {X = ℤ} reason f bytes token (plain bytes, fresh bytes f e token refl) sort b.1 (subst (λ n. fault {X = ℤ} (0 + n) reason ≡ is_fault f) b.0 same))
 
 -- ---- words between two quotes
 
@@ -139,41 +166,41 @@ module _ (X : Type 0) (Is : List ℕ → Type 0) (reason : Reason) (sorts : Sort
   least_quoted : Goes (IsQuoted Is) []
   least_quoted = (34 ∷ (least.0 ++ 34 ∷ []), (least.0, least.1, refl))
 
-  closed_strike : (all : List ℕ) (scan : Text X) (f : Fault) → ((x : X) (n : ℕ) → scan ≡ Whole x n → Token all n Is) → (scan ≡ Short → Goes Is all) → closed reason (34 ∷ all) (moved 1 scan) ≡ is_fault f → Strike f (34 ∷ all) (IsQuoted Is)
-  closed_strike all (Whole x n) f whole short e = by_end (either_fault (nat_le (length (34 ∷ all)) (1 + n)) _ _ f e)
+  closed_strike : (all : List ℕ) (scan : Text X) (f : Fault) → ((token : List ℕ) → IsQuoted Is token → IsUnlike reason (34 ∷ all) token) → ((x : X) (n : ℕ) → scan ≡ Whole x n → Token all n Is) → (scan ≡ Short → Goes Is all) → closed reason (34 ∷ all) (moved 1 scan) ≡ is_fault f → Strike f (34 ∷ all) (IsQuoted Is)
+  closed_strike all (Whole x n) f fresh whole short e = by_end (either_fault (nat_le (length (34 ∷ all)) (1 + n)) _ _ f e)
     where
       by_quote : (((slice_index (34 ∷ all) (1 + n) == 34) ≡ true) × (is_read (x, 1 + n + 1) ≡ is_fault f)) ⊎ (((slice_index (34 ∷ all) (1 + n) == 34) ≡ false) × (fault {X = X} 0 reason ≡ is_fault f)) → Strike f (34 ∷ all) (IsQuoted Is)
       by_quote (inl h) = absurd (no_read (x, 1 + n + 1) f h.1)
-      by_quote (inr h) = bad_strike {X = X} reason f (34 ∷ all) (IsQuoted Is) sorts least_quoted (omega arith) h.1
+      by_quote (inr h) = bad_strike {X = X} reason f (34 ∷ all) (IsQuoted Is) sorts fresh least_quoted (omega arith) h.1
 
       by_end : ((nat_le (length (34 ∷ all)) (1 + n) ≡ true) × (fault {X = X} (length (34 ∷ all)) reasons.Truncated ≡ is_fault f))
           ⊎ ((nat_le (length (34 ∷ all)) (1 + n) ≡ false) × (cond (slice_index (34 ∷ all) (1 + n) == 34) (is_read (x, 1 + n + 1)) (fault {X = X} 0 reason) ≡ is_fault f)) → Strike f (34 ∷ all) (IsQuoted Is)
       by_end (inl h) = let past = h.0 in goes_strike {X = X} (length (34 ∷ all)) f (34 ∷ all) (IsQuoted Is) (ended Is all n (whole x n refl) (grind (arith, nat_tests))) h.1
       by_end (inr h) = by_quote (either_fault (slice_index (34 ∷ all) (1 + n) == 34) (is_read (x, 1 + n + 1)) (fault 0 reason) f h.1)
-  closed_strike all Short f whole short e = let g = short refl in goes_strike {X = X} (length (34 ∷ all)) f (34 ∷ all) (IsQuoted Is) (quoted_goes Is all g.0 g.1) e
-  closed_strike all (Bad place) f whole short e = bad_strike {X = X} reason f (34 ∷ all) (IsQuoted Is) sorts least_quoted (omega arith) e
+  closed_strike all Short f fresh whole short e = let g = short refl in goes_strike {X = X} (length (34 ∷ all)) f (34 ∷ all) (IsQuoted Is) (quoted_goes Is all g.0 g.1) e
+  closed_strike all (Bad place) f fresh whole short e = bad_strike {X = X} reason f (34 ∷ all) (IsQuoted Is) sorts fresh least_quoted (omega arith) e
 
   -- what stands behind a quote, by a scan
-  in_quotes : (scan : List ℕ → Text X) (bytes : List ℕ) (f : Fault) → ((all : List ℕ) (x : X) (n : ℕ) → scan all ≡ Whole x n → Token all n Is) → ((all : List ℕ) → scan all ≡ Short → Goes Is all)
+  in_quotes : (scan : List ℕ → Text X) (bytes : List ℕ) (f : Fault) → ((token : List ℕ) → IsQuoted Is token → IsUnlike reason bytes token) → ((all : List ℕ) (x : X) (n : ℕ) → scan all ≡ Whole x n → Token all n Is) → ((all : List ℕ) → scan all ≡ Short → Goes Is all)
       → cond (nat_lt (length bytes) 1) (fault 0 reasons.Truncated) (cond (slice_index bytes 0 == 34) (closed reason bytes (moved 1 (scan (drop 1 bytes)))) (fault 0 reason)) ≡ is_fault f → Strike f bytes (IsQuoted Is)
-  in_quotes scan [] f whole short e = goes_strike {X = X} 0 f [] (IsQuoted Is) least_quoted e
-  in_quotes scan (x ∷ all) f whole short e = by_some (either_fault (nat_lt (length (x ∷ all)) 1) _ _ f e)
+  in_quotes scan [] f fresh whole short e = goes_strike {X = X} 0 f [] (IsQuoted Is) least_quoted e
+  in_quotes scan (x ∷ all) f fresh whole short e = by_some (either_fault (nat_lt (length (x ∷ all)) 1) _ _ f e)
     where
       by_quote : (((x == 34) ≡ true) × (closed reason (x ∷ all) (moved 1 (scan all)) ≡ is_fault f)) ⊎ (((x == 34) ≡ false) × (fault {X = X} 0 reason ≡ is_fault f)) → Strike f (x ∷ all) (IsQuoted Is)
       by_quote (inl h) =
           let is = quote_first x h.0 in
-          subst (λ y. Strike f (y ∷ all) (IsQuoted Is)) (sym is) (closed_strike all (scan all) f (whole all) (short all) (subst (λ y. closed reason (y ∷ all) (moved 1 (scan all)) ≡ is_fault f) is h.1))
-      by_quote (inr h) = bad_strike {X = X} reason f (x ∷ all) (IsQuoted Is) sorts least_quoted (omega arith) h.1
+          subst (λ y. Strike f (y ∷ all) (IsQuoted Is)) (sym is) (closed_strike all (scan all) f (subst (λ y. (token : List ℕ) → IsQuoted Is token → IsUnlike reason (y ∷ all) token) is fresh) (whole all) (short all) (subst (λ y. closed reason (y ∷ all) (moved 1 (scan all)) ≡ is_fault f) is h.1))
+      by_quote (inr h) = bad_strike {X = X} reason f (x ∷ all) (IsQuoted Is) sorts fresh least_quoted (omega arith) h.1
 
       by_some : ((nat_lt (length (x ∷ all)) 1 ≡ true) × (fault {X = X} 0 reasons.Truncated ≡ is_fault f))
           ⊎ ((nat_lt (length (x ∷ all)) 1 ≡ false) × (cond (x == 34) (closed reason (x ∷ all) (moved 1 (scan all))) (fault {X = X} 0 reason) ≡ is_fault f)) → Strike f (x ∷ all) (IsQuoted Is)
       by_some (inl h) = absurd (let none = h.0 in grind (arith, nat_tests))
       by_some (inr h) = by_quote (either_fault (x == 34) (closed reason (x ∷ all) (moved 1 (scan all))) (fault 0 reason) f h.1)
 
-pub quoted_cut : (reason : Reason) (low high : ℤ) → IsRange low high → Sorts reason (IsQuoted (SomeInt low high)) → StrikesOne (quoted_int_in reason low high) (IsQuoted (SomeInt low high))
+pub quoted_cut : (reason : Reason) (low high : ℤ) → IsRange low high → Sorts reason (IsQuoted (SomeInt low high)) → Fresh reason (quoted_int_in reason low high) (IsQuoted (SomeInt low high)) → StrikesOne (quoted_int_in reason low high) (IsQuoted (SomeInt low high))
 unfolding quoted_int_in
-quoted_cut reason low high range sorts bytes f e =
-    in_quotes ℤ (SomeInt low high) reason sorts (least_int low high range) (int_at low high) bytes f (λ all z n h. some_token z all n (int_whole low high z all n range h)) (λ all h. int_goes low high all range h) e
+quoted_cut reason low high range sorts fresh bytes f e =
+    in_quotes ℤ (SomeInt low high) reason sorts (least_int low high range) (int_at low high) bytes f (fresh bytes f e) (λ all z n h. some_token z all n (int_whole low high z all n range h)) (λ all h. int_goes low high all range h) e
   where
     some_token : (z : ℤ) (all : List ℕ) (n : ℕ) → Token all n (IsInt low high z) → Token all n (SomeInt low high)
     some_token z all n k = record { token = k.token; rest = k.rest; laid = k.laid; long = k.long; is = (z, k.is) }
@@ -182,8 +209,8 @@ quoted_cut reason low high range sorts bytes f e =
 abbrev pub SomeWhole : Bool → ℤ → ℤ → List ℕ → Type 0
 SomeWhole key low high token = (digits : List ℕ) × (z : ℤ) × IsInt low high z digits × (token ≡ number key digits)
 
-pub whole_cut : (key : Bool) (reason : Reason) (low high : ℤ) → IsRange low high → Sorts reason (SomeWhole key low high) → StrikesOne (whole_in key reason low high) (SomeWhole key low high)
-whole_cut true reason low high range sorts bytes f e = of_quoted (quoted_cut reason low high range quoted_sorts bytes f e)
+pub whole_cut : (key : Bool) (reason : Reason) (low high : ℤ) → IsRange low high → Sorts reason (SomeWhole key low high) → Fresh reason (whole_in key reason low high) (SomeWhole key low high) → StrikesOne (whole_in key reason low high) (SomeWhole key low high)
+whole_cut true reason low high range sorts fresh bytes f e = of_quoted (quoted_cut reason low high range quoted_sorts (λ b g h token is. fresh b g h token (to_whole token is)) bytes f e)
   where
     to_whole : (token : List ℕ) → IsQuoted (SomeInt low high) token → SomeWhole true low high token
     to_whole token (word, (z, is), same) = (word, z, is, same)
@@ -193,7 +220,7 @@ whole_cut true reason low high range sorts bytes f e = of_quoted (quoted_cut rea
 
     of_quoted : Strike f bytes (IsQuoted (SomeInt low high)) → Strike f bytes (SomeWhole true low high)
     of_quoted (token, is, s) = (token, to_whole token is, s)
-whole_cut false reason low high range sorts bytes f e = of_int (int_cut reason low high range int_sorts bytes f e)
+whole_cut false reason low high range sorts fresh bytes f e = of_int (int_cut reason low high range int_sorts (λ b g h token is. fresh b g h token (to_whole token is)) bytes f e)
   where
     to_whole : (token : List ℕ) → SomeInt low high token → SomeWhole false low high token
     to_whole token (z, is) = (token, z, is, refl)
@@ -260,27 +287,36 @@ cut_two bytes a b own next f name named go e = by_test (either_fault (begins_two
         goes_strike {X = Kind} (length bytes) f bytes SomeName (named_goes bytes own (34 ∷ a ∷ b ∷ 34 ∷ []) name named l.0 (k.0, (k.1, (k.2, (k.3, tt))))) l.1
     by_test (inr h) = go h.1
 
-name_bad : (bytes : List ℕ) (f : Fault) → 1 ≤ length bytes → fault {X = Kind} 0 reasons.BadKind ≡ is_fault f → Strike f bytes SomeName
-name_bad bytes f some e =
-    let token = name_token kinds.I8 in
-    (token, (kinds.I8, (refl, refl)), bad_here {X = Kind} reasons.BadKind f bytes token (λ left. refl) (kinds.I8, refl, refl) some e)
+-- no kind's name stands where none is read
+abbrev NoName : List ℕ → Type 0
+NoName bytes = NoneStands (IsSort reasons.BadKind) bytes
 
-large_cut : (bytes : List ℕ) (f : Fault) → 1 ≤ length bytes → large_kind_at bytes ≡ is_fault f → Strike f bytes SomeName
+no_name : (bytes : List ℕ) (f : Fault) → kind_at bytes ≡ is_fault f → NoName bytes
+no_name bytes f e token rest (kind, named, is) stands =
+    let read = ap kind_at (stands ∙ ap (λ t. t ++ rest) is) ∙ kind_read kind rest named in
+    no_read (kind, length (name_token kind)) f (sym read ∙ e)
+
+name_bad : (bytes : List ℕ) (f : Fault) → 1 ≤ length bytes → NoName bytes → fault {X = Kind} 0 reasons.BadKind ≡ is_fault f → Strike f bytes SomeName
+name_bad bytes f some none e =
+    let token = name_token kinds.I8 in
+    (token, (kinds.I8, (refl, refl)), bad_here {X = Kind} reasons.BadKind f bytes token (refl, none) (kinds.I8, refl, refl) some e)
+
+large_cut : (bytes : List ℕ) (f : Fault) → 1 ≤ length bytes → NoName bytes → large_kind_at bytes ≡ is_fault f → Strike f bytes SomeName
 unfolding large_kind_at
-large_cut bytes f some e =
+large_cut bytes f some none e =
     cut_three bytes 115 116 114 kinds.Str _ f refl refl
     (cut_three bytes 114 101 99 kinds.Struct _ f refl refl
     (cut_three bytes 109 97 112 kinds.Map _ f refl refl
     (cut_three bytes 115 101 116 kinds.Set _ f refl refl
-    (cut_three bytes 108 115 116 kinds.List _ f refl refl (λ h. name_bad bytes f some h))))) e
+    (cut_three bytes 108 115 116 kinds.List _ f refl refl (λ h. name_bad bytes f some none h))))) e
 
-wide_cut : (bytes : List ℕ) (f : Fault) → 1 ≤ length bytes → wide_kind_at bytes ≡ is_fault f → Strike f bytes SomeName
+wide_cut : (bytes : List ℕ) (f : Fault) → 1 ≤ length bytes → NoName bytes → wide_kind_at bytes ≡ is_fault f → Strike f bytes SomeName
 unfolding wide_kind_at
-wide_cut bytes f some e =
+wide_cut bytes f some none e =
     cut_three bytes 105 49 54 kinds.I16 _ f refl refl
     (cut_three bytes 105 51 50 kinds.I32 _ f refl refl
     (cut_three bytes 105 54 52 kinds.I64 _ f refl refl
-    (cut_three bytes 100 98 108 kinds.Double _ f refl refl (λ h. large_cut bytes f some h)))) e
+    (cut_three bytes 100 98 108 kinds.Double _ f refl refl (λ h. large_cut bytes f some none h)))) e
 
 no_bytes : (f : Fault) → kind_at [] ≡ is_fault f → fault {X = Kind} 0 reasons.Truncated ≡ is_fault f
 unfolding kind_at
@@ -289,7 +325,7 @@ no_bytes f e = e
 pub kind_cut : StrikesOne kind_at SomeName
 unfolding kind_at
 kind_cut [] f e = (name_token kinds.I8, (kinds.I8, (refl, refl)), cut_here {X = Kind} 0 f [] (name_token kinds.I8) (name_token kinds.I8) refl (no_bytes f e))
-kind_cut (x ∷ bytes) f e = cut_two (x ∷ bytes) 116 102 kinds.Bool _ f refl refl (cut_two (x ∷ bytes) 105 56 kinds.I8 _ f refl refl (λ h. wide_cut (x ∷ bytes) f (omega arith) h)) e
+kind_cut (x ∷ bytes) f e = cut_two (x ∷ bytes) 116 102 kinds.Bool _ f refl refl (cut_two (x ∷ bytes) 105 56 kinds.I8 _ f refl refl (λ h. wide_cut (x ∷ bytes) f (omega arith) (no_name (x ∷ bytes) f e) h)) e
 
 -- ---- numbers
 
@@ -334,11 +370,11 @@ plain_strike bytes f e = by_item (item_fault reasons.BadNumber bytes (number_at 
     by_item (inl h) = goes_strike {X = ℕ} (length bytes) f bytes (SomeDouble false) (48 ∷ [], (bytes ++ 48 ∷ [], inl (number_goes bytes h.0, refl))) h.1
     by_item (inr (place, h, same)) =
         let b = number_bad bytes place h in
-        bad_strike {X = ℕ} reasons.BadNumber f bytes (SomeDouble false) sorts (48 ∷ [], (48 ∷ [], inl (zero_number, refl))) b.1 (subst (λ n. fault {X = ℕ} (0 + n) reasons.BadNumber ≡ is_fault f) b.0 same)
+        bad_strike {X = ℕ} reasons.BadNumber f bytes (SomeDouble false) sorts (λ token is. tt) (48 ∷ [], (48 ∷ [], inl (zero_number, refl))) b.1 (subst (λ n. fault {X = ℕ} (0 + n) reasons.BadNumber ≡ is_fault f) b.0 same)
 
 quoted_number_strike : (bytes : List ℕ) (f : Fault) → quoted_number_in bytes ≡ is_fault f → Strike f bytes (SomeDouble true)
 unfolding quoted_number_in
-quoted_number_strike bytes f e = of_quoted (in_quotes ℕ IsNumber reasons.BadNumber sorts (48 ∷ [], zero_number) number_at bytes f (λ all x n h. some_token x all n (number_whole all x n h)) (λ all h. (48 ∷ [], number_goes all h)) e)
+quoted_number_strike bytes f e = of_quoted (in_quotes ℕ IsNumber reasons.BadNumber sorts (48 ∷ [], zero_number) number_at bytes f (λ token is. tt) (λ all x n h. some_token x all n (number_whole all x n h)) (λ all h. (48 ∷ [], number_goes all h)) e)
   where
     to_double : (token : List ℕ) → IsQuoted IsNumber token → SomeDouble true token
     to_double token (word, is, same) = (word, inl (is, ap (λ k. k ∷ []) same))
@@ -404,6 +440,11 @@ pub text_cut : (bytes : List ℕ) (f : Fault) → text_in bytes ≡ is_fault f �
 unfolding text_in
 text_cut bytes f e = by_item (item_fault reasons.BadString bytes (text_at bytes) f e)
   where
+    no_text_there : (place : ℕ) → text_at bytes ≡ Bad place → NoneStands (IsSort reasons.BadString) bytes
+    no_text_there place h token rest (meant, spells) is =
+        let whole = ((text_judged bytes).0 meant (length token)).1 (token, rest, is, refl, spells) in
+        let wrong = sym whole ∙ h in absurd (cc)
+
     by_item : ((text_at bytes ≡ Short) × (fault {X = List ℕ} (length bytes) reasons.Truncated ≡ is_fault f)) ⊎ ((place : ℕ) × (text_at bytes ≡ Bad place) × (fault {X = List ℕ} (0 + place) reasons.BadString ≡ is_fault f)) → StringStrike f bytes SpellsText
     by_item (inl h) =
         let g = text_goes bytes h.0 in
@@ -415,13 +456,16 @@ text_cut bytes f e = by_item (item_fault reasons.BadString bytes (text_at bytes)
         let is = same_fault {X = List ℕ} (record { place = 0 + place; reason = reasons.BadString }) f same in
         let none : 0 + place ≡ place = omega arith in
         let bad : Struck (record { place = 0 + place; reason = reasons.BadString }) bytes bytes (34 ∷ 34 ∷ []) =
-        inr (record { sort = ([], no_text); inside = place; stands = stands; there = ap (λ n. drop n bytes) none; some = text_inside bytes place h }) in
+        inr (record { sort = ([], no_text); inside = place; stands = stands; unlike = no_text_there place h; there = ap (λ n. drop n bytes) none; some = text_inside bytes place h }) in
         record { token = 34 ∷ 34 ∷ []; meant = []; spells = no_text; struck = subst (λ g. Struck g bytes bytes (34 ∷ 34 ∷ [])) is bad; long = omega arith }
 
 pub blob_cut : (bytes : List ℕ) (f : Fault) → blob_in bytes ≡ is_fault f → StringStrike f bytes SpellsBlob
 unfolding blob_in
 blob_cut bytes f e = by_item (item_fault reasons.BadBase64 bytes (blob_at bytes) f e)
   where
+    no_blob_there : ((more meant : List ℕ) (n : ℕ) → GoodBlob (bytes ++ more) meant n → ⊥) → NoneStands (IsSort reasons.BadBase64) bytes
+    no_blob_there bad token rest (meant, spells) is = bad [] meant (length token) (subst (λ b. GoodBlob b meant (length token)) (sym (append-nil bytes)) (token, rest, is, refl, spells))
+
     of_bytes : (b : List ℕ) (place : ℕ) → blob_at b ≡ Bad place → 1 ≤ length b
     of_bytes [] place h = let wrong : Short ≡ Bad place = sym blob_nothing ∙ h in absurd (cc)
     of_bytes (x ∷ b) place h = omega arith
@@ -433,11 +477,12 @@ blob_cut bytes f e = by_item (item_fault reasons.BadBase64 bytes (blob_at bytes)
         let long = g.long in
         record { token = bytes ++ g.more; meant = g.meant; spells = g.spells; struck = cut_here {X = List ℕ} (length bytes) f bytes g.more (bytes ++ g.more) refl h.1; long = omega (arith, few, long, length-append bytes g.more) }
     by_item (inr (place, h, same)) =
-        let none = (subst (Judges GoodBlob bytes) h (blob_judged bytes)).0 in
+        let judged = subst (Judges GoodBlob bytes) h (blob_judged bytes) in
+        let none = judged.0 in
         record {
           token = 34 ∷ 34 ∷ [];
           meant = [];
           spells = no_blob;
-          struck = bad_here {X = List ℕ} reasons.BadBase64 f bytes (34 ∷ 34 ∷ []) (λ left. refl) ([], no_blob) (of_bytes bytes place h) (subst (λ n. fault {X = List ℕ} (0 + n) reasons.BadBase64 ≡ is_fault f) none same);
+          struck = bad_here {X = List ℕ} reasons.BadBase64 f bytes (34 ∷ 34 ∷ []) (refl, no_blob_there judged.1) ([], no_blob) (of_bytes bytes place h) (subst (λ n. fault {X = List ℕ} (0 + n) reasons.BadBase64 ≡ is_fault f) none same);
           long = omega arith;
         }

@@ -1,5 +1,6 @@
 -- The fault that stands in a frame, by what the grammar spells: where it stands, and which part of a message is called for there.
-use Rattle.std.specs.Prelude.{◌≡◌, ⊤, ◌⊎◌, ℕ, suc, ℤ, ◌+◌, ◌<◌, Bool, List, [], ◌∷◌, ◌++◌, length, Option, None, Some}
+use Rattle.std.specs.Prelude.{◌≡◌, ⊤, ◌⊎◌, ℕ, suc, ℤ, ◌+◌, ◌<◌, ◌^◌, Bool, false, List, [], ◌∷◌, ◌++◌, length, Option, None, Some, FitsSigned}
+use Rattle.std.specs.Int.{w16}
 use Rattle.std.specs.Fmt.{decimal}
 use Rattle.thrift_value.specs.declared.kind.Kind.{Kind}
 use Rattle.thrift_value.specs.declared.kind.Kind.TheVariants as kinds
@@ -14,6 +15,7 @@ use Rattle.thrift_value.specs.Trees.{Message, depth_of_members}
 use Rattle.protocol_traits.specs.declared.fault.Fault.{Fault}
 use Rattle.protocol_traits.specs.declared.fault.Reason.{Reason}
 use Rattle.protocol_traits.specs.declared.fault.Reason.TheVariants as reasons
+use Rattle.json_text.specs.Number.{is_number_byte}
 use Rattle.json_text.specs.Grammar.{SpellsInt, SpellsText, SpellsBlob}
 use Rattle.json_text_laws.specs.Strings.{IsFault}
 use Rattle.json_protocol.specs.Writing.{quoted, number, flag, type_digit}
@@ -42,6 +44,34 @@ abbrev pub IsInside : Reason → List ℕ → ℕ → Type 0
 IsInside reasons.BadString left at = IsFault left at
 IsInside reason left at = at ≡ 0
 
+-- none of these tokens stands there
+abbrev pub NoneStands : (List ℕ → Type 0) → List ℕ → Type 0
+NoneStands Is left = (token rest : List ℕ) → Is token → left ≡ token ++ rest → ⊥
+
+-- nothing follows, or a byte that ends a number
+abbrev pub EndsNumber : List ℕ → Type 0
+EndsNumber [] = ⊤
+EndsNumber (x ∷ rest) = is_number_byte x ≡ false
+
+-- none of these numbers stands there and ends
+abbrev pub NoneEnds : (List ℕ → Type 0) → List ℕ → Type 0
+NoneEnds Is left = (token rest : List ℕ) → Is token → EndsNumber rest → left ≡ token ++ rest → ⊥
+
+-- Where one of these is called for, none stands there: the version, a message's type, a kind's name, a field's id of 16 bits, a size of 31
+-- bits, a bool, which is in quotes or isn't as the one that is called for, or a string; where a mark is called for, it doesn't. Of a number
+-- nothing is said, since its range hangs on the kind that is announced for it.
+abbrev pub IsUnlike : Reason → List ℕ → List ℕ → Type 0
+IsUnlike reasons.BadVersion left token = NoneEnds (IsSort reasons.BadVersion) left
+IsUnlike reasons.BadType left token = NoneEnds (IsSort reasons.BadType) left
+IsUnlike reasons.BadId left token = NoneStands (λ other. (id : ℤ) × (digits : List ℕ) × SpellsInt id digits × FitsSigned w16 id × (other ≡ quoted digits)) left
+IsUnlike reasons.BadSize left token = NoneEnds (λ other. (size : ℕ) × (size < 2 ^ 31) × (other ≡ decimal size)) left
+IsUnlike reasons.BadBool left token = (key : Bool) → ((b : Bool) × (token ≡ number key (flag b))) → NoneEnds (λ other. (b : Bool) × (other ≡ number key (flag b))) left
+IsUnlike reasons.BadKind left token = NoneStands (IsSort reasons.BadKind) left
+IsUnlike reasons.BadBase64 left token = NoneStands (IsSort reasons.BadBase64) left
+IsUnlike reasons.BadString left token = NoneStands (IsSort reasons.BadString) left
+IsUnlike reasons.BadToken left token = NoneStands (λ other. other ≡ token) left
+IsUnlike reason left token = ⊤
+
 -- the tokens are those of the message, with whatever whitespace round them
 abbrev pub AreOf : Known → Message → Tokens → Type 0
 AreOf k m tokens = (bytes : List ℕ) → Laid tokens bytes → JsonSpells k m bytes
@@ -66,6 +96,7 @@ pub record PartStands (k : Known) (bytes : List ℕ) (f : Fault) : Type 0 where
   pub begins : BeginsToken left
   pub inside : ℕ
   pub stands : IsInside f.reason left inside
+  pub unlike : IsUnlike f.reason left token
   pub place : f.place ≡ length front + inside
   pub within : inside < length left
 

@@ -103,7 +103,8 @@ pub fn the_first_byte_tells()
 /// begins with the frame. Else no message, of any depth, begins with it, and before the place stand the first tokens of a message, with
 /// whitespace round them, which has next a token of the sort that the reason names: the version, a type, a kind's name, a field's id, a
 /// size, a bool, a number, a string as text or as base64, or a bracket, a brace, a comma or a colon. The place is where that token is
-/// called for, and no whitespace stands there; in a string as text it is where the string itself is at fault.
+/// called for; in a string as text it is where the string itself is at fault. No whitespace stands where it is called for, nor a token of
+/// that sort, but for a number, whose range hangs on what is announced; nor the bracket, brace, comma or colon.
 pub fn the_fault_that_stands_there()
     ensures { (k : Known) (bytes : List ℕ) (f : Fault) → length bytes < 2 ^ 31 → IsRefused k bytes f → FaultStands k bytes f }
 {}
