@@ -1,13 +1,13 @@
 -- What a command does where nothing fails.
-use Rattle.std.proofs.Common.{◌≡◌, ℕ, ◌^◌, ◌<◌, ◌⊎◌, inl, inr, ℤ, List, [], ◌∷◌, ◌++◌, length, true, false, Option, None, Some, arith, refl, sym, ◌∙◌, ap, subst, append_assoc, length-append}
-use Rattle.std.specs.List.{flat_map}
+use Rattle.std.proofs.Common.{◌≡◌, ℕ, ◌^◌, ◌<◌, ◌⊎◌, inl, inr, List, [], ◌∷◌, ◌++◌, length, true, false, Option, None, Some, arith, refl, sym, ◌∙◌, ap, subst, length-append}
 use Rattle.std.specs.Io.KnownBytes.{Consumes, IsAtEnd}
 use Rattle.std.proofs.lemmas.List.{append-nil}
 use Rattle.gate_base.specs.Causes.{Rose}
-use Rattle.framed_transport.specs.Frames.{framed, Splits}
-use Rattle.framed_transport.specs.Front.{front, is_whole, Part, Large}
-use Rattle.framed_transport.proofs.Cutting.{large_stays}
-use Rattle.framed_transport.proofs.Splitting.{one_splitting}
+use Rattle.line_transport.specs.Cuts.{Cuts, CutsAll, at_end}
+use Rattle.line_transport.specs.Front.{front}
+use Rattle.line_transport.specs.declared.transport.Transport.{Transport}
+use Rattle.line_transport.specs.declared.transport.Transport.TheVariants.{Frames}
+use Rattle.line_transport.proofs.Spanning.{one_cutting, at_end_on, cuts_longer, nothing_exceeds}
 use Rattle.gate_words.specs.declared.command.Drilling.{Drilling}
 use Rattle.gate_run.specs.Terms.{Terms}
 use Rattle.gate_run.specs.Drilling.{Drills, Whole, Unwritten, Unreported, NoMemory}
@@ -37,61 +37,60 @@ front_read None b bytes read e p = absurd (cc)
 front_read (Some x) None bytes read e p = absurd p
 front_read (Some x) (Some y) bytes read e p = (let same : x ≡ bytes = cc in (y, sym same ∙ p))
 
-none_refused : (k : Terms) (a b : Streams) (bytes : List ℕ) (frames : List (List ℕ)) → k.limit < 2 ^ 31 → a.left ≡ Some bytes → Splits k.limit bytes frames [] → any_refused k frames ≡ false → CoversAll k a b true → ⊥
-none_refused k a b bytes frames small told splits passed c =
-    let same : c.0 ≡ bytes = all_read a.left b.left bytes c.0 told c.2.consumed c.4 in
-    let one = one_splitting k.limit bytes c.1 frames [] [] small (subst (λ (xs : List ℕ). Splits k.limit xs c.1 []) same c.2.splits) splits in
-    let wrong : true ≡ false = sym c.3 ∙ (ap (any_refused k) one.0 ∙ passed) in
+none_refused : (k : Terms) (a b : Streams) (bytes : List ℕ) (frames : List (List ℕ)) → k.limit < 2 ^ 31 → a.left ≡ Some bytes → CutsAll k.input k.limit bytes frames → any_refused k frames ≡ false → CoversAll k a b true → ⊥
+none_refused k a b bytes frames small told cuts passed c =
+    let same : c.0 ≡ bytes = all_read a.left b.left bytes c.0 told c.2.consumed c.5 in
+    let one = one_cutting k.input k.limit (at_end k.input bytes) c.1 frames [] [] small (subst (λ (xs : List ℕ). CutsAll k.input k.limit xs c.1) same c.3) cuts in
+    let wrong : true ≡ false = sym c.4 ∙ (ap (any_refused k) one.0 ∙ passed) in
     cc
 
-not_large : (limit : ℕ) (rest : List ℕ) (n : ℤ) → rest ≡ [] → front limit rest ≡ Large n → ⊥
-unfolding front
-not_large limit rest n none e = (let wrong : Part ≡ Large n = sym (ap (front limit) none) ∙ e in cc)
-
-no_line : (limit frames : ℕ) (rest line : List ℕ) → rest ≡ [] → IsStreamLine limit frames rest line → ⊥
+no_line : (t : Transport) (limit frames : ℕ) (rest line : List ℕ) → rest ≡ [] → IsStreamLine t limit frames rest line → ⊥
 unfolding IsStreamLine
-no_line limit frames rest line none (inl large) = not_large limit rest large.0 none large.1
-no_line limit frames rest line none (inr part) = part.1 none
+no_line t limit frames rest line none (inl over) = nothing_exceeds t limit rest over.0 none over.1
+no_line t limit frames rest line none (inr part) = part.2 none
+
+-- frames that end with their last one
+frames_end : (t : Transport) (limit : ℕ) (bytes rest : List ℕ) (xs ys : List (List ℕ)) → t ≡ Frames → limit < 2 ^ 31 → Cuts t limit bytes xs rest → CutsAll t limit bytes ys → rest ≡ []
+frames_end t limit bytes rest xs ys e small c all =
+    let framed : Cuts t limit bytes ys [] = subst (λ (u : Transport). Cuts t limit (at_end u bytes) ys []) e all in
+    (one_cutting t limit bytes xs ys rest [] small c framed).1
 
 nothing_left : (rest left : List ℕ) → rest ++ left ≡ [] → rest ≡ []
 nothing_left [] left e = refl
 nothing_left (x ∷ rest) left e = absurd (cc)
 
-ends_at_a_frame : (k : Terms) (a b : Streams) (bytes : List ℕ) (frames : List (List ℕ)) → k.limit < 2 ^ 31 → a.left ≡ Some bytes → Splits k.limit bytes frames [] → EndsWithinAFrame k a b → ⊥
-ends_at_a_frame k a b bytes frames small told splits (read, others, rest, line, c, is, inr at_end) =
-    let same : read ≡ bytes = all_read a.left b.left bytes read told c.consumed at_end in
-    let one = one_splitting k.limit bytes others frames rest [] small (subst (λ (xs : List ℕ). Splits k.limit xs others rest) same c.splits) splits in
-    no_line k.limit (length others) rest line one.1 is
-ends_at_a_frame k a b bytes frames small told splits (read, others, rest, line, c, is, inl large) =
+ends_at_a_frame : (k : Terms) (a b : Streams) (bytes : List ℕ) (frames : List (List ℕ)) → k.limit < 2 ^ 31 → a.left ≡ Some bytes → CutsAll k.input k.limit bytes frames → EndsWithinAFrame k a b → ⊥
+ends_at_a_frame k a b bytes frames small told cuts (read, others, rest, line, c, is_cut, is, inr ends) =
+    let same : read ≡ bytes = all_read a.left b.left bytes read told c.consumed ends.1 in
+    no_line k.input k.limit (length others) rest line (frames_end k.input k.limit bytes rest others frames ends.0 small (subst (λ (xs : List ℕ). Cuts k.input k.limit xs others rest) same is_cut) cuts) is
+ends_at_a_frame k a b bytes frames small told cuts (read, others, rest, line, c, is_cut, is, inl over) =
     let more = front_read a.left b.left bytes read told c.consumed in
-    let longer : Splits k.limit bytes others (rest ++ more.0) = record {
-      whole = more.1 ∙ (ap (λ t. t ++ more.0) c.splits.whole ∙ append_assoc (flat_map framed others) rest more.0);
-      each = c.splits.each;
-      no_more = ap is_whole (large_stays k.limit rest more.0 large.0 large.1);
-    } in
-    let one = one_splitting k.limit bytes others frames (rest ++ more.0) [] small longer splits in
-    not_large k.limit rest large.0 (nothing_left rest more.0 one.1) large.1
+    let whole : read ++ at_end k.input more.0 ≡ at_end k.input bytes = sym (at_end_on k.input read more.0) ∙ ap (at_end k.input) (sym more.1) in
+    let longer : Cuts k.input k.limit (at_end k.input bytes) others (rest ++ at_end k.input more.0) =
+    subst (λ (xs : List ℕ). Cuts k.input k.limit xs others (rest ++ at_end k.input more.0)) whole (cuts_longer k.input k.limit read rest (at_end k.input more.0) others over.0 is_cut over.1) in
+    let one = one_cutting k.input k.limit (at_end k.input bytes) others frames (rest ++ at_end k.input more.0) [] small longer cuts in
+    nothing_exceeds k.input k.limit rest over.0 (nothing_left rest (at_end k.input more.0) one.1) over.1
 
 too_few : (k : Terms) (a b : Streams) (text bytes : List ℕ) → a.left ≡ Some bytes → length bytes < MOST_BYTES → StopsWith k a b text (λ n. n ≡ MOST_BYTES) → ⊥
 too_few k a b text bytes told few s =
     let more = front_read a.left b.left bytes s.0 told s.4.consumed in
-    omega (arith, s.6, few, ap length more.1, length-append s.0 more.0)
+    omega (arith, s.7, few, ap length more.1, length-append s.0 more.0)
 
 no_write : (broken : Broken) (a b : Streams) → HasFailed broken a b → (WriteFailed a b → ⊥) → ⊥
 no_write streams.Output a b h whole = whole (inl h)
 no_write streams.Report a b h whole = whole (inr h)
 
-pub good_stream : (k : Terms) (a b : Streams) (ending : Ending) (bytes : List ℕ) (frames : List (List ℕ)) → k.limit < 2 ^ 31 → Streamed k a b ending → a.left ≡ Some bytes → length bytes < MOST_BYTES → Splits k.limit bytes frames [] → any_refused k frames ≡ false → (Rose a.input_faults b.input_faults → ⊥) → (WriteFailed a b → ⊥) → (ending ≡ Done) ⊎ (ending ≡ OutOfMemory)
-good_stream k a b endings.Done bytes frames small c told few splits passed no_read_fault no_write_fault = inl refl
-good_stream k a b endings.Refused bytes frames small c told few splits passed no_read_fault no_write_fault = absurd (none_refused k a b bytes frames small told splits passed c)
-good_stream k a b endings.StreamFault bytes frames small c told few splits passed no_read_fault no_write_fault = absurd (ends_at_a_frame k a b bytes frames small told splits c)
-good_stream k a b endings.ReadFault bytes frames small c told few splits passed no_read_fault no_write_fault = absurd (no_read_fault c.0)
-good_stream k a b endings.WriteFault bytes frames small c told few splits passed no_read_fault no_write_fault = absurd (no_write c.0 a b c.1 no_write_fault)
-good_stream k a b endings.BudgetSpent bytes frames small c told few splits passed no_read_fault no_write_fault = absurd (too_few k a b _ bytes told few c)
-good_stream k a b endings.OutOfMemory bytes frames small c told few splits passed no_read_fault no_write_fault = inr refl
-good_stream k a b endings.Usage bytes frames small c told few splits passed no_read_fault no_write_fault = absurd c
-good_stream k a b endings.FileFault bytes frames small c told few splits passed no_read_fault no_write_fault = absurd c
-good_stream k a b endings.HubFault bytes frames small c told few splits passed no_read_fault no_write_fault = absurd c
+pub good_stream : (k : Terms) (a b : Streams) (ending : Ending) (bytes : List ℕ) (frames : List (List ℕ)) → k.limit < 2 ^ 31 → Streamed k a b ending → a.left ≡ Some bytes → length bytes < MOST_BYTES → CutsAll k.input k.limit bytes frames → any_refused k frames ≡ false → (Rose a.input_faults b.input_faults → ⊥) → (WriteFailed a b → ⊥) → (ending ≡ Done) ⊎ (ending ≡ OutOfMemory)
+good_stream k a b endings.Done bytes frames small c told few cuts passed no_read_fault no_write_fault = inl refl
+good_stream k a b endings.Refused bytes frames small c told few cuts passed no_read_fault no_write_fault = absurd (none_refused k a b bytes frames small told cuts passed c)
+good_stream k a b endings.StreamFault bytes frames small c told few cuts passed no_read_fault no_write_fault = absurd (ends_at_a_frame k a b bytes frames small told cuts c)
+good_stream k a b endings.ReadFault bytes frames small c told few cuts passed no_read_fault no_write_fault = absurd (no_read_fault c.0)
+good_stream k a b endings.WriteFault bytes frames small c told few cuts passed no_read_fault no_write_fault = absurd (no_write c.0 a b c.1 no_write_fault)
+good_stream k a b endings.BudgetSpent bytes frames small c told few cuts passed no_read_fault no_write_fault = absurd (too_few k a b _ bytes told few c)
+good_stream k a b endings.OutOfMemory bytes frames small c told few cuts passed no_read_fault no_write_fault = inr refl
+good_stream k a b endings.Usage bytes frames small c told few cuts passed no_read_fault no_write_fault = absurd c
+good_stream k a b endings.FileFault bytes frames small c told few cuts passed no_read_fault no_write_fault = absurd c
+good_stream k a b endings.HubFault bytes frames small c told few cuts passed no_read_fault no_write_fault = absurd c
 
 -- ---- one text, and messages
 

@@ -1,21 +1,22 @@
 -- What was gathered is written.
-use Rattle.std.proofs.Common.{◌≡◌, ℕ, List, [], inr, sym, ◌∙◌, ap, subst, Option, None, Some, Result, Ok, Err, ℤ}
+use Rattle.std.proofs.Common.{◌≡◌, ℕ, List, [], inr, sym, ◌∙◌, ap, subst, Option, None, Some, Result, Ok, Err}
 use Rattle.std.specs.Prelude.{OnOk}
 use Rattle.std.specs.Io.KnownBytes.{Appends}
-use Rattle.framed_transport.specs.Front.{front}
+use Rattle.line_transport.specs.Front.{front}
+use Rattle.line_transport.specs.declared.transport.Excess.{Excess}
 use Rattle.gate_run.specs.Terms.{Terms}
 use Rattle.gate_run.specs.declared.stream.Broken.{Broken}
-use Rattle.gate_run.specs.Progress.{Moment, Breaks}
+use Rattle.gate_run.specs.Progress.{Moment, BreaksBefore}
 use Rattle.gate_run.specs.Working.{IsWaiting, Handles, Drains, WritesBoth, MakesRoom}
 use Rattle.gate_run.proofs.Progress.{waits_done, waits_broken}
 
-pub all_drained : (k : Terms) (a b c : Moment) (out waiting : List ℕ) (large : Option ℤ) → Handles k a b out waiting (Ok large) → c.left ≡ b.left → c.held ≡ b.held → c.frames ≡ b.frames → c.taken ≡ b.taken → c.refused ≡ b.refused → Appends b.written c.written out → Appends b.reported c.reported waiting → Drains k a c (Ok large)
+pub all_drained : (k : Terms) (a b c : Moment) (out waiting : List ℕ) (large : Option Excess) → Handles k a b out waiting (Ok large) → c.left ≡ b.left → c.held ≡ b.held → c.frames ≡ b.frames → c.taken ≡ b.taken → c.refused ≡ b.refused → Appends b.written c.written out → Appends b.reported c.reported waiting → Drains k a c (Ok large)
 all_drained k a b c out waiting None h left held frames taken refused f r =
     (waits_done k a b c out waiting h.0 left held frames taken refused f r, subst (λ (xs : List ℕ). IsWaiting k xs) (sym held) h.1)
 all_drained k a b c out waiting (Some n) h left held frames taken refused f r =
-    (waits_done k a b c out waiting h.0 left held frames taken refused f r, ap (front k.limit) held ∙ h.1)
+    (waits_done k a b c out waiting h.0 left held frames taken refused f r, ap (front k.input k.limit) held ∙ h.1)
 
-pub drain_broke : (broken : Broken) (k : Terms) (a b c : Moment) (out waiting : List ℕ) (large : Option ℤ) → Handles k a b out waiting (Ok large) → c.left ≡ b.left → WritesBoth (Err broken) out waiting b.written c.written b.reported c.reported → Breaks broken k a c
+pub drain_broke : (broken : Broken) (k : Terms) (a b c : Moment) (out waiting : List ℕ) (large : Option Excess) → Handles k a b out waiting (Ok large) → c.left ≡ b.left → WritesBoth (Err broken) out waiting b.written c.written b.reported c.reported → BreaksBefore broken k a c
 drain_broke broken k a b c out waiting None h left w = waits_broken broken k a b c out waiting h.0 left w
 drain_broke broken k a b c out waiting (Some n) h left w = waits_broken broken k a b c out waiting h.0 left w
 

@@ -1,15 +1,17 @@
 -- From the moments of a conversion to what the whole conversion did.
 use Rattle.std.proofs.Common.{◌≡◌, ℕ, ◌+◌, ◌≤◌, ◌⊎◌, inl, inr, List, [], ◌++◌, length, take, arith, refl, sym, ◌∙◌, ap, subst, Option, Bool, true, false, ◌||◌, Result, Ok, Err}
 use Rattle.std.specs.Prelude.{⊤, IfErr}
-use Rattle.std.specs.Io.KnownBytes.{Appends, IsAtEnd}
-use Rattle.std.proofs.lemmas.List.{take_all}
-use Rattle.std.proofs.lemmas.List.Elements.{All-nil}
+use Rattle.std.specs.Io.KnownBytes.{Appends}
+use Rattle.std.proofs.lemmas.List.{take_all, append-nil}
 use Rattle.gate_base.specs.Causes.{Rose}
-use Rattle.framed_transport.specs.Front.{front, is_whole}
+use Rattle.line_transport.specs.Cuts.{Spans, Cuts, CutsAll}
+use Rattle.line_transport.specs.Front.{front, is_whole}
+use Rattle.line_transport.specs.declared.transport.Transport.{Transport}
+use Rattle.line_transport.proofs.Spanning.{spans_none, nothing_part}
 use Rattle.gate_run.specs.Terms.{Terms}
 use Rattle.gate_io.specs.Fronts.{AppendsFront}
 use Rattle.gate_run.specs.Handling.{outputs, lines, any_refused}
-use Rattle.gate_run.specs.Progress.{Moment, Goes, Breaks, CutsOff, HasRisen, IsStreamLine}
+use Rattle.gate_run.specs.Progress.{Moment, Goes, GoesToEnd, Breaks, CutsOff, HasRisen, IsStreamLine}
 use Rattle.gate_run.specs.Endings.{last_line}
 use Rattle.gate_run.specs.Working.{Closes, Ends, EndsInRest, IsWaiting}
 use Rattle.gate_run.specs.Outcome.{Streams, streams as streams_of, Covers, IsLastLine, CoversAll, IsTooLargeOrAtEnd, EndsWithinAFrame, StopsWith, BreaksOff, Streamed, beginning}
@@ -22,55 +24,60 @@ use Rattle.gate_io.proofs.Streams.{appends_on, appends_none, consumes_none}
 
 -- where nothing is held, less than a frame is
 pub nothing_waits : (k : Terms) (bytes : List ℕ) → bytes ≡ [] → IsWaiting k bytes
-unfolding front
-nothing_waits k bytes none = rw none (record { part = refl; room = omega arith })
+nothing_waits k bytes none = rw none (record { part = nothing_part k.input k.limit; room = omega arith })
 
 abbrev at : Moment → ℕ → ℕ → ℕ → Streams
 at m i o e = streams_of m.left m.written m.reported i o e
 
-covers : (k : Terms) (a b : Moment) (i o e i' o' e' : ℕ) (reported : Option (List ℕ)) (line : List ℕ) → a.held ≡ [] → a.frames ≡ 0 → (goes : Goes k a b) → is_whole (front k.limit b.held) ≡ false → Appends b.reported reported line → Covers k (at a i o e) (streams_of b.left b.written reported i' o' e') goes.read goes.frames b.held line
-covers k a b i o e i' o' e' reported line none first goes no_frame last = record {
+covers : (k : Terms) (a b : Moment) (i o e i' o' e' : ℕ) (reported : Option (List ℕ)) (line : List ℕ) → a.frames ≡ 0 → (goes : Goes k a b) → Appends b.reported reported line → Covers k (at a i o e) (streams_of b.left b.written reported i' o' e') goes.read goes.frames line
+covers k a b i o e i' o' e' reported line first goes last = record {
   consumed = goes.consumed;
-  splits = record {
-    whole = ap (λ t. t ++ goes.read) (sym none) ∙ goes.split;
-    each = goes.each;
-    no_more = no_frame;
-  };
   written = subst (λ (n : ℕ). Appends a.written b.written (outputs k n goes.frames)) first goes.written;
   reported = subst (λ (n : ℕ). Appends a.reported reported (lines k n goes.frames ++ line)) first (appends_on a.reported b.reported reported (lines k a.frames goes.frames) line goes.reported last);
 }
 
-no_frame_in_part : (k : Terms) (bytes : List ℕ) → IsWaiting k bytes → is_whole (front k.limit bytes) ≡ false
+no_frame_in_part : (k : Terms) (bytes : List ℕ) → IsWaiting k bytes → is_whole (front k.input k.limit bytes) ≡ false
 no_frame_in_part k bytes w = ap is_whole w.part
 
--- at the end of the input nothing is held
-pub covers_all : (k : Terms) (a b : Moment) (i o e i' o' e' : ℕ) (refused : Bool) → a.held ≡ [] → a.frames ≡ 0 → a.refused ≡ false → Goes k a b → b.held ≡ [] → b.refused ≡ refused → IsAtEnd b.left → CoversAll k (at a i o e) (at b i' o' e') refused
-covers_all k a b i o e i' o' e' refused none first unrefused goes nothing is at_end = (
+-- how what was read is cut
+cuts_of : (k : Terms) (a b : Moment) → a.held ≡ [] → (goes : Goes k a b) → is_whole (front k.input k.limit b.held) ≡ false → Cuts k.input k.limit goes.read goes.frames b.held
+cuts_of k a b none goes no_frame =
+    record { spans = subst (λ (l : List ℕ). Spans k.input k.limit l goes.frames b.held) (ap (λ t. t ++ goes.read) none) goes.split; no_more = no_frame }
+
+-- at the end of the input all of it is cut
+pub covers_all : (k : Terms) (a b : Moment) (i o e i' o' e' : ℕ) (refused : Bool) → a.held ≡ [] → a.frames ≡ 0 → a.refused ≡ false → GoesToEnd k a b → b.refused ≡ refused → CoversAll k (at a i o e) (at b i' o' e') refused
+covers_all k a b i o e i' o' e' refused none first unrefused goes is = (
   goes.read,
   goes.frames,
-  subst (λ (rest : List ℕ). Covers k (at a i o e) (at b i' o' e') goes.read goes.frames rest []) nothing (covers k a b i o e i' o' e' b.reported [] none first goes (no_frame_in_part k b.held (nothing_waits k b.held nothing)) (appends_none b.reported)),
+  record {
+    consumed = goes.consumed;
+    written = subst (λ (n : ℕ). Appends a.written b.written (outputs k n goes.frames)) first goes.written;
+    reported = subst (λ (n : ℕ). Appends a.reported b.reported (lines k n goes.frames ++ [])) first (subst (λ (l : List ℕ). Appends a.reported b.reported l) (sym (append-nil (lines k a.frames goes.frames))) goes.reported);
+  },
+  subst (λ (l : List ℕ). CutsAll k.input k.limit l goes.frames) (ap (λ t. t ++ goes.read) none) goes.cuts,
   sym (ap (λ t. t || any_refused k goes.frames) unrefused) ∙ (sym goes.refused ∙ is),
-  at_end,
+  goes.at_end,
 )
 
-no_frame_in_rest : (limit frames : ℕ) (rest line : List ℕ) → IsStreamLine limit frames rest line → is_whole (front limit rest) ≡ false
+no_frame_in_rest : (t : Transport) (limit frames : ℕ) (rest line : List ℕ) → IsStreamLine t limit frames rest line → is_whole (front t limit rest) ≡ false
 unfolding IsStreamLine
-no_frame_in_rest limit frames rest line (inl large) = ap is_whole large.1
-no_frame_in_rest limit frames rest line (inr partial) = ap is_whole partial.0
+no_frame_in_rest t limit frames rest line (inl over) = ap is_whole over.1
+no_frame_in_rest t limit frames rest line (inr partial) = ap is_whole partial.1
 
 -- the rest is no frame
 pub covers_rest : (k : Terms) (a b : Moment) (i o e i' o' e' : ℕ) → a.held ≡ [] → a.frames ≡ 0 → EndsInRest k a b → EndsWithinAFrame k (at a i o e) (at b i' o' e')
 covers_rest k a b i o e i' o' e' none first end =
-    let made = covers k a end.mid i o e i' o' e' b.reported end.line none first end.goes (no_frame_in_rest k.limit end.mid.frames end.mid.held end.line end.line_is) end.reported in
+    let made = covers k a end.mid i o e i' o' e' b.reported end.line first end.goes end.reported in
     let count : end.mid.frames ≡ length end.goes.frames = omega (arith, end.goes.counted, first) in (
       end.goes.read,
       end.goes.frames,
       end.mid.held,
       end.line,
-      subst (λ (w : Option (List ℕ)). Covers k (at a i o e) (streams_of b.left w b.reported i' o' e') end.goes.read end.goes.frames end.mid.held end.line) (sym end.written)
-          (subst (λ (l : Option (List ℕ)). Covers k (at a i o e) (streams_of l end.mid.written b.reported i' o' e') end.goes.read end.goes.frames end.mid.held end.line) (sym end.left) made),
-      subst (λ (n : ℕ). IsStreamLine k.limit n end.mid.held end.line) count end.line_is,
-      subst (λ (l : Option (List ℕ)). IsTooLargeOrAtEnd k.limit end.mid.held l) (sym end.left) end.at_end,
+      subst (λ (w : Option (List ℕ)). Covers k (at a i o e) (streams_of b.left w b.reported i' o' e') end.goes.read end.goes.frames end.line) (sym end.written)
+          (subst (λ (l : Option (List ℕ)). Covers k (at a i o e) (streams_of l end.mid.written b.reported i' o' e') end.goes.read end.goes.frames end.line) (sym end.left) made),
+      cuts_of k a end.mid none end.goes (no_frame_in_rest k.input k.limit end.mid.frames end.mid.held end.line end.line_is),
+      subst (λ (n : ℕ). IsStreamLine k.input k.limit n end.mid.held end.line) count end.line_is,
+      subst (λ (l : Option (List ℕ)). IsTooLargeOrAtEnd k.input k.limit end.mid.held l) (sym end.left) end.at_end,
     )
 
 pub rose_earlier : (before mid now : ℕ) → before ≤ mid → Rose mid now → Rose before now
@@ -86,7 +93,7 @@ pub stops_with : (k : Terms) (a b : Moment) (i o e i' o' mid e' : ℕ) (reported
 stops_with k a b i o e i' o' mid e' reported text Many none first untaken goes waits later front whole many =
     let last = as_last_line b.reported reported text e mid e' later front whole in
     let taken : b.taken ≡ length goes.read = omega (arith, goes.taken, untaken) in
-    (goes.read, goes.frames, b.held, last.0, covers k a b i o e i' o' e' reported last.0 none first goes (no_frame_in_part k b.held waits) last.1, last.2, subst Many taken many)
+    (goes.read, goes.frames, b.held, last.0, covers k a b i o e i' o' e' reported last.0 first goes last.1, cuts_of k a b none goes (no_frame_in_part k b.held waits), last.2, subst Many taken many)
 
 -- before anything was read
 pub stops_at_once : (k : Terms) (left written r r' : Option (List ℕ)) (i o e e' : ℕ) (text : List ℕ) → AppendsFront r r' text → Appends r r' text ⊎ Rose e e' → StopsWith k (streams_of left written r i o e) (streams_of left written r' i o e') text (λ n. n ≡ 0)
@@ -98,15 +105,15 @@ stops_at_once k left written r r' i o e e' text front whole =
       last.0,
       record {
         consumed = consumes_none left;
-        splits = record { whole = refl; each = All-nil (λ frame. length frame ≤ k.limit); no_more = no_frame_in_part k [] (nothing_waits k [] refl) };
         written = appends_none written;
         reported = last.1;
       },
+      record { spans = spans_none k.input k.limit []; no_more = no_frame_in_part k [] (nothing_waits k [] refl) },
       last.2,
       refl,
     )
 
-cut_from : (broken : Broken) (k : Terms) (a b c d : Moment) (frames : List (List ℕ)) (last : List ℕ) → a.frames ≡ c.frames → a.written ≡ c.written → a.reported ≡ c.reported → b.written ≡ d.written → b.reported ≡ d.reported → CutsOff broken k a b frames last → CutsOff broken k c d frames last
+pub cut_from : (broken : Broken) (k : Terms) (a b c d : Moment) (frames : List (List ℕ)) (last : List ℕ) → a.frames ≡ c.frames → a.written ≡ c.written → a.reported ≡ c.reported → b.written ≡ d.written → b.reported ≡ d.reported → CutsOff broken k a b frames last → CutsOff broken k c d frames last
 cut_from streams.Output k a b c d frames last first w r w' r' p = (
   record {
     done = p.0.done;
@@ -135,11 +142,12 @@ breaks_off broken k a b i o e i' o' e' none first p = record {
   frames = p.frames;
   more = p.more;
   last = p.last;
+  closing = p.closing;
   consumed = p.consumed;
-  split = ap (λ t. t ++ p.read) (sym none) ∙ p.split;
-  each = p.each;
+  split = subst (λ (l : List ℕ). Spans k.input k.limit l p.frames p.more) (ap (λ t. t ++ (p.read ++ p.closing)) none) p.split;
+  closing_is = p.closing_is;
   cut = cut_from broken k a b (beginning a.left a.written a.reported) (beginning b.left b.written b.reported) p.frames p.last first refl refl refl refl p.cut;
-  last_is = subst (λ (n : ℕ). (p.last ≡ []) ⊎ IsStreamLine k.limit (n + length p.frames) p.more p.last) first p.last_is;
+  last_is = subst (λ (n : ℕ). (p.last ≡ []) ⊎ IsStreamLine k.input k.limit (n + length p.frames) p.more p.last) first p.last_is;
 }
 
 -- ---- by its ending
@@ -160,9 +168,9 @@ closes_none endings.OutOfMemory w before now no_read no_budget = refl
 pub by_ending : (ending : Ending) (k : Terms) (a b : Moment) (i o e i' o' mid e' : ℕ) (reported : Option (List ℕ)) → a.held ≡ [] → a.frames ≡ 0 → a.refused ≡ false → a.taken ≡ 0 → e ≤ mid →
     (ending ≡ endings.ReadFault → Rose i i') → Ends k a b (Ok ending) → Closes ending b.reported reported mid e' → Streamed k (at a i o e) (streams_of b.left b.written reported i' o' e') ending
 by_ending endings.Done k a b i o e i' o' mid e' reported none first passed untaken later read h c =
-    subst (λ (r : Option (List ℕ)). CoversAll k (at a i o e) (streams_of b.left b.written r i' o' e') false) (sym c) (covers_all k a b i o e i' o' e' false none first passed h.0 h.1 h.2 h.3)
+    subst (λ (r : Option (List ℕ)). CoversAll k (at a i o e) (streams_of b.left b.written r i' o' e') false) (sym c) (covers_all k a b i o e i' o' e' false none first passed h.0 h.1)
 by_ending endings.Refused k a b i o e i' o' mid e' reported none first passed untaken later read h c =
-    subst (λ (r : Option (List ℕ)). CoversAll k (at a i o e) (streams_of b.left b.written r i' o' e') true) (sym c) (covers_all k a b i o e i' o' e' true none first passed h.0 h.1 h.2 h.3)
+    subst (λ (r : Option (List ℕ)). CoversAll k (at a i o e) (streams_of b.left b.written r i' o' e') true) (sym c) (covers_all k a b i o e i' o' e' true none first passed h.0 h.1)
 by_ending endings.StreamFault k a b i o e i' o' mid e' reported none first passed untaken later read h c =
     subst (λ (r : Option (List ℕ)). EndsWithinAFrame k (at a i o e) (streams_of b.left b.written r i' o' e')) (sym c) (covers_rest k a b i o e i' o' e' none first h)
 by_ending endings.ReadFault k a b i o e i' o' mid e' reported none first passed untaken later read h c =
@@ -180,3 +188,8 @@ pub risen_later : (r : Result Ending Broken) (o o' e mid e' : ℕ) → e ≤ mid
 risen_later (Ok ending) o o' e mid e' later h = tt
 risen_later (Err streams.Output) o o' e mid e' later h = h
 risen_later (Err streams.Report) o o' e mid e' later h = rose_earlier e mid e' later h
+
+pub both_risen : (r : Result Ending Broken) (o mid_o o' e mid e' : ℕ) → o ≤ mid_o → e ≤ mid → IfErr r (λ broken. HasRisen broken mid_o o' mid e') → IfErr r (λ broken. HasRisen broken o o' e e')
+both_risen (Ok ending) o mid_o o' e mid e' earlier later h = tt
+both_risen (Err streams.Output) o mid_o o' e mid e' earlier later h = rose_earlier o mid_o o' earlier h
+both_risen (Err streams.Report) o mid_o o' e mid e' earlier later h = rose_earlier e mid e' later h

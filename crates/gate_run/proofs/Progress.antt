@@ -1,15 +1,16 @@
 -- From moment to moment.
-use Rattle.std.proofs.Common.{◌≡◌, ℕ, suc, ◌+◌, ◌<◌, ◌≤◌, ◌⊎◌, ℤ, inl, inr, List, [], ◌∷◌, ◌++◌, length, take, arith, refl, sym, ◌∙◌, ap, subst, Option, None, Some, Result, Ok, Err, Bool, true, false, ◌||◌, not, append_assoc, length-append, add-zero}
-use Rattle.std.specs.List.{flat_map}
+use Rattle.std.proofs.Common.{◌≡◌, ℕ, suc, ◌+◌, ◌≤◌, ◌⊎◌, inl, inr, List, [], ◌∷◌, ◌++◌, length, take, arith, refl, sym, ◌∙◌, ap, subst, Option, None, Some, Result, Ok, Err, Bool, true, false, ◌||◌, not, append_assoc, length-append, add-zero}
 use Rattle.std.specs.Io.KnownBytes.{Appends, Consumes, Keeps, IsAtEnd, append_known}
 use Rattle.std.proofs.lemmas.List.{append-nil, append_cancel_left}
 use Rattle.std.proofs.Math.Seq.{take-append-add}
-use Rattle.std.proofs.lemmas.List.Elements.{All-append, All-nil, All-cons}
-use Rattle.std.proofs.lemmas.Grind.{flat_map-append}
-use Rattle.framed_transport.specs.Frames.{framed, IsCut}
-use Rattle.framed_transport.specs.Front.{front, Part, Large}
+use Rattle.line_transport.specs.Cuts.{Spans, CutsAll, at_end}
+use Rattle.line_transport.specs.Front.{front, Part, Exceeds}
+use Rattle.line_transport.specs.declared.transport.Excess.{Excess}
+use Rattle.line_transport.specs.declared.transport.Transport.{Transport}
+use Rattle.line_transport.specs.declared.transport.Transport.TheVariants.{Frames}
+use Rattle.line_transport.proofs.Spanning.{spans_none, spans_on, spans_fewer, cut_all_on}
 use Rattle.gate_run.specs.Terms.{Terms}
-use Rattle.gate_run.specs.Lines.{too_large_text, left_text}
+use Rattle.gate_run.specs.Lines.{excess_text, left_text}
 use Rattle.gate_run.specs.Working.{EndsInRest, Ends, Waits, WritesBoth, Stays, Empties}
 use Rattle.gate_run.specs.declared.status.Ending.{Ending}
 use Rattle.gate_run.specs.declared.status.Ending.TheVariants as endings
@@ -17,7 +18,7 @@ use Rattle.gate_run.specs.declared.stream.Broken.{Broken}
 use Rattle.gate_run.specs.declared.stream.Broken.TheVariants as streams
 use Rattle.gate_io.specs.Fronts.{AppendsFront, Flushed}
 use Rattle.gate_run.specs.Handling.{passes, output_of, outputs, line_of, lines, any_refused}
-use Rattle.gate_run.specs.Progress.{Moment, Goes, Breaks, CutsOff, IsStreamLine}
+use Rattle.gate_run.specs.Progress.{Moment, Goes, GoesToEnd, Breaks, BreaksBefore, CutsOff, IsStreamLine}
 use Rattle.gate_io.proofs.Streams.{appends_on, appends_none, consumes_on, consumes_none, then_front, front_of_more, keeps_consumes, some_wait, front_of_gathered, all_written, one_waits, gathered, flushed_none}
 
 pub lines_on : (k : Terms) (before : ℕ) (xs ys : List (List ℕ)) → lines k before (xs ++ ys) ≡ lines k before xs ++ lines k (before + length xs) ys
@@ -51,18 +52,21 @@ or_false : (a : Bool) → a ≡ (a || false)
 or_false true = refl
 or_false false = refl
 
--- two splittings, one after the other
-split_on : (held read f mid read' g rest : List ℕ) → held ++ read ≡ f ++ mid → mid ++ read' ≡ g ++ rest → held ++ (read ++ read') ≡ (f ++ g) ++ rest
-split_on held read f mid read' g rest p q =
-    sym (append_assoc held read read') ∙ (ap (λ t. t ++ read') p ∙ (append_assoc f mid read' ∙ (ap (λ t. f ++ t) q ∙ sym (append_assoc f g rest))))
+-- two cuttings, one after the other
+split_on : (t : Transport) (limit : ℕ) (held read mid read' rest : List ℕ) (xs ys : List (List ℕ)) → Spans t limit (held ++ read) xs mid → Spans t limit (mid ++ read') ys rest → Spans t limit (held ++ (read ++ read')) (xs ++ ys) rest
+split_on t limit held read mid read' rest xs ys p q =
+    subst (λ (l : List ℕ). Spans t limit l (xs ++ ys) rest) (append_assoc held read read') (spans_on t limit (held ++ read) mid (mid ++ read') read' rest xs ys p refl q)
+
+-- nothing was read
+split_none : (t : Transport) (limit : ℕ) (held : List ℕ) (rest : List ℕ) (xs : List (List ℕ)) → Spans t limit held xs rest → Spans t limit (held ++ []) xs rest
+split_none t limit held rest xs s = subst (λ (l : List ℕ). Spans t limit l xs rest) (sym (append-nil held)) s
 
 pub goes_nowhere : (k : Terms) (a : Moment) → Goes k a a
 goes_nowhere k a = record {
   read = [];
   frames = [];
   consumed = consumes_none a.left;
-  split = append-nil a.held;
-  each = All-nil (λ frame. length frame ≤ k.limit);
+  split = split_none k.input k.limit a.held a.held [] (spans_none k.input k.limit a.held);
   written = appends_none a.written;
   reported = appends_none a.reported;
   counted = omega arith;
@@ -75,8 +79,7 @@ goes_on k a b c p q = record {
   read = p.read ++ q.read;
   frames = p.frames ++ q.frames;
   consumed = consumes_on a.left b.left c.left p.read q.read p.consumed q.consumed;
-  split = rw (flat_map-append framed p.frames q.frames) (split_on a.held p.read (flat_map framed p.frames) b.held q.read (flat_map framed q.frames) c.held p.split q.split);
-  each = All-append (λ frame. length frame ≤ k.limit) p.frames q.frames p.each q.each;
+  split = split_on k.input k.limit a.held p.read b.held q.read c.held p.frames q.frames p.split q.split;
   written = rw (outputs_on k a.frames p.frames q.frames, ← p.counted) (appends_on a.written b.written c.written (outputs k a.frames p.frames) (outputs k b.frames q.frames) p.written q.written);
   reported = rw (lines_on k a.frames p.frames q.frames, ← p.counted) (appends_on a.reported b.reported c.reported (lines k a.frames p.frames) (lines k b.frames q.frames) p.reported q.reported);
   counted = omega (arith, p.counted, q.counted, length-append p.frames q.frames);
@@ -111,11 +114,12 @@ goes_and_breaks broken k a b c p q = record {
   frames = p.frames ++ q.frames;
   more = q.more;
   last = q.last;
+  closing = q.closing;
   consumed = consumes_on a.left b.left c.left p.read q.read p.consumed q.consumed;
-  split = rw (flat_map-append framed p.frames q.frames) (split_on a.held p.read (flat_map framed p.frames) b.held q.read (flat_map framed q.frames) q.more p.split q.split);
-  each = All-append (λ frame. length frame ≤ k.limit) p.frames q.frames p.each q.each;
+  split = subst (λ (l : List ℕ). Spans k.input k.limit (a.held ++ l) (p.frames ++ q.frames) q.more) (sym (append_assoc p.read q.read q.closing)) (split_on k.input k.limit a.held p.read b.held (q.read ++ q.closing) q.more p.frames q.frames p.split q.split);
+  closing_is = q.closing_is;
   cut = cut_on broken k a b c q.frames q.last p q.cut;
-  last_is = subst (λ (n : ℕ). (q.last ≡ []) ⊎ IsStreamLine k.limit n q.more q.last) (omega (arith, p.counted, length-append p.frames q.frames)) q.last_is;
+  last_is = subst (λ (n : ℕ). (q.last ≡ []) ⊎ IsStreamLine k.input k.limit n q.more q.last) (omega (arith, p.counted, length-append p.frames q.frames)) q.last_is;
 }
 
 -- ---- one step
@@ -123,7 +127,7 @@ goes_and_breaks broken k a b c p q = record {
 same_appends : (a b : Option (List ℕ)) → b ≡ a → Appends a b []
 same_appends a b e = subst (λ (x : Option (List ℕ)). Appends a x []) (sym e) (appends_none a)
 
-same_consumes : (a b : Option (List ℕ)) → b ≡ a → Consumes a b []
+pub same_consumes : (a b : Option (List ℕ)) → b ≡ a → Consumes a b []
 same_consumes a b e = subst (λ (x : Option (List ℕ)). Consumes a x []) (sym e) (consumes_none a)
 
 -- bytes were read and are held
@@ -132,8 +136,7 @@ fed k a b piece consumed held taken written reported frames refused = record {
   read = piece;
   frames = [];
   consumed = consumed;
-  split = sym held;
-  each = All-nil (λ frame. length frame ≤ k.limit);
+  split = subst (λ (l : List ℕ). Spans k.input k.limit l [] b.held) held (spans_none k.input k.limit b.held);
   written = same_appends a.written b.written written;
   reported = same_appends a.reported b.reported reported;
   counted = omega (arith, frames);
@@ -147,13 +150,12 @@ waited k a b kept held taken written reported frames refused =
     fed k a b [] (keeps_consumes a.left b.left kept) (held ∙ sym (append-nil a.held)) (omega (arith, taken)) written reported frames refused
 
 -- the frame at the front was handled and let go
-handled_one : (k : Terms) (a b : Moment) (frame : List ℕ) → length frame ≤ k.limit → a.held ≡ framed frame ++ b.held → b.left ≡ a.left → Appends a.written b.written (output_of k (a.frames + 1) frame) → Appends a.reported b.reported (line_of k (a.frames + 1) frame) → b.frames ≡ a.frames + 1 → b.taken ≡ a.taken → b.refused ≡ (a.refused || not (passes k frame)) → Goes k a b
-handled_one k a b frame within split left written reported frames taken refused = record {
+handled_one : (k : Terms) (a b : Moment) (frame : List ℕ) → Spans k.input k.limit a.held (frame ∷ []) b.held → b.left ≡ a.left → Appends a.written b.written (output_of k (a.frames + 1) frame) → Appends a.reported b.reported (line_of k (a.frames + 1) frame) → b.frames ≡ a.frames + 1 → b.taken ≡ a.taken → b.refused ≡ (a.refused || not (passes k frame)) → Goes k a b
+handled_one k a b frame split left written reported frames taken refused = record {
   read = [];
   frames = frame ∷ [];
   consumed = same_consumes a.left b.left left;
-  split = append-nil a.held ∙ (split ∙ ap (λ t. t ++ b.held) (sym (append-nil (framed frame))));
-  each = All-cons (λ frame. length frame ≤ k.limit) frame [] within (All-nil (λ frame. length frame ≤ k.limit));
+  split = split_none k.input k.limit a.held b.held (frame ∷ []) split;
   written = subst (λ (xs : List ℕ). Appends a.written b.written xs) (sym (append-nil (output_of k (a.frames + 1) frame))) written;
   reported = subst (λ (xs : List ℕ). Appends a.reported b.reported xs) (sym (append-nil (line_of k (a.frames + 1) frame))) reported;
   counted = frames;
@@ -161,49 +163,71 @@ handled_one k a b frame within split left written reported frames taken refused 
   refused = refused ∙ ap (λ t. a.refused || t) (or_false (not (passes k frame)));
 }
 
+-- what is passed over at the front was let go
+passed_over : (k : Terms) (a b : Moment) → Spans k.input k.limit a.held [] b.held → b.left ≡ a.left → b.written ≡ a.written → b.reported ≡ a.reported → b.frames ≡ a.frames → b.taken ≡ a.taken → b.refused ≡ a.refused → Goes k a b
+passed_over k a b split left written reported frames taken refused = record {
+  read = [];
+  frames = [];
+  consumed = same_consumes a.left b.left left;
+  split = split_none k.input k.limit a.held b.held [] split;
+  written = same_appends a.written b.written written;
+  reported = same_appends a.reported b.reported reported;
+  counted = omega (arith, frames);
+  taken = omega (arith, taken);
+  refused = refused ∙ or_false a.refused;
+}
+
 -- of the line of the rest a front was written
-pub broken_line : (k : Terms) (a b : Moment) (line : List ℕ) → IsStreamLine k.limit a.frames a.held line → b.left ≡ a.left → b.written ≡ a.written → AppendsFront a.reported b.reported line → Breaks streams.Report k a b
+pub broken_line : (k : Terms) (a b : Moment) (line : List ℕ) → IsStreamLine k.input k.limit a.frames a.held line → b.left ≡ a.left → b.written ≡ a.written → AppendsFront a.reported b.reported line → Breaks streams.Report k a b
 broken_line k a b line is left written reported = record {
   read = [];
   frames = [];
   more = a.held;
   last = line;
+  closing = [];
   consumed = same_consumes a.left b.left left;
-  split = append-nil a.held;
-  each = All-nil (λ frame. length frame ≤ k.limit);
+  split = split_none k.input k.limit a.held a.held [] (spans_none k.input k.limit a.held);
+  closing_is = inl refl;
   cut = record { written = same_appends a.written b.written written; reported = reported };
-  last_is = inr (subst (λ (n : ℕ). IsStreamLine k.limit n a.held line) (sym (add-zero a.frames)) is);
+  last_is = inr (subst (λ (n : ℕ). IsStreamLine k.input k.limit n a.held line) (sym (add-zero a.frames)) is);
 }
-
--- a frame on the stream is longer than what it carries
-pub framed_longer : (limit : ℕ) (frame rest held : List ℕ) → IsCut limit held frame rest → length rest + 4 ≤ length held
-unfolding framed
-framed_longer limit frame rest held cut = omega (arith, ap length cut.whole, length-append (framed frame) rest, length-append (framed frame) frame)
 
 -- ---- the line of the rest
 
-pub left_line : (limit frames : ℕ) (held line : List ℕ) (count : ℕ) → front limit held ≡ Part → 0 < length held → count ≡ length held → line ≡ left_text frames count → IsStreamLine limit frames held line
+pub left_line : (t : Transport) (limit frames : ℕ) (held : List ℕ) → t ≡ Frames → front t limit held ≡ Part → (held ≡ [] → ⊥) → IsStreamLine t limit frames held (left_text frames (length held))
 unfolding IsStreamLine
-left_line limit frames held line count part some is text =
-    inr (part, (λ none. omega (arith, some, ap length none)), text ∙ ap (left_text frames) is)
+left_line t limit frames held e part some = inr (e, part, some, refl)
 
-pub large_line : (limit frames : ℕ) (held line : List ℕ) (n : ℤ) → front limit held ≡ Large n → line ≡ too_large_text (frames + 1) n → IsStreamLine limit frames held line
+pub excess_line : (t : Transport) (limit frames : ℕ) (held line : List ℕ) (e : Excess) → front t limit held ≡ Exceeds e → line ≡ excess_text limit (frames + 1) e → IsStreamLine t limit frames held line
 unfolding IsStreamLine
-large_line limit frames held line n large text = inl (n, large, text)
+excess_line t limit frames held line e over text = inl (e, over, text)
 
-pub rest_left : (k : Terms) (a b mid : Moment) (line : List ℕ) → Goes k a mid → IsStreamLine k.limit mid.frames mid.held line → b.written ≡ mid.written → Appends mid.reported b.reported line → b.left ≡ mid.left → IsAtEnd mid.left → EndsInRest k a b
-rest_left k a b mid line goes is written reported left at_end =
-    record { mid = mid; line = line; goes = goes; line_is = is; written = written; reported = reported; left = left; at_end = inr at_end }
+pub rest_left : (k : Terms) (a b mid : Moment) (line : List ℕ) → Goes k a mid → IsStreamLine k.input k.limit mid.frames mid.held line → b.written ≡ mid.written → Appends mid.reported b.reported line → b.left ≡ mid.left → k.input ≡ Frames → IsAtEnd mid.left → EndsInRest k a b
+rest_left k a b mid line goes is written reported left framed at_end =
+    record { mid = mid; line = line; goes = goes; line_is = is; written = written; reported = reported; left = left; at_end = inr (framed, at_end) }
 
-pub rest_large : (k : Terms) (a b mid : Moment) (line : List ℕ) → Goes k a mid → IsStreamLine k.limit mid.frames mid.held line → b.written ≡ mid.written → Appends mid.reported b.reported line → b.left ≡ mid.left → (n : ℤ) → front k.limit mid.held ≡ Large n → EndsInRest k a b
-rest_large k a b mid line goes is written reported left n large =
-    record { mid = mid; line = line; goes = goes; line_is = is; written = written; reported = reported; left = left; at_end = inl (n, large) }
+pub rest_over : (k : Terms) (a b mid : Moment) (line : List ℕ) → Goes k a mid → IsStreamLine k.input k.limit mid.frames mid.held line → b.written ≡ mid.written → Appends mid.reported b.reported line → b.left ≡ mid.left → (e : Excess) → front k.input k.limit mid.held ≡ Exceeds e → EndsInRest k a b
+rest_over k a b mid line goes is written reported left e over =
+    record { mid = mid; line = line; goes = goes; line_is = is; written = written; reported = reported; left = left; at_end = inl (e, over) }
 
 -- ---- how the work ends
 
+-- up to a moment, and from there to the end of the input
+goes_to_end : (k : Terms) (a b c : Moment) → Goes k a b → GoesToEnd k b c → GoesToEnd k a c
+goes_to_end k a b c p q = record {
+  read = p.read ++ q.read;
+  frames = p.frames ++ q.frames;
+  consumed = consumes_on a.left b.left c.left p.read q.read p.consumed q.consumed;
+  cuts = subst (λ (l : List ℕ). CutsAll k.input k.limit l (p.frames ++ q.frames)) (append_assoc a.held p.read q.read) (cut_all_on k.input k.limit (a.held ++ p.read) b.held q.read p.frames q.frames p.split q.cuts);
+  written = rw (outputs_on k a.frames p.frames q.frames, ← p.counted) (appends_on a.written b.written c.written (outputs k a.frames p.frames) (outputs k b.frames q.frames) p.written q.written);
+  reported = rw (lines_on k a.frames p.frames q.frames, ← p.counted) (appends_on a.reported b.reported c.reported (lines k a.frames p.frames) (lines k b.frames q.frames) p.reported q.reported);
+  refused = q.refused ∙ (ap (λ t. t || any_refused k q.frames) p.refused ∙ (or_assoc a.refused (any_refused k p.frames) (any_refused k q.frames) ∙ ap (λ t. a.refused || t) (sym (any_refused_on k p.frames q.frames))));
+  at_end = q.at_end;
+}
+
 pub ends_on : (k : Terms) (a b c : Moment) (end : Result Ending Broken) → Goes k a b → Ends k b c end → Ends k a c end
-ends_on k a b c (Ok endings.Done) p q = (goes_on k a b c p q.0, q.1, q.2, q.3)
-ends_on k a b c (Ok endings.Refused) p q = (goes_on k a b c p q.0, q.1, q.2, q.3)
+ends_on k a b c (Ok endings.Done) p q = (goes_to_end k a b c p q.0, q.1)
+ends_on k a b c (Ok endings.Refused) p q = (goes_to_end k a b c p q.0, q.1)
 ends_on k a b c (Ok endings.StreamFault) p q =
     record { mid = q.mid; line = q.line; goes = goes_on k a b q.mid p q.goes; line_is = q.line_is; written = q.written; reported = q.reported; left = q.left; at_end = q.at_end }
 ends_on k a b c (Ok endings.ReadFault) p q = (goes_on k a b c p q.0, q.1)
@@ -222,8 +246,7 @@ rewritten k a b c g left held frames taken refused f r = record {
   read = g.read;
   frames = g.frames;
   consumed = subst (λ (l : Option (List ℕ)). Consumes a.left l g.read) (sym left) g.consumed;
-  split = g.split ∙ ap (λ t. flat_map framed g.frames ++ t) (sym held);
-  each = g.each;
+  split = subst (λ (l : List ℕ). Spans k.input k.limit (a.held ++ g.read) g.frames l) (sym held) g.split;
   written = f (outputs k a.frames g.frames) g.written;
   reported = r (lines k a.frames g.frames) g.reported;
   counted = frames ∙ g.counted;
@@ -294,6 +317,10 @@ pub waits_roomy : (k : Terms) (a b c : Moment) (out out' waiting waiting' : List
 waits_roomy k a b c out out' waiting waiting' w left held frames taken refused (inl s) = waits_still k a b c out out' waiting waiting' w left held frames taken refused s
 waits_roomy k a b c out out' waiting waiting' w left held frames taken refused (inr e) = waits_empty k a b c out out' waiting waiting' w left held frames taken refused e
 
+-- nothing stands for an LF
+split_closed : (t : Transport) (limit : ℕ) (held read rest : List ℕ) (xs : List (List ℕ)) → Spans t limit (held ++ read) xs rest → Spans t limit (held ++ (read ++ [])) xs rest
+split_closed t limit held read rest xs s = subst (λ (l : List ℕ). Spans t limit (held ++ l) xs rest) (sym (append-nil read)) s
+
 -- what was sent behind some bytes, and a front of what waited
 behind_gathered : (a w w' : Option (List ℕ)) (p before some others : List ℕ) → Appends a w (before ++ some) → Appends a (append_known w p) (before ++ others) → AppendsFront w w' p →
     (count : ℕ) × (count ≤ length others) × Appends a w' (before ++ take count others)
@@ -310,62 +337,69 @@ behind_gathered (Some a) (Some x) w' p before some others s h f =
     )
 
 -- the output failed, and a front of what waited for it was written
-pub output_broken : (k : Terms) (a b c : Moment) (out waiting : List ℕ) → Waits k a b out waiting → c.left ≡ b.left → AppendsFront b.written c.written out → c.reported ≡ b.reported → Breaks streams.Output k a c
+pub output_broken : (k : Terms) (a b c : Moment) (out waiting : List ℕ) → Waits k a b out waiting → c.left ≡ b.left → AppendsFront b.written c.written out → c.reported ≡ b.reported → BreaksBefore streams.Output k a c
 output_broken k a b c out waiting w left f r =
     let parted : outputs k a.frames w.goes.frames ≡ outputs k a.frames w.done ++ outputs k (a.frames + length w.done) w.others = ap (outputs k a.frames) w.is ∙ outputs_on k a.frames w.done w.others in
     let sent = behind_gathered a.written b.written c.written out (outputs k a.frames w.done) w.some (outputs k (a.frames + length w.done) w.others) w.written
-    (subst (λ (xs : List ℕ). Appends a.written (append_known b.written out) xs) parted w.goes.written) f in
-    record {
-      read = w.goes.read;
-      frames = w.goes.frames;
-      more = b.held;
-      last = [];
-      consumed = subst (λ (l : Option (List ℕ)). Consumes a.left l w.goes.read) (sym left) w.goes.consumed;
-      split = w.goes.split;
-      each = w.goes.each;
-      cut = (
-        record {
-          done = w.done;
-          others = w.others;
-          is = w.is;
-          count = sent.0;
-          within = sent.1;
-          written = sent.2;
-          reported = appends_same a.reported b.reported c.reported (lines k a.frames w.done) r w.reported;
-        },
-        refl,
-      );
-      last_is = inl refl;
-    }
+    (subst (λ (xs : List ℕ). Appends a.written (append_known b.written out) xs) parted w.goes.written) f in (
+      record {
+        read = w.goes.read;
+        frames = w.goes.frames;
+        more = b.held;
+        last = [];
+        closing = [];
+        consumed = subst (λ (l : Option (List ℕ)). Consumes a.left l w.goes.read) (sym left) w.goes.consumed;
+        split = split_closed k.input k.limit a.held w.goes.read b.held w.goes.frames w.goes.split;
+        closing_is = inl refl;
+        cut = (
+          record {
+            done = w.done;
+            others = w.others;
+            is = w.is;
+            count = sent.0;
+            within = sent.1;
+            written = sent.2;
+            reported = appends_same a.reported b.reported c.reported (lines k a.frames w.done) r w.reported;
+          },
+          refl,
+        );
+        last_is = inl refl;
+      },
+      refl,
+    )
 
 -- the report failed, and a front of the lines that waited was written
-pub report_broken : (k : Terms) (a b c : Moment) (out waiting : List ℕ) → Waits k a b out waiting → c.left ≡ b.left → Appends b.written c.written out → AppendsFront b.reported c.reported waiting → Breaks streams.Report k a c
-report_broken k a b c out waiting w left f r = record {
-  read = w.goes.read;
-  frames = w.goes.frames;
-  more = b.held;
-  last = [];
-  consumed = subst (λ (l : Option (List ℕ)). Consumes a.left l w.goes.read) (sym left) w.goes.consumed;
-  split = w.goes.split;
-  each = w.goes.each;
-  cut = record {
-    written = all_written a.written b.written c.written out (outputs k a.frames w.goes.frames) w.goes.written f;
-    reported = front_of_more a.reported c.reported (lines k a.frames w.goes.frames) [] (front_of_gathered a.reported b.reported c.reported waiting (lines k a.frames w.done) (lines k a.frames w.goes.frames) w.reported w.goes.reported r);
-  };
-  last_is = inl refl;
-}
+pub report_broken : (k : Terms) (a b c : Moment) (out waiting : List ℕ) → Waits k a b out waiting → c.left ≡ b.left → Appends b.written c.written out → AppendsFront b.reported c.reported waiting → BreaksBefore streams.Report k a c
+report_broken k a b c out waiting w left f r = (
+  record {
+    read = w.goes.read;
+    frames = w.goes.frames;
+    more = b.held;
+    last = [];
+    closing = [];
+    consumed = subst (λ (l : Option (List ℕ)). Consumes a.left l w.goes.read) (sym left) w.goes.consumed;
+    split = split_closed k.input k.limit a.held w.goes.read b.held w.goes.frames w.goes.split;
+    closing_is = inl refl;
+    cut = record {
+      written = all_written a.written b.written c.written out (outputs k a.frames w.goes.frames) w.goes.written f;
+      reported = front_of_more a.reported c.reported (lines k a.frames w.goes.frames) [] (front_of_gathered a.reported b.reported c.reported waiting (lines k a.frames w.done) (lines k a.frames w.goes.frames) w.reported w.goes.reported r);
+    };
+    last_is = inl refl;
+  },
+  refl,
+)
 
 -- a stream failed while what waited was written
-pub waits_broken : (broken : Broken) (k : Terms) (a b c : Moment) (out waiting : List ℕ) → Waits k a b out waiting → c.left ≡ b.left → WritesBoth (Err broken) out waiting b.written c.written b.reported c.reported → Breaks broken k a c
+pub waits_broken : (broken : Broken) (k : Terms) (a b c : Moment) (out waiting : List ℕ) → Waits k a b out waiting → c.left ≡ b.left → WritesBoth (Err broken) out waiting b.written c.written b.reported c.reported → BreaksBefore broken k a c
 waits_broken streams.Output k a b c out waiting w left h = output_broken k a b c out waiting w left h.0 h.1
 waits_broken streams.Report k a b c out waiting w left h = report_broken k a b c out waiting w left h.0 h.1
 
 -- what is written of one frame more waits behind what waited, of which a front may have been written
-pub waits_one : (k : Terms) (a b c : Moment) (out waiting out' waiting' frame rest : List ℕ) → Waits k a b out waiting → IsCut k.limit b.held frame rest → c.held ≡ rest → c.left ≡ b.left → Flushed b.written (out ++ output_of k (b.frames + 1) frame) c.written out' → c.reported ≡ b.reported → c.frames ≡ b.frames + 1 → c.taken ≡ b.taken → c.refused ≡ (b.refused || not (passes k frame)) → waiting' ≡ waiting ++ line_of k (b.frames + 1) frame → Waits k a c out' waiting'
+pub waits_one : (k : Terms) (a b c : Moment) (out waiting out' waiting' frame rest : List ℕ) → Waits k a b out waiting → Spans k.input k.limit b.held (frame ∷ []) rest → c.held ≡ rest → c.left ≡ b.left → Flushed b.written (out ++ output_of k (b.frames + 1) frame) c.written out' → c.reported ≡ b.reported → c.frames ≡ b.frames + 1 → c.taken ≡ b.taken → c.refused ≡ (b.refused || not (passes k frame)) → waiting' ≡ waiting ++ line_of k (b.frames + 1) frame → Waits k a c out' waiting'
 unfolding goes_on handled_one
 waits_one k a b c out waiting out' waiting' frame rest w cut held left written reported frames taken refused m = record {
   goes = goes_on k a (record b { written = append_known b.written out; reported = append_known b.reported waiting }) (record c { written = append_known c.written out'; reported = append_known c.reported waiting' }) w.goes
-      (handled_one k (record b { written = append_known b.written out; reported = append_known b.reported waiting }) (record c { written = append_known c.written out'; reported = append_known c.reported waiting' }) frame cut.within (cut.whole ∙ ap (λ t. framed frame ++ t) (sym held)) left
+      (handled_one k (record b { written = append_known b.written out; reported = append_known b.reported waiting }) (record c { written = append_known c.written out'; reported = append_known c.reported waiting' }) frame (subst (λ (l : List ℕ). Spans k.input k.limit b.held (frame ∷ []) l) (sym held) cut) left
       (gathered b.written c.written out out' (output_of k (b.frames + 1) frame) written) (one_waits b.reported c.reported waiting waiting' (line_of k (b.frames + 1) frame) reported m) frames taken refused);
   done = w.done;
   others = w.others ++ frame ∷ [];
@@ -376,9 +410,29 @@ waits_one k a b c out waiting out' waiting' frame rest w cut held left written r
 }
 
 -- the output failed, and a front of what waited and of what is written of one frame more was written
-pub one_broken : (k : Terms) (a b c : Moment) (out waiting frame rest : List ℕ) → Waits k a b out waiting → IsCut k.limit b.held frame rest → c.left ≡ b.left → c.reported ≡ b.reported → AppendsFront b.written c.written (out ++ output_of k (b.frames + 1) frame) → Breaks streams.Output k a c
+pub one_broken : (k : Terms) (a b c : Moment) (out waiting frame rest : List ℕ) → Waits k a b out waiting → Spans k.input k.limit b.held (frame ∷ []) rest → c.left ≡ b.left → c.reported ≡ b.reported → AppendsFront b.written c.written (out ++ output_of k (b.frames + 1) frame) → BreaksBefore streams.Output k a c
 one_broken k a b c out waiting frame rest w cut left reported front =
     let d = record b { held = rest; frames = b.frames + 1; refused = b.refused || not (passes k frame) } in
     output_broken k a d c (out ++ output_of k (b.frames + 1) frame) (waiting ++ line_of k (b.frames + 1) frame)
     (waits_one k a b d out waiting (out ++ output_of k (b.frames + 1) frame) (waiting ++ line_of k (b.frames + 1) frame) frame rest w cut refl refl (flushed_none b.written (out ++ output_of k (b.frames + 1) frame)) refl refl refl refl refl)
     left front reported
+
+-- what is passed over at the front was let go
+pub waits_over : (k : Terms) (a b c : Moment) (out waiting : List ℕ) → Waits k a b out waiting → Spans k.input k.limit b.held [] c.held → c.left ≡ b.left → c.written ≡ b.written → c.reported ≡ b.reported → c.frames ≡ b.frames → c.taken ≡ b.taken → c.refused ≡ b.refused → Waits k a c out waiting
+unfolding goes_on passed_over
+waits_over k a b c out waiting w over left written reported frames taken refused = record {
+  goes = goes_on k a (record b { written = append_known b.written out; reported = append_known b.reported waiting }) (record c { written = append_known c.written out; reported = append_known c.reported waiting }) w.goes
+      (passed_over k (record b { written = append_known b.written out; reported = append_known b.reported waiting }) (record c { written = append_known c.written out; reported = append_known c.reported waiting }) over left
+      (ap (λ (v : Option (List ℕ)). append_known v out) written) (ap (λ (v : Option (List ℕ)). append_known v waiting) reported) frames taken refused);
+  done = w.done;
+  others = w.others ++ [];
+  is = ap (λ t. t ++ []) w.is ∙ append_assoc w.done w.others [];
+  some = w.some;
+  written = appends_same a.written b.written c.written (outputs k a.frames w.done ++ w.some) written w.written;
+  reported = appends_same a.reported b.reported c.reported (lines k a.frames w.done) reported w.reported;
+}
+
+-- the counts stay below the bytes that were taken
+pub stays_counted : (k : Terms) (a b : Moment) → Goes k a b → a.frames + length a.held ≤ a.taken → b.frames + length b.held ≤ b.taken
+stays_counted k a b g counted =
+    omega (arith, counted, g.counted, g.taken, spans_fewer k.input k.limit (a.held ++ g.read) g.frames b.held g.split, length-append a.held g.read)

@@ -10,7 +10,8 @@ use Rattle.translate_core.specs.declared.verdict.Cause.{Cause}
 use Rattle.translate_core.specs.declared.verdict.Cause.TheVariants.{Grammar}
 use Rattle.translate_core.specs.declared.verdict.HeadInfo.{HeadInfo}
 use Rattle.translate_core.specs.Texts.{cause_text, place_of}
-use Rattle.framed_transport.specs.Frames.{framed}
+use Rattle.line_transport.specs.Cuts.{sent}
+use Rattle.line_transport.specs.declared.transport.Transport.{Transport}
 use Rattle.message_show.specs.declared.showing.Shown.TheVariants as shown_as
 use Rattle.message_show.specs.Shown.{Showing, Line, IsShown, HasLine}
 use Rattle.message_show.specs.Shown as showing
@@ -101,20 +102,20 @@ checked_is_handled number t passed w page page' told told' e f h = (e, wait_more
 
 -- ---- a translation
 
-pub translation_passed : (v : Verdict) (bytes : List ℕ) (info : HeadInfo) (w : Option (List ℕ)) (p p' : List ℕ) → v ≡ verdicts.Passed info → p' ≡ p ++ sent_by v bytes → Treats treatment.Passed (by_verdict v bytes) w p w p'
-translation_passed (verdicts.Passed own) bytes info w p p' e f = wait_more w p p' (framed bytes) f
-translation_passed (verdicts.Refused own cause) bytes info w p p' e f = absurd (cc)
-translation_passed (verdicts.Unread fault) bytes info w p p' e f = absurd (cc)
+pub translation_passed : (t : Transport) (v : Verdict) (bytes : List ℕ) (info : HeadInfo) (w : Option (List ℕ)) (p p' : List ℕ) → v ≡ verdicts.Passed info → p' ≡ p ++ sent_by t v bytes → Treats treatment.Passed (by_verdict t v bytes) w p w p'
+translation_passed t (verdicts.Passed own) bytes info w p p' e f = wait_more w p p' (sent t bytes) f
+translation_passed t (verdicts.Refused own cause) bytes info w p p' e f = absurd (cc)
+translation_passed t (verdicts.Unread fault) bytes info w p p' e f = absurd (cc)
 
-pub translation_refused : (v : Verdict) (bytes : List ℕ) (info : HeadInfo) (cause : Cause) (w : Option (List ℕ)) (p p' : List ℕ) → v ≡ verdicts.Refused info cause → p' ≡ p ++ sent_by v bytes → Treats (treatment.Refused cause) (by_verdict v bytes) w p w p'
-translation_refused (verdicts.Passed own) bytes info cause w p p' e f = absurd (cc)
-translation_refused (verdicts.Refused own other) bytes info cause w p p' e f = (let same : cause ≡ other = cc in (same, refl, f ∙ append-nil p))
-translation_refused (verdicts.Unread fault) bytes info cause w p p' e f = absurd (cc)
+pub translation_refused : (t : Transport) (v : Verdict) (bytes : List ℕ) (info : HeadInfo) (cause : Cause) (w : Option (List ℕ)) (p p' : List ℕ) → v ≡ verdicts.Refused info cause → p' ≡ p ++ sent_by t v bytes → Treats (treatment.Refused cause) (by_verdict t v bytes) w p w p'
+translation_refused t (verdicts.Passed own) bytes info cause w p p' e f = absurd (cc)
+translation_refused t (verdicts.Refused own other) bytes info cause w p p' e f = (let same : cause ≡ other = cc in (same, refl, f ∙ append-nil p))
+translation_refused t (verdicts.Unread fault) bytes info cause w p p' e f = absurd (cc)
 
-pub translation_unread : (v : Verdict) (bytes : List ℕ) (fault : Fault) (w : Option (List ℕ)) (p p' : List ℕ) → v ≡ verdicts.Unread fault → p' ≡ p ++ sent_by v bytes → Treats (treatment.Refused (Grammar fault)) (by_verdict v bytes) w p w p'
-translation_unread (verdicts.Passed own) bytes fault w p p' e f = absurd (cc)
-translation_unread (verdicts.Refused own other) bytes fault w p p' e f = absurd (cc)
-translation_unread (verdicts.Unread own) bytes fault w p p' e f = (let same : fault ≡ own = cc in (ap Grammar same, refl, f ∙ append-nil p))
+pub translation_unread : (t : Transport) (v : Verdict) (bytes : List ℕ) (fault : Fault) (w : Option (List ℕ)) (p p' : List ℕ) → v ≡ verdicts.Unread fault → p' ≡ p ++ sent_by t v bytes → Treats (treatment.Refused (Grammar fault)) (by_verdict t v bytes) w p w p'
+translation_unread t (verdicts.Passed own) bytes fault w p p' e f = absurd (cc)
+translation_unread t (verdicts.Refused own other) bytes fault w p p' e f = absurd (cc)
+translation_unread t (verdicts.Unread own) bytes fault w p p' e f = (let same : fault ≡ own = cc in (ap Grammar same, refl, f ∙ append-nil p))
 
 -- ---- a line on the page
 

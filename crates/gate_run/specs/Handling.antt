@@ -1,6 +1,7 @@
--- What is written and reported of the frames of a stream.
+-- What is written and reported of the messages of a stream, each a frame or a line.
 use Rattle.std.specs.Prelude.{ℕ, ◌+◌, List, [], ◌∷◌, ◌++◌, Bool, true, false, ◌||◌, not}
-use Rattle.framed_transport.specs.Frames.{framed}
+use Rattle.line_transport.specs.Cuts.{sent}
+use Rattle.line_transport.specs.declared.transport.Transport.{Transport}
 use Rattle.translate_core.specs.declared.verdict.Verdict.{Verdict}
 use Rattle.translate_core.specs.declared.verdict.Verdict.TheVariants as verdicts
 use Rattle.translate_core.specs.declared.verdict.Cause.{Cause}
@@ -24,20 +25,20 @@ pub data Treated : Type 0 where
   Meets : Treated
   Breaks : Broken → Treated
 
--- a message that passes is written in a frame
-abbrev pub by_verdict : Verdict → List ℕ → Treated
-by_verdict (verdicts.Passed info) bytes = Passes (framed bytes)
-by_verdict (verdicts.Refused info cause) bytes = Fails cause
-by_verdict (verdicts.Unread fault) bytes = Fails (Grammar fault)
+-- a message that passes is written in a frame or on a line
+abbrev pub by_verdict : Transport → Verdict → List ℕ → Treated
+by_verdict t (verdicts.Passed info) bytes = Passes (sent t bytes)
+by_verdict t (verdicts.Refused info cause) bytes = Fails cause
+by_verdict t (verdicts.Unread fault) bytes = Fails (Grammar fault)
 
 -- what is written of it
-abbrev pub sent_by : Verdict → List ℕ → List ℕ
-sent_by (verdicts.Passed info) bytes = framed bytes
-sent_by (verdicts.Refused info cause) bytes = []
-sent_by (verdicts.Unread fault) bytes = []
+abbrev pub sent_by : Transport → Verdict → List ℕ → List ℕ
+sent_by t (verdicts.Passed info) bytes = sent t bytes
+sent_by t (verdicts.Refused info cause) bytes = []
+sent_by t (verdicts.Unread fault) bytes = []
 
-abbrev pub translated : Judged → Treated
-translated j = by_verdict j.verdict j.bytes
+abbrev pub translated : Transport → Judged → Treated
+translated t j = by_verdict t j.verdict j.bytes
 
 -- the line of a message is written
 abbrev pub as_line : Showing → Treated
@@ -53,7 +54,7 @@ as_found (findings.Refused fault) = Fails (Grammar fault)
 as_found (findings.Unread fault) = Fails (Grammar fault)
 
 abbrev pub treated_by : Terms → Doing → List ℕ → Treated
-treated_by k (Convert from to) frame = translated (judged_by k from to frame)
+treated_by k (Convert from to) frame = translated k.output (judged_by k from to frame)
 treated_by k (Show from) frame = as_line (shown_by k from frame)
 treated_by k (Conform from) frame = as_found (found_by k from frame)
 

@@ -6,6 +6,8 @@ use Rattle.conform_check.specs.declared.step.Step.{Step}
 use Rattle.conform_check.specs.declared.step.Step.TheVariants as steps
 use Rattle.conform_check.specs.Checking.{Broken}
 use Rattle.conform_check.specs.Texts.{breach_text}
+use Rattle.line_transport.specs.declared.transport.Excess.{Excess}
+use Rattle.line_transport.specs.declared.transport.Excess.TheVariants as excesses
 
 -- frame NUMBER: at PLACE: CAUSE
 unfoldable pub refusal_text : ℕ → ℕ → List ℕ → List ℕ
@@ -14,6 +16,15 @@ refusal_text number place cause = codes "frame " ++ decimal number ++ codes ": a
 -- stream: frame NUMBER: length N
 unfoldable pub too_large_text : ℕ → ℤ → List ℕ
 too_large_text number length = codes "stream: frame " ++ decimal number ++ codes ": length " ++ signed_decimal length ++ codes "\n"
+
+-- stream: frame NUMBER: over F bytes
+unfoldable pub over_text : ℕ → ℕ → List ℕ
+over_text number limit = codes "stream: frame " ++ decimal number ++ codes ": over " ++ decimal limit ++ codes " bytes\n"
+
+-- of a frame its length, of a line that it is longer than so many bytes
+abbrev pub excess_text : ℕ → ℕ → Excess → List ℕ
+excess_text limit number (excesses.Length n) = too_large_text number n
+excess_text limit number excesses.Line = over_text number limit
 
 -- stream: N bytes after frame NUMBER
 unfoldable pub left_text : ℕ → ℕ → List ℕ
@@ -51,8 +62,8 @@ unfoldable pub help_text : List ℕ
 help_text =
     codes "usage: thrift_gate check|convert|show|serve|drill|help\n"
     ++ codes "check FILE\n"
-    ++ codes "convert FROM TO [--idl FILE] [--service NAME] [--limit F]\n"
-    ++ codes "show FROM [--idl FILE] [--service NAME] [--limit F]\n"
+    ++ codes "convert FROM TO [--idl FILE] [--service NAME] [--limit F] [--lines SIDE]\n"
+    ++ codes "show FROM [--idl FILE] [--service NAME] [--limit F] [--lines SIDE]\n"
     ++ codes "serve CLIENT UPSTREAM LISTEN TARGET [--idl FILE] [--service NAME] [--limit F] [--sessions N] [--accept C] [--events E] [--calls P] [--unframed SIDE] [--front KIND]\n"
     ++ codes "route CLIENT UPSTREAM LISTEN TARGETS [--idl FILE] [--limit F] [--sessions N] [--accept C] [--events E] [--calls P]\n"
     ++ codes "conform FROM --idl FILE [--service NAME] [--limit F]\n"

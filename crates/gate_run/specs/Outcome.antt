@@ -1,9 +1,12 @@
 -- What the work on a whole stream read, wrote and reported.
-use Rattle.std.specs.Prelude.{◌≡◌, ℕ, ◌≤◌, ◌⊎◌, ℤ, List, [], ◌++◌, length, take, Bool, true, false, Option, ⊤}
+use Rattle.std.specs.Prelude.{◌≡◌, ℕ, ◌≤◌, ◌⊎◌, List, [], ◌++◌, length, take, Bool, true, false, Option, ⊤}
 use Rattle.std.specs.Io.KnownBytes.{Appends, Consumes, IsAtEnd}
 use Rattle.gate_base.specs.Causes.{Rose}
-use Rattle.framed_transport.specs.Frames.{Splits}
-use Rattle.framed_transport.specs.Front.{front, Large}
+use Rattle.line_transport.specs.Cuts.{Cuts, CutsAll}
+use Rattle.line_transport.specs.Front.{front, Exceeds}
+use Rattle.line_transport.specs.declared.transport.Excess.{Excess}
+use Rattle.line_transport.specs.declared.transport.Transport.{Transport}
+use Rattle.line_transport.specs.declared.transport.Transport.TheVariants.{Frames}
 use Rattle.gate_run.specs.Handling.{outputs, lines, any_refused}
 use Rattle.gate_run.specs.Progress.{Moment, Breaks, HasRisen, IsStreamLine}
 use Rattle.gate_run.specs.Endings.{last_line}
@@ -26,11 +29,9 @@ abbrev pub streams : Option (List ℕ) → Option (List ℕ) → Option (List �
 streams left written reported input_faults output_faults report_faults =
     record { left = left; written = written; reported = reported; input_faults = input_faults; output_faults = output_faults; report_faults = report_faults }
 
--- these bytes were read, they are these frames and this rest, and what is to be written and reported of the frames
--- was, with this line at the end
-pub record Covers (k : Terms) (a b : Streams) (read : List ℕ) (frames : List (List ℕ)) (rest line : List ℕ) : Type 0 where
+-- these bytes were read, and what is to be written and reported of these frames was, with this line at the end
+pub record Covers (k : Terms) (a b : Streams) (read : List ℕ) (frames : List (List ℕ)) (line : List ℕ) : Type 0 where
   pub consumed : Consumes a.left b.left read
-  pub splits : Splits k.limit read frames rest
   pub written : Appends a.written b.written (outputs k 0 frames)
   pub reported : Appends a.reported b.reported (lines k 0 frames ++ line)
 
@@ -39,24 +40,24 @@ pub record IsLastLine (text line : List ℕ) (before now : ℕ) : Type 0 where
   pub front : (count : ℕ) × (count ≤ length text) × (line ≡ take count text)
   pub whole : (line ≡ text) ⊎ Rose before now
 
--- the input was read to its end and is whole frames
+-- the input was read to its end and is whole frames, or lines
 abbrev pub CoversAll : Terms → Streams → Streams → Bool → Type 0
 CoversAll k a b refused =
-    (read : List ℕ) × (frames : List (List ℕ)) × Covers k a b read frames [] [] × (any_refused k frames ≡ refused) × IsAtEnd b.left
+    (read : List ℕ) × (frames : List (List ℕ)) × Covers k a b read frames [] × CutsAll k.input k.limit read frames × (any_refused k frames ≡ refused) × IsAtEnd b.left
 
-abbrev pub IsTooLargeOrAtEnd : ℕ → List ℕ → Option (List ℕ) → Type 0
-IsTooLargeOrAtEnd limit rest left = ((n : ℤ) × (front limit rest ≡ Large n)) ⊎ IsAtEnd left
+abbrev pub IsTooLargeOrAtEnd : Transport → ℕ → List ℕ → Option (List ℕ) → Type 0
+IsTooLargeOrAtEnd t limit rest left = ((e : Excess) × (front t limit rest ≡ Exceeds e)) ⊎ ((t ≡ Frames) × IsAtEnd left)
 
--- the next length is too large, or the input ended within a frame
+-- the next length is too large, or the next line longer than the limit, or the input ended within a frame
 abbrev pub EndsWithinAFrame : Terms → Streams → Streams → Type 0
 EndsWithinAFrame k a b =
-    (read : List ℕ) × (frames : List (List ℕ)) × (rest : List ℕ) × (line : List ℕ) × Covers k a b read frames rest line
-    × IsStreamLine k.limit (length frames) rest line × IsTooLargeOrAtEnd k.limit rest b.left
+    (read : List ℕ) × (frames : List (List ℕ)) × (rest : List ℕ) × (line : List ℕ) × Covers k a b read frames line × Cuts k.input k.limit read frames rest
+    × IsStreamLine k.input k.limit (length frames) rest line × IsTooLargeOrAtEnd k.input k.limit rest b.left
 
--- the whole frames that were read were handled, and this last line was written, or a front of it; so many bytes were read
+-- the whole frames or lines that were read were handled, and this last line was written, or a front of it; so many bytes were read
 abbrev pub StopsWith : Terms → Streams → Streams → List ℕ → (ℕ → Type 0) → Type 0
 StopsWith k a b text Many =
-    (read : List ℕ) × (frames : List (List ℕ)) × (rest : List ℕ) × (line : List ℕ) × Covers k a b read frames rest line
+    (read : List ℕ) × (frames : List (List ℕ)) × (rest : List ℕ) × (line : List ℕ) × Covers k a b read frames line × Cuts k.input k.limit read frames rest
     × IsLastLine text line a.report_faults b.report_faults × Many (length read)
 
 -- before the first frame

@@ -1,12 +1,14 @@
 -- From one moment of a conversion to a later one.
-use Rattle.std.specs.Prelude.{◌≡◌, ℕ, ◌+◌, ◌≤◌, ◌⊎◌, ℤ, List, [], ◌++◌, length, take, Bool, ◌||◌, Option}
-use Rattle.std.specs.List.{flat_map, All}
-use Rattle.std.specs.Io.KnownBytes.{Appends, Consumes}
+use Rattle.std.specs.Prelude.{◌≡◌, ℕ, ◌+◌, ◌≤◌, ◌⊎◌, List, [], ◌++◌, length, take, Bool, ◌||◌, Option}
+use Rattle.std.specs.Io.KnownBytes.{Appends, Consumes, IsAtEnd}
 use Rattle.gate_base.specs.Causes.{Rose}
-use Rattle.framed_transport.specs.Frames.{framed}
-use Rattle.framed_transport.specs.Front.{front, Part, Large}
+use Rattle.line_transport.specs.Cuts.{Spans, CutsAll, at_end}
+use Rattle.line_transport.specs.Front.{front, Part, Exceeds}
+use Rattle.line_transport.specs.declared.transport.Excess.{Excess}
+use Rattle.line_transport.specs.declared.transport.Transport.{Transport}
+use Rattle.line_transport.specs.declared.transport.Transport.TheVariants.{Frames}
 use Rattle.gate_io.specs.Fronts.{AppendsFront}
-use Rattle.gate_run.specs.Lines.{too_large_text, left_text}
+use Rattle.gate_run.specs.Lines.{excess_text, left_text}
 use Rattle.gate_run.specs.Handling.{outputs, lines, any_refused}
 use Rattle.gate_run.specs.Terms.{Terms}
 use Rattle.gate_run.specs.declared.stream.Broken.{Broken}
@@ -27,19 +29,33 @@ pub record Goes (c : Terms) (a b : Moment) : Type 0 where
   pub read : List ℕ
   pub frames : List (List ℕ)
   pub consumed : Consumes a.left b.left read
-  pub split : a.held ++ read ≡ flat_map framed frames ++ b.held
-  pub each : All (λ frame. length frame ≤ c.limit) frames
+  pub split : Spans c.input c.limit (a.held ++ read) frames b.held
   pub written : Appends a.written b.written (outputs c a.frames frames)
   pub reported : Appends a.reported b.reported (lines c a.frames frames)
   pub counted : b.frames ≡ a.frames + length frames
   pub taken : b.taken ≡ a.taken + length read
   pub refused : b.refused ≡ (a.refused || any_refused c frames)
 
--- what is reported of a rest that is no frame, after so many frames
-unfoldable pub IsStreamLine : ℕ → ℕ → List ℕ → List ℕ → Type 0
-IsStreamLine limit frames rest line =
-    ((n : ℤ) × (front limit rest ≡ Large n) × (line ≡ too_large_text (frames + 1) n))
-    ⊎ ((front limit rest ≡ Part) × (rest ≡ [] → ⊥) × (line ≡ left_text frames (length rest)))
+-- the same where the input was read to its end: all bytes are these frames, or lines of which the last may have no LF
+pub record GoesToEnd (c : Terms) (a b : Moment) : Type 0 where
+  pub read : List ℕ
+  pub frames : List (List ℕ)
+  pub consumed : Consumes a.left b.left read
+  pub cuts : CutsAll c.input c.limit (a.held ++ read) frames
+  pub written : Appends a.written b.written (outputs c a.frames frames)
+  pub reported : Appends a.reported b.reported (lines c a.frames frames)
+  pub refused : b.refused ≡ (a.refused || any_refused c frames)
+  pub at_end : IsAtEnd b.left
+
+-- what is reported of a rest that is no frame or line, after so many frames
+unfoldable pub IsStreamLine : Transport → ℕ → ℕ → List ℕ → List ℕ → Type 0
+IsStreamLine t limit frames rest line =
+    ((e : Excess) × (front t limit rest ≡ Exceeds e) × (line ≡ excess_text limit (frames + 1) e))
+    ⊎ ((t ≡ Frames) × (front t limit rest ≡ Part) × (rest ≡ [] → ⊥) × (line ≡ left_text frames (length rest)))
+
+-- nothing, or at the end of the input the LF that the last line lacks
+abbrev pub IsClosing : Transport → List ℕ → Option (List ℕ) → Type 0
+IsClosing t closing left = (closing ≡ []) ⊎ ((closing ≡ at_end t []) × IsAtEnd left)
 
 -- this count of faults has risen
 abbrev pub HasRisen : Broken → ℕ → ℕ → ℕ → ℕ → Type 0
@@ -73,8 +89,13 @@ pub record Breaks (broken : Broken) (c : Terms) (a b : Moment) : Type 0 where
   pub frames : List (List ℕ)
   pub more : List ℕ
   pub last : List ℕ
+  pub closing : List ℕ
   pub consumed : Consumes a.left b.left read
-  pub split : a.held ++ read ≡ flat_map framed frames ++ more
-  pub each : All (λ frame. length frame ≤ c.limit) frames
+  pub split : Spans c.input c.limit (a.held ++ (read ++ closing)) frames more
+  pub closing_is : IsClosing c.input closing b.left
   pub cut : CutsOff broken c a b frames last
-  pub last_is : (last ≡ []) ⊎ IsStreamLine c.limit (a.frames + length frames) more last
+  pub last_is : (last ≡ []) ⊎ IsStreamLine c.input c.limit (a.frames + length frames) more last
+
+-- and that before the end of the input was taken for an LF
+abbrev pub BreaksBefore : Broken → Terms → Moment → Moment → Type 0
+BreaksBefore broken c a b = (x : Breaks broken c a b) × (x.closing ≡ [])

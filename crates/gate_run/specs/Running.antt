@@ -90,7 +90,7 @@ HasObeyed drives sources outputs reports command files input output report files
 
 -- by what the words say of the stream and what is declared
 abbrev pub terms_of : StreamJob → Start → Terms
-terms_of job start = terms start.schema start.service job.doing job.limit
+terms_of job start = terms start.schema start.service job.doing job.limit job.input job.output
 
 abbrev pub StartsStream : {F I O E : Type 0} → Files F → Source I → Sink O → Sink E → StreamJob → F → I → O → E → F → I → O → E → Ending → Type 0
 StartsStream drives sources outputs reports job files input output report files' input' output' report' ending =

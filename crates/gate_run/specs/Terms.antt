@@ -1,6 +1,8 @@
--- What is done with the frames of a stream, and by which declarations.
+-- What is done with the messages of a stream, in frames or on lines, and by which declarations.
 use Rattle.std.specs.Prelude.{ℕ, List, Option}
 use Rattle.protocol_traits.specs.declared.proto.Proto.{Proto}
+use Rattle.line_transport.specs.declared.transport.Transport.{Transport}
+use Rattle.line_transport.specs.declared.transport.Transport.TheVariants.{Frames}
 use Rattle.type_tables.specs.declared.declared.ServiceId.{ServiceId}
 use Rattle.type_tables.specs.Declarations.{Declarations}
 use Rattle.translate_core.specs.declared.route.Route.TheVariants.{ByName}
@@ -16,24 +18,28 @@ use Rattle.gate_run.specs.declared.task.Doing.TheVariants.{Convert, Show, Confor
 use Rattle.gate_run.specs.declared.start.Start.{Start}
 use Rattle.gate_run.specs.Findings.{finding}
 
--- what is declared, the service of names that have none before them, what is done with a frame, and the most bytes of one
+-- what is declared, the service of names that have none before them, what is done with a frame, the most bytes of one, and how
+-- messages stand on the input and on the output
 pub record Terms : Type 0 where
   pub declarations : Declarations
   pub service : Option ServiceId
   pub doing : Doing
   pub limit : ℕ
+  pub input : Transport
+  pub output : Transport
 
-abbrev pub terms : Declarations → Option ServiceId → Doing → ℕ → Terms
-terms d service doing limit = record { declarations = d; service = service; doing = doing; limit = limit }
+abbrev pub terms : Declarations → Option ServiceId → Doing → ℕ → Transport → Transport → Terms
+terms d service doing limit input output = record { declarations = d; service = service; doing = doing; limit = limit; input = input; output = output }
 
 abbrev pub converting : Start → Conversion → Terms
-converting start c = terms start.schema start.service (Convert c.from c.to) c.limit
+converting start c = terms start.schema start.service (Convert c.from c.to) c.limit c.input c.output
 
+-- a line that is shown, or that says that a message meets what is declared of it, is no message
 abbrev pub showing : Start → ShowWords → Terms
-showing start s = terms start.schema start.service (Show s.from) s.limit
+showing start s = terms start.schema start.service (Show s.from) s.limit s.input Frames
 
 abbrev pub conforming : Start → Conforming → Terms
-conforming start c = terms start.schema start.service (Conform c.from) c.limit
+conforming start c = terms start.schema start.service (Conform c.from) c.limit Frames Frames
 
 -- the verdict on a frame that is translated, with what is written of it
 abbrev pub judged_by : Terms → Proto → Proto → List ℕ → Judged

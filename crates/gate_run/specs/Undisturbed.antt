@@ -1,8 +1,8 @@
 -- What the laws say of commands that nothing disturbs: what they start from, which faults there are not, and how they end.
-use Rattle.std.specs.Prelude.{◌≡◌, ◌^◌, ◌<◌, ◌⊎◌, ℕ, List, [], true, false, Option, None, Some, Ok, length}
+use Rattle.std.specs.Prelude.{◌≡◌, ◌^◌, ◌<◌, ◌⊎◌, ℕ, List, true, false, Option, None, Some, Ok, length}
 use Rattle.std.specs.Io.KnownBytes.{Appends}
 use Rattle.gate_base.specs.Causes.{Rose}
-use Rattle.framed_transport.specs.Frames.{Splits}
+use Rattle.line_transport.specs.Cuts.{CutsAll}
 use Rattle.gate_hub.specs.Hubs.{NotStarted}
 use Rattle.gate_hub.specs.Meaning.{Meaning}
 use Rattle.gate_hub.specs.declared.hub.Hub.{Ghosts as Hub}
@@ -28,14 +28,14 @@ use Rattle.gate_run.specs.declared.stream.TheConstants.{MOST_BYTES}
 
 -- ---- streams and files
 
--- the input is fewer than 2^63 - 1 bytes of whole frames, of which none is refused
+-- the input is fewer than 2^63 - 1 bytes of whole frames, or of lines, of which none is refused
 pub record IsGoodStream (k : Terms) (left : Option (List ℕ)) : Type 0 where
   pub bytes : List ℕ
   pub frames : List (List ℕ)
   pub small : k.limit < 2 ^ 31
   pub told : left ≡ Some bytes
   pub few : length bytes < MOST_BYTES
-  pub splits : Splits k.limit bytes frames []
+  pub cuts : CutsAll k.input k.limit bytes frames
   pub passed : any_refused k frames ≡ false
 
 -- neither the output nor the report failed

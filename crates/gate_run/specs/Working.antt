@@ -1,11 +1,14 @@
 -- The work on a stream and what its calls do.
-use Rattle.std.specs.Prelude.{◌≡◌, ℕ, ◌+◌, ◌^◌, ◌<◌, ◌≤◌, ◌⊎◌, ℤ, List, [], ◌++◌, length, Bool, true, false, Option, Some, None, Result, Ok, Err, ⊤}
+use Rattle.std.specs.Prelude.{◌≡◌, ℕ, ◌+◌, ◌^◌, ◌<◌, ◌≤◌, ◌⊎◌, List, [], ◌++◌, length, Bool, true, false, Option, Some, None, Result, Ok, Err, ⊤}
 use Rattle.std.specs.Io.KnownBytes.{Appends, IsAtEnd, append_known}
 use Rattle.gate_base.specs.Causes.{Rose}
-use Rattle.framed_transport.specs.Front.{front, Part, Large}
-use Rattle.gate_run.specs.Progress.{Moment, Goes, Breaks, IsStreamLine}
+use Rattle.line_transport.specs.Front.{front, Part, Exceeds}
+use Rattle.line_transport.specs.declared.transport.Excess.{Excess}
+use Rattle.line_transport.specs.declared.transport.Transport.TheVariants.{Frames}
+use Rattle.gate_run.specs.Progress.{Moment, Goes, GoesToEnd, Breaks, BreaksBefore, IsStreamLine}
 use Rattle.gate_io.specs.Buffer.{Buffer}
 use Rattle.gate_run.specs.Endings.{last_line}
+use Rattle.gate_run.specs.Lines.{left_text}
 use Rattle.gate_run.specs.Terms.{Terms}
 use Rattle.gate_io.specs.Fronts.{AppendsFront, Flushed}
 use Rattle.gate_io.specs.declared.byte_streams.Sink.{Ghosts as Sink}
@@ -80,14 +83,19 @@ IsRoomy (Conform from) limit room = room ≡ framed_room limit
 
 -- ---- the work
 
--- its rooms serve for frames of the limit, and its counts are at most the bytes taken
+-- its rooms serve for frames of the limit, and its counts are at most the bytes taken and the LF that the last line lacks
 pub record IsReady (k : Terms) (work : Work) : Type 0 where
-  pub limit_is : work.frames.limit ≡ k.limit
+  pub limit_is : work.inbox.limit ≡ k.limit
+  pub transport_is : work.inbox.transport ≡ k.input
   pub page : IsRoomy k.doing k.limit work.page.out.room
   pub lines : work.lines.room ≡ LINES_ROOM
   pub handler : IsHandler k work.handler
-  pub counted : work.number + length work.frames.held ≤ work.taken
+  pub counted : work.number + length work.inbox.held ≤ work.taken + 1
   pub taken : work.taken < 2 ^ 63
+
+-- the counts are at most the bytes taken
+abbrev pub IsCounted : Work → Type 0
+IsCounted work = work.number + length work.inbox.held ≤ work.taken
 
 -- nothing waits to be written
 pub record IsFlushed (work : Work) : Type 0 where
@@ -95,7 +103,7 @@ pub record IsFlushed (work : Work) : Type 0 where
   pub lines : work.lines.bytes ≡ []
 
 pub record IsStart (work : Work) : Type 0 where
-  pub held : work.frames.held ≡ []
+  pub held : work.inbox.held ≡ []
   pub number : work.number ≡ 0
   pub taken : work.taken ≡ 0
   pub refused : work.refused ≡ false
@@ -103,12 +111,12 @@ pub record IsStart (work : Work) : Type 0 where
 
 -- less than a frame is held, and there is room for more
 pub record IsWaiting (k : Terms) (held : List ℕ) : Type 0 where
-  pub part : front k.limit held ≡ Part
+  pub part : front k.input k.limit held ≡ Part
   pub room : length held < k.limit + 4
 
 abbrev pub moment : Work → Option (List ℕ) → Option (List ℕ) → Option (List ℕ) → Moment
 moment work left written reported =
-    record { left = left; written = written; reported = reported; held = work.frames.held; frames = work.number; taken = work.taken; refused = work.refused }
+    record { left = left; written = written; reported = reported; held = work.inbox.held; frames = work.number; taken = work.taken; refused = work.refused }
 
 -- from one moment to a later one, in which these bytes wait for the output and for the report: all that is to be written and
 -- reported of the first frames was, and nothing was reported of the others
@@ -160,17 +168,17 @@ MakesRoomOn outputs reports result page lines output report page' lines' output'
 
 -- ---- the frames that are held
 
--- less than a frame is held, or the next length is too large; what there was room for waits
-abbrev pub Handles : Terms → Moment → Moment → List ℕ → List ℕ → Result (Option ℤ) Broken → Type 0
+-- less than a frame is held, or what none may begin with; what there was room for waits
+abbrev pub Handles : Terms → Moment → Moment → List ℕ → List ℕ → Result (Option Excess) Broken → Type 0
 Handles k a b out waiting (Ok None) = Waits k a b out waiting × IsWaiting k b.held
-Handles k a b out waiting (Ok (Some n)) = Waits k a b out waiting × (front k.limit b.held ≡ Large n)
-Handles k a b out waiting (Err broken) = Breaks broken k a b
+Handles k a b out waiting (Ok (Some e)) = Waits k a b out waiting × (front k.input k.limit b.held ≡ Exceeds e)
+Handles k a b out waiting (Err broken) = BreaksBefore broken k a b
 
 -- the same with all of it written
-abbrev pub Drains : Terms → Moment → Moment → Result (Option ℤ) Broken → Type 0
+abbrev pub Drains : Terms → Moment → Moment → Result (Option Excess) Broken → Type 0
 Drains k a b (Ok None) = Goes k a b × IsWaiting k b.held
-Drains k a b (Ok (Some n)) = Goes k a b × (front k.limit b.held ≡ Large n)
-Drains k a b (Err broken) = Breaks broken k a b
+Drains k a b (Ok (Some e)) = Goes k a b × (front k.input k.limit b.held ≡ Exceeds e)
+Drains k a b (Err broken) = BreaksBefore broken k a b
 
 abbrev pub Takes : Terms → Moment → Moment → Got → Type 0
 Takes k a b (got.Bytes n) = Goes k a b × (a.taken < b.taken)
@@ -179,16 +187,20 @@ Takes k a b got.Failed = Goes k a b × IsWaiting k b.held
 
 -- ---- how the work ends
 
+-- less than a frame is held, and not nothing
+abbrev pub IsLeft : Moment → Type 0
+IsLeft a = a.held ≡ [] → ⊥
+
 -- the line of the rest was written after all the others
 pub record EndsInRest (k : Terms) (a b : Moment) : Type 0 where
   pub mid : Moment
   pub line : List ℕ
   pub goes : Goes k a mid
-  pub line_is : IsStreamLine k.limit mid.frames mid.held line
+  pub line_is : IsStreamLine k.input k.limit mid.frames mid.held line
   pub written : b.written ≡ mid.written
   pub reported : Appends mid.reported b.reported line
   pub left : b.left ≡ mid.left
-  pub at_end : ((n : ℤ) × (front k.limit mid.held ≡ Large n)) ⊎ IsAtEnd mid.left
+  pub at_end : ((e : Excess) × (front k.input k.limit mid.held ≡ Exceeds e)) ⊎ ((k.input ≡ Frames) × IsAtEnd mid.left)
 
 -- the last line of a read fault and of a spent budget was reported, or a front of it; other endings have none
 abbrev pub Closes : Ending → Option (List ℕ) → Option (List ℕ) → ℕ → ℕ → Type 0
@@ -204,8 +216,8 @@ Closes endings.HubFault old new before now = new ≡ old
 Closes endings.OutOfMemory old new before now = new ≡ old
 
 abbrev pub Ends : Terms → Moment → Moment → Result Ending Broken → Type 0
-Ends k a b (Ok endings.Done) = Goes k a b × (b.held ≡ []) × (b.refused ≡ false) × IsAtEnd b.left
-Ends k a b (Ok endings.Refused) = Goes k a b × (b.held ≡ []) × (b.refused ≡ true) × IsAtEnd b.left
+Ends k a b (Ok endings.Done) = GoesToEnd k a b × (b.refused ≡ false)
+Ends k a b (Ok endings.Refused) = GoesToEnd k a b × (b.refused ≡ true)
 Ends k a b (Ok endings.StreamFault) = EndsInRest k a b
 Ends k a b (Ok endings.ReadFault) = Goes k a b × IsWaiting k b.held
 Ends k a b (Ok endings.BudgetSpent) = Goes k a b × IsWaiting k b.held × (b.taken ≡ MOST_BYTES)
@@ -224,13 +236,13 @@ TakesFrom sources k work input work' input' got =
     (written reported : Option (List ℕ)) → Takes k (moment work (sources.left input) written reported) (moment work' (sources.left input') written reported) got
 
 -- it handles the frames that are held, whatever the input is
-abbrev pub HandlesHeld : {O E : Type 0} → Sink O → Sink E → Terms → Work → O → E → Work → O → E → Result (Option ℤ) Broken → Type 0
+abbrev pub HandlesHeld : {O E : Type 0} → Sink O → Sink E → Terms → Work → O → E → Work → O → E → Result (Option Excess) Broken → Type 0
 HandlesHeld outputs reports k work output report work' output' report' result =
     (left : Option (List ℕ)) →
     Handles k (moment work left (outputs.written output) (reports.written report)) (moment work' left (outputs.written output') (reports.written report'))
     work'.page.out.bytes work'.lines.bytes result
 
-abbrev pub DrainsHeld : {O E : Type 0} → Sink O → Sink E → Terms → Work → O → E → Work → O → E → Result (Option ℤ) Broken → Type 0
+abbrev pub DrainsHeld : {O E : Type 0} → Sink O → Sink E → Terms → Work → O → E → Work → O → E → Result (Option Excess) Broken → Type 0
 DrainsHeld outputs reports k work output report work' output' report' result =
     (left : Option (List ℕ)) →
     Drains k (moment work left (outputs.written output) (reports.written report)) (moment work' left (outputs.written output') (reports.written report')) result
@@ -240,10 +252,24 @@ abbrev pub EndsOn : {E : Type 0} → Sink E → Terms → Work → E → Work �
 EndsOn reports k work report work' report' result =
     (left written : Option (List ℕ)) → Ends k (moment work left written (reports.written report)) (moment work' left written (reports.written report')) result
 
--- the same where the input is at its end
-abbrev pub FinishesOn : {E : Type 0} → Sink E → Terms → Work → E → Work → E → Result Ending Broken → Type 0
-FinishesOn reports k work report work' report' result =
-    (left written : Option (List ℕ)) → IsAtEnd left → Ends k (moment work left written (reports.written report)) (moment work' left written (reports.written report')) result
+-- the input is at its end, and its last line is handled
+abbrev pub FinishesOn : {O E : Type 0} → Sink O → Sink E → Terms → Work → O → E → Work → O → E → Result Ending Broken → Type 0
+FinishesOn outputs reports k work output report work' output' report' result =
+    (left : Option (List ℕ)) → IsAtEnd left →
+    Ends k (moment work left (outputs.written output) (reports.written report)) (moment work' left (outputs.written output') (reports.written report')) result
+
+-- nothing is held, and nothing more was written and reported; or less than a frame is held, which was reported, or a front of that line was
+abbrev pub Concludes : Moment → Moment → Result Ending Broken → Type 0
+Concludes a b (Ok endings.Done) = (b ≡ a) × (a.held ≡ []) × (a.refused ≡ false)
+Concludes a b (Ok endings.Refused) = (b ≡ a) × (a.held ≡ []) × (a.refused ≡ true)
+Concludes a b (Ok endings.StreamFault) = IsLeft a × (b.left ≡ a.left) × (b.written ≡ a.written) × Appends a.reported b.reported (left_text a.frames (length a.held))
+Concludes a b (Err streams.Report) = IsLeft a × (b.left ≡ a.left) × (b.written ≡ a.written) × AppendsFront a.reported b.reported (left_text a.frames (length a.held))
+Concludes a b (Err streams.Output) = ⊥
+Concludes a b (Ok ending) = ⊥
+
+abbrev pub ConcludesOn : {E : Type 0} → Sink E → Work → E → Work → E → Result Ending Broken → Type 0
+ConcludesOn reports work report work' report' result =
+    (left written : Option (List ℕ)) → Concludes (moment work left written (reports.written report)) (moment work' left written (reports.written report')) result
 
 -- it reads to the end or to a fault
 abbrev pub Processes : {I O E : Type 0} → Source I → Sink O → Sink E → Terms → Work → I → O → E → Work → I → O → E → Result Ending Broken → Type 0

@@ -32,14 +32,15 @@ use gate_io::{Files, Sink, Source};
 use gate_words::{
     Command, Declared, GREATEST_LIMIT, LEAST_LIMIT, MOST_CALLS, Serving, read_command,
 };
+use line_transport::Transport;
 use std::alloc::Global;
 
 /// Does what the words say. Words that are no command are answered with the usage.
 ///
 /// `check FILE` reads an IDL and what it includes, and writes how much is declared or reports the first thing that is wrong.
 /// `convert FROM TO [--idl FILE] [--service NAME] [--limit F]` reads frames of at most F bytes from the input, writes each
-/// message that passes, framed and in the plain spelling of the protocol TO, to the output, and reports each other frame.
-/// `show FROM` does the same with a line of text for each message in place of its frame, and `conform FROM --idl FILE` with a line
+/// message that passes, framed and in the plain spelling of the protocol TO, to the output, and reports each other frame. With
+/// `--lines SIDE` a message is a line on that side, which speaks JSON. `show FROM` does the same with a line of text for each message in place of its frame, and `conform FROM --idl FILE` with a line
 /// for each message that meets what the IDL declares of it. `serve CLIENT UPSTREAM LISTEN TARGET` starts the hub, lets clients of one
 /// protocol talk to an upstream of another, and writes one line for each session as soon as it ends. `route CLIENT UPSTREAM LISTEN TARGETS`
 /// does so over the fan for clients whose calls name their services, and leads each call to its service's target. `drill SEED COUNT`
@@ -125,29 +126,32 @@ fn obey<I: Source, O: Sink, E: Sink, F: Files, H: Hub, G: Fan>(
         Command::Check(file) => check(alloc, file.as_slice(), files, output, report),
         Command::Convert(k, declared) => {
             let (from, to, limit) = (k.from, k.to, k.limit);
-            let doing = Doing::Convert { from, to };
             let job = StreamJob {
                 declared,
-                doing,
+                doing: Doing::Convert { from, to },
                 limit,
+                input: k.input,
+                output: k.output,
             };
             start_stream(alloc, &job, files, input, output, report)
         }
         Command::Show(k, declared) => {
-            let (doing, limit) = (Doing::Show { from: k.from }, k.limit);
             let job = StreamJob {
                 declared,
-                doing,
-                limit,
+                doing: Doing::Show { from: k.from },
+                limit: k.limit,
+                input: k.input,
+                output: Transport::Frames,
             };
             start_stream(alloc, &job, files, input, output, report)
         }
         Command::Conform(k, declared) => {
-            let (doing, limit) = (Doing::Conform { from: k.from }, k.limit);
             let job = StreamJob {
                 declared,
-                doing,
-                limit,
+                doing: Doing::Conform { from: k.from },
+                limit: k.limit,
+                input: Transport::Frames,
+                output: Transport::Frames,
             };
             start_stream(alloc, &job, files, input, output, report)
         }
@@ -164,12 +168,15 @@ fn obey<I: Source, O: Sink, E: Sink, F: Files, H: Hub, G: Fan>(
     }
 }
 
-/// What the words of a command say of a stream: what is declared for it, what is done with each frame, and the most bytes of one.
+/// What the words of a command say of a stream: what is declared for it, what is done with each frame, the most bytes of one, and how
+/// messages stand on the input and on the output.
 #[derive(Clone, Copy)]
 pub struct StreamJob<'w> {
     declared: &'w Declared,
     doing: Doing,
     limit: usize,
+    input: Transport,
+    output: Transport,
 }
 
 /// What the words of a command say of a server, and what is declared for its messages.
@@ -218,7 +225,14 @@ fn go_through<I: Source, O: Sink, E: Sink>(
     ensures output_later { O.faults output.old ≤ O.faults output.new }
     ensures report_later { E.faults report.old ≤ E.faults report.new }
 {
-    let task = Task::new(&start.schema, start.service, job.doing, job.limit);
+    let task = Task::new(
+        &start.schema,
+        start.service,
+        job.doing,
+        job.limit,
+        job.input,
+        job.output,
+    );
     stream(alloc, &task, input, output, report)
 }
 

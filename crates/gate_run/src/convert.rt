@@ -1,4 +1,4 @@
-//! A frame that is converted: its message in the other protocol, in a frame of its own.
+//! A frame that is converted: its message in the other protocol, in a frame or on a line of its own.
 ghost use Rattle.std.specs.Prelude.{◌≡◌, ◌+◌, ◌^◌, ◌<◌, ◌≤◌, ◌++◌, Option, List, ℕ, length};
 ghost use Rattle.gate_run.specs.Handling.{translated, sent_by};
 ghost use Rattle.gate_run.specs.Rooms.{framed_room};
@@ -7,8 +7,8 @@ ghost use Rattle.gate_run.specs.Working.{Treats};
 
 use crate::frame::Treatment;
 use crate::task::Task;
-use framed_transport::{begin, close};
 use gate_io::Out;
+use line_transport::{begin, close};
 use protocol_traits::Proto;
 use translate_core::{Cause, Verdict};
 
@@ -25,19 +25,19 @@ pub fn convert_frame(
     requires size { length frame.now < 2 ^ 31 }
     requires fits { length out.old.bytes + framed_room (length frame.now) ≤ out.old.room }
     requires small { out.old.room < 2 ^ 31 }
-    ensures treated { (w : Option (List ℕ)) → Treats result (translated (judged_by task.now from to frame.now)) w out.old.bytes w out.new.bytes }
+    ensures treated { (w : Option (List ℕ)) → Treats result (translated task.now.output (judged_by task.now from to frame.now)) w out.old.bytes w out.new.bytes }
     ensures room { out.new.room ≡ out.old.room }
     ensures written { result ≡ Treatment.WriteFault → ⊥ }
 {
-    match translate_framed(task, from, to, frame, room, out) {
+    match translate_sent(task, from, to, frame, room, out) {
         Verdict::Passed(_) => Treatment::Passed,
         Verdict::Refused(_, cause) => Treatment::Refused(cause),
         Verdict::Unread(fault) => Treatment::Refused(Cause::Grammar(fault)),
     }
 }
 
-// Appends what is to be sent of a frame, with its length, or nothing where it doesn't pass.
-fn translate_framed(
+// Appends what is to be sent of a frame, with its length or an LF, or nothing where it doesn't pass.
+fn translate_sent(
     task: &Task<'_>,
     from: Proto,
     to: Proto,
@@ -50,15 +50,16 @@ fn translate_framed(
     requires fits { length out.old.bytes + framed_room (length frame.now) ≤ out.old.room }
     requires small { out.old.room < 2 ^ 31 }
     ensures verdict { result ≡ (judged_by task.now from to frame.now).verdict }
-    ensures appended { let j = judged_by task.now from to frame.now in out.new ≡ record out.old { bytes = out.old.bytes ++ sent_by j.verdict j.bytes } }
+    ensures appended { let j = judged_by task.now from to frame.now in out.new ≡ record out.old { bytes = out.old.bytes ++ sent_by task.now.output j.verdict j.bytes } }
 {
-    let at = begin(out);
+    let transport = task.output();
+    let at = begin(transport, out);
     let verdict = task.translate(from, to, frame, room, out);
     match verdict {
         Verdict::Passed(_) => {
             let end = out.bytes().len();
             prove!(end < 1 << 31);
-            close(out, at);
+            close(transport, out, at);
         }
         _ => out.cut(at),
     }

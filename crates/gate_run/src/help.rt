@@ -10,8 +10,8 @@ use gate_io::Sink;
 /// Each command with its words and options, a line each, below the line of the usage.
 const HELP: &[u8] = b"usage: thrift_gate check|convert|show|serve|drill|help
 check FILE
-convert FROM TO [--idl FILE] [--service NAME] [--limit F]
-show FROM [--idl FILE] [--service NAME] [--limit F]
+convert FROM TO [--idl FILE] [--service NAME] [--limit F] [--lines SIDE]
+show FROM [--idl FILE] [--service NAME] [--limit F] [--lines SIDE]
 serve CLIENT UPSTREAM LISTEN TARGET [--idl FILE] [--service NAME] [--limit F] [--sessions N] [--accept C] [--events E] [--calls P] [--unframed SIDE] [--front KIND]
 route CLIENT UPSTREAM LISTEN TARGETS [--idl FILE] [--limit F] [--sessions N] [--accept C] [--events E] [--calls P]
 conform FROM --idl FILE [--service NAME] [--limit F]

@@ -2,11 +2,12 @@
 ghost use Rattle.std.specs.Prelude.{◌≡◌, ◌+◌, ◌*◌, ◌≤◌, ◌++◌, length, decimal, codes};
 ghost use Rattle.std.specs.List.{flat_map};
 ghost use Rattle.conform_check.specs.Checking.{broken};
-ghost use Rattle.gate_run.specs.Lines.{refusal_text, too_large_text, left_text, meets_text, step_text, next_text, path_text, breach_line};
+ghost use Rattle.gate_run.specs.Lines.{refusal_text, too_large_text, over_text, excess_text, left_text, meets_text, step_text, next_text, path_text, breach_line};
 
 use conform_check::{Breach, Step, breach_text};
 use decimal_words::push_number;
 use gate_io::Out;
+use line_transport::Excess;
 use protocol_traits::DEPTH;
 
 /// The room for each line of the report. The longest tells a breach whose path has a step for each of the levels of a message.
@@ -122,7 +123,7 @@ fn push_place(lines: &mut Out, word: &[u8], place: u32)
 
 /// Says that the length of the next frame is negative or above the limit.
 #[tactic(auto, unfolding(crate::specs::Lines::too_large_text))]
-pub fn too_large(line: &mut Out, number: u64, length: i32)
+fn too_large(line: &mut Out, number: u64, length: i32)
     requires { LINE_ROOM ≤ line.old.room }
     ensures { line.new ≡ record line.old { bytes = too_large_text number length } }
 {
@@ -132,6 +133,31 @@ pub fn too_large(line: &mut Out, number: u64, length: i32)
     line.push(b": length ");
     push_number(line, length);
     line.push(b"\n");
+}
+
+/// Says that the next line is longer than so many bytes.
+#[tactic(auto, unfolding(crate::specs::Lines::over_text))]
+fn over(line: &mut Out, number: u64, limit: usize)
+    requires { LINE_ROOM ≤ line.old.room }
+    ensures { line.new ≡ record line.old { bytes = over_text number limit } }
+{
+    line.clear();
+    line.push(b"stream: frame ");
+    push_number(line, number);
+    line.push(b": over ");
+    push_number(line, limit);
+    line.push(b" bytes\n");
+}
+
+/// Says how the next frame or line is too large.
+pub fn excess(line: &mut Out, number: u64, limit: usize, excess: Excess)
+    requires { LINE_ROOM ≤ line.old.room }
+    ensures { line.new ≡ record line.old { bytes = excess_text limit number excess } }
+{
+    match excess {
+        Excess::Length(length) => too_large(line, number, length),
+        Excess::Line => over(line, number, limit),
+    }
 }
 
 /// Says that bytes are left that are no whole frame.

@@ -5,12 +5,12 @@
 //! do: the output first, and then the lines of the report.
 ghost use Rattle.std.specs.Prelude.{◌≡◌, ◌+◌, ◌^◌, ◌<◌, ◌≤◌, [], ℕ, None, Some, length, IfOk, IfErr, OnOk};
 ghost use Rattle.gate_base.specs.Causes.{Rose};
-ghost use Rattle.framed_transport.specs.Front.{front, Large};
+ghost use Rattle.line_transport.specs.Front.{front, Exceeds};
 ghost use Rattle.gate_run.specs.Calls.{OnStreams};
 ghost use Rattle.gate_run.specs.Outcome.{Streamed};
 ghost use Rattle.gate_run.specs.Progress.{HasRisen};
 ghost use Rattle.gate_run.specs.Rooms.{framed_room};
-ghost use Rattle.gate_run.specs.Working.{IsReady, IsFlushed, IsStart, IsWaiting, Closes, TakesFrom, HandlesHeld, DrainsHeld, EndsOn, FinishesOn, Processes, WritesBothOn, MakesRoomOn};
+ghost use Rattle.gate_run.specs.Working.{IsReady, IsCounted, IsFlushed, IsStart, IsWaiting, Closes, TakesFrom, HandlesHeld, DrainsHeld, EndsOn, FinishesOn, ConcludesOn, Processes, WritesBothOn, MakesRoomOn};
 
 use crate::frame::{WriteFault, handle};
 use crate::handler::Handler;
@@ -18,10 +18,10 @@ use crate::lines::{self, LINE_ROOM};
 use crate::page::Page;
 use crate::status::{Ending, end_with};
 use crate::task::Task;
-use framed_transport::{FrameBuf, Next};
 use gate_base::OutOfMemory;
 use gate_io::{Got, Out, Sink, Source, Wrote, flush, write_all};
 use gate_words::GREATEST_LIMIT;
+use line_transport::{Excess, MessageBuf, Next};
 use std::alloc::Global;
 
 /// At most so many bytes are read.
@@ -36,7 +36,7 @@ pub struct Work<'s> {
     /// What handles each frame.
     handler: Handler<'s>,
     /// The bytes that were read and not handled.
-    frames: FrameBuf,
+    inbox: MessageBuf,
     /// What waits for the output.
     page: Page,
     /// The lines that wait for the report.
@@ -104,7 +104,7 @@ impl<'s> Work<'s> {
     {
         Ok(Work {
             handler: Handler::open(alloc, task)?,
-            frames: FrameBuf::open(alloc, task.limit())?,
+            inbox: MessageBuf::open(alloc, task.input(), task.limit())?,
             page: Page::open(alloc, framed_room(task.limit()))?,
             lines: Out::open(alloc, LINES_ROOM)?,
             taken: 0,
@@ -151,8 +151,9 @@ impl<'s> Work<'s> {
         requires limit { task.now.limit ≤ GREATEST_LIMIT }
         requires room { task.now.limit ≤ length room.old }
         requires ready { IsReady task.now self.old }
+        requires counted { IsCounted self.old }
         requires flushed { IsFlushed self.old }
-        requires waiting { IsWaiting task.now self.old.frames.held }
+        requires waiting { IsWaiting task.now self.old.inbox.held }
         ensures ended { Processes I.Source O.Sink E.Sink task.now self.old input.old output.old report.old self.new input.new output.new report.new result }
         ensures input_later { I.faults input.old ≤ I.faults input.new }
         ensures later { O.faults output.old ≤ O.faults output.new }
@@ -163,10 +164,10 @@ impl<'s> Work<'s> {
         'pieces: while self.taken < MOST_BYTES {
             match self.take(task, input) {
                 Got::Failed => return Ok(Ending::ReadFault),
-                Got::End => return self.finish(task, report),
+                Got::End => return self.finish(task, room, output, report),
                 Got::Bytes(_) => match self.drain(task, room, output, report) {
                     Ok(None) => (),
-                    Ok(Some(length)) => return self.too_large(task, length, report),
+                    Ok(Some(excess)) => return self.exceed(task, excess, report),
                     Err(broken) => return Err(broken),
                 },
             }
@@ -177,7 +178,7 @@ impl<'s> Work<'s> {
     // Reads once, and holds what came.
     fn take<I: Source>(&mut self, task: &Task<'_>, input: &mut I) -> Got
         requires ready { IsReady task.now self.old }
-        requires waiting { IsWaiting task.now self.old.frames.held }
+        requires waiting { IsWaiting task.now self.old.inbox.held }
         requires budget { self.old.taken < MOST_BYTES }
         ensures ready { IsReady task.now self.new }
         ensures page { self.new.page ≡ self.old.page }
@@ -187,7 +188,7 @@ impl<'s> Work<'s> {
         ensures cause { result ≡ Got.Failed → Rose (I.faults input.old) (I.faults input.new) }
     {
         let most = (MOST_BYTES - self.taken) as usize;
-        match self.frames.read_from(input, most) {
+        match self.inbox.read_from(input, most) {
             Got::Bytes(count) => {
                 self.taken += count as u64;
                 Got::Bytes(count)
@@ -197,14 +198,14 @@ impl<'s> Work<'s> {
         }
     }
 
-    // Handles each whole frame that is held, and writes what was gathered of them. Gives the next length where it is too large.
+    // Handles each whole frame that is held, and writes what was gathered of them. Tells where the next one is too large.
     fn drain<O: Sink, E: Sink>(
         &mut self,
         task: &Task<'_>,
         room: &mut [u8],
         output: &mut O,
         report: &mut E,
-    ) -> Result<Option<i32>, Broken>
+    ) -> Result<Option<Excess>, Broken>
         requires limit { task.now.limit ≤ GREATEST_LIMIT }
         requires room { task.now.limit ≤ length room.old }
         requires ready { IsReady task.now self.old }
@@ -217,22 +218,22 @@ impl<'s> Work<'s> {
         ensures cause { IfErr result (λ broken. HasRisen broken (O.faults output.old) (O.faults output.new) (E.faults report.old) (E.faults report.new)) }
     {
         match self.handle_frames(task, room, output, report) {
-            Ok(large) => match flush_both(&mut self.page, &mut self.lines, output, report) {
-                Ok(()) => Ok(large),
+            Ok(excess) => match flush_both(&mut self.page, &mut self.lines, output, report) {
+                Ok(()) => Ok(excess),
                 Err(broken) => Err(broken),
             },
             Err(broken) => Err(broken),
         }
     }
 
-    // Handles each whole frame that is held. What there is room for is gathered. Gives the next length where it is too large.
+    // Handles each whole frame that is held. What there is room for is gathered. Tells where the next one is too large.
     fn handle_frames<O: Sink, E: Sink>(
         &mut self,
         task: &Task<'_>,
         room: &mut [u8],
         output: &mut O,
         report: &mut E,
-    ) -> Result<Option<i32>, Broken>
+    ) -> Result<Option<Excess>, Broken>
         requires limit { task.now.limit ≤ GREATEST_LIMIT }
         requires room { task.now.limit ≤ length room.old }
         requires ready { IsReady task.now self.old }
@@ -244,10 +245,11 @@ impl<'s> Work<'s> {
         ensures cause { IfErr result (λ broken. HasRisen broken (O.faults output.old) (O.faults output.new) (E.faults report.old) (E.faults report.new)) }
     {
         'frames: loop {
-            let frame = match self.frames.frame() {
+            self.inbox.pass_over();
+            let frame = match self.inbox.message() {
                 Next::NeedMore => return Ok(None),
-                Next::TooLarge(length) => return Ok(Some(length)),
-                Next::Frame(frame) => frame,
+                Next::Exceeds(excess) => return Ok(Some(excess)),
+                Next::Message(frame) => frame,
             };
             let wanted = framed_room(frame.len());
             match make_room(&mut self.page, &mut self.lines, wanted, output, report) {
@@ -270,20 +272,48 @@ impl<'s> Work<'s> {
             };
             self.number = number;
             self.refused |= !passed;
-            self.frames.drop_frame();
+            self.inbox.drop_message();
         }
     }
 
-    // Ends the work at the end of the input.
-    fn finish<E: Sink>(&mut self, task: &Task<'_>, report: &mut E) -> Result<Ending, Broken>
+    // Ends the work at the end of the input: handles the last line where it has no LF.
+    fn finish<O: Sink, E: Sink>(
+        &mut self,
+        task: &Task<'_>,
+        room: &mut [u8],
+        output: &mut O,
+        report: &mut E,
+    ) -> Result<Ending, Broken>
+        requires limit { task.now.limit ≤ GREATEST_LIMIT }
+        requires room { task.now.limit ≤ length room.old }
         requires ready { IsReady task.now self.old }
-        requires waiting { IsWaiting task.now self.old.frames.held }
-        ensures ended { FinishesOn E.Sink task.now self.old report.old self.new report.new result }
+        requires counted { IsCounted self.old }
+        requires flushed { IsFlushed self.old }
+        requires waiting { IsWaiting task.now self.old.inbox.held }
+        ensures ended { FinishesOn O.Sink E.Sink task.now self.old output.old report.old self.new output.new report.new result }
+        ensures later { O.faults output.old ≤ O.faults output.new }
+        ensures report_later { E.faults report.old ≤ E.faults report.new }
+        ensures no_read_fault { IfOk result (λ ending. ending ≡ Ending.ReadFault → ⊥) }
+        ensures cause { IfErr result (λ broken. HasRisen broken (O.faults output.old) (O.faults output.new) (E.faults report.old) (E.faults report.new)) }
+    {
+        self.inbox.end();
+        match self.drain(task, room, output, report) {
+            Ok(None) => self.conclude(task, report),
+            Ok(Some(excess)) => self.exceed(task, excess, report),
+            Err(broken) => Err(broken),
+        }
+    }
+
+    // Ends the work where the input is at its end and all of it was handled, but for a frame that isn't whole.
+    fn conclude<E: Sink>(&mut self, task: &Task<'_>, report: &mut E) -> Result<Ending, Broken>
+        requires ready { IsReady task.now self.old }
+        requires waiting { IsWaiting task.now self.old.inbox.held }
+        ensures ended { ConcludesOn E.Sink self.old report.old self.new report.new result }
         ensures later { E.faults report.old ≤ E.faults report.new }
         ensures no_read_fault { IfOk result (λ ending. ending ≡ Ending.ReadFault → ⊥) }
         ensures cause { (before now : ℕ) → IfErr result (λ broken. HasRisen broken before now (E.faults report.old) (E.faults report.new)) }
     {
-        let count = self.frames.held();
+        let count = self.inbox.held();
         if count > 0 {
             lines::left(&mut self.lines, self.number, count);
             return match write_all(report, self.lines.bytes()) {
@@ -298,21 +328,21 @@ impl<'s> Work<'s> {
         }
     }
 
-    // Ends the work at a length that is too large.
-    fn too_large<E: Sink>(
+    // Ends the work at a length that is too large, or at a line that is longer than the limit.
+    fn exceed<E: Sink>(
         &mut self,
         task: &Task<'_>,
-        length: i32,
+        excess: Excess,
         report: &mut E,
     ) -> Result<Ending, Broken>
         requires ready { IsReady task.now self.old }
-        requires large { front task.now.limit self.old.frames.held ≡ Large length }
+        requires large { front task.now.input task.now.limit self.old.inbox.held ≡ Exceeds excess }
         ensures ended { EndsOn E.Sink task.now self.old report.old self.new report.new result }
         ensures later { E.faults report.old ≤ E.faults report.new }
         ensures no_read_fault { IfOk result (λ ending. ending ≡ Ending.ReadFault → ⊥) }
         ensures cause { (before now : ℕ) → IfErr result (λ broken. HasRisen broken before now (E.faults report.old) (E.faults report.new)) }
     {
-        lines::too_large(&mut self.lines, self.number + 1, length);
+        lines::excess(&mut self.lines, self.number + 1, task.limit(), excess);
         match write_all(report, self.lines.bytes()) {
             Wrote::All => Ok(Ending::StreamFault),
             Wrote::Failed => Err(Broken::Report),

@@ -1,4 +1,4 @@
-//! What is done with the frames of a stream, and by which declarations.
+//! What is done with the messages of a stream, and by which declarations.
 ghost use Rattle.std.specs.Prelude.{◌≡◌, ◌+◌, ◌*◌, ◌^◌, ◌<◌, ◌≤◌, IfOk, IfSome, length};
 ghost use Rattle.gate_base.specs.Causes.{Rose};
 ghost use Rattle.translate_core.specs.Judged.{IsJudged};
@@ -11,6 +11,7 @@ use crate::conform::FrameCheck;
 use conform_check::Checked;
 use gate_base::OutOfMemory;
 use gate_io::{Out, Sink};
+use line_transport::Transport;
 use message_show::{Shown, show};
 use protocol_pairs::translate;
 use protocol_traits::Proto;
@@ -37,6 +38,8 @@ pub struct Task<'s> {
     service: Option<ServiceId>,
     doing: Doing,
     limit: usize,
+    input: Transport,
+    output: Transport,
 }
 
 impl<'s> Model for Task<'s> {
@@ -45,28 +48,32 @@ impl<'s> Model for Task<'s> {
 
     ghost Value = { Terms };
 
-    ghost view = { λ t. terms t.schema.now t.service t.doing t.limit };
+    ghost view = { λ t. terms t.schema.now t.service t.doing t.limit t.input t.output };
 
     ghost invariant = { λ t. IfSome t.service (λ s. s.0 < length t.schema.now.services) };
 }
 
 impl<'s> Task<'s> {
-    /// A task for frames of at most `limit` bytes, in which names without a service before them are those of this service
-    /// of the schema.
+    /// A task for messages of at most `limit` bytes, in which names without a service before them are those of this service
+    /// of the schema, with how they stand on the input and on the output.
     pub fn new(
         schema: &'s Schema,
         service: Option<ServiceId>,
         doing: Doing,
         limit: usize,
+        input: Transport,
+        output: Transport,
     ) -> Task<'s>
         requires { IfSome service (λ s. s.0 < length schema.now.services) }
-        ensures { result ≡ terms schema.now service doing limit }
+        ensures { result ≡ terms schema.now service doing limit input output }
     {
         Task {
             schema,
             service,
             doing,
             limit,
+            input,
+            output,
         }
     }
 
@@ -75,6 +82,20 @@ impl<'s> Task<'s> {
         ensures { result ≡ self.now.limit }
     {
         self.limit
+    }
+
+    /// How messages stand on the input.
+    pub fn input(&self) -> Transport
+        ensures { result ≡ self.now.input }
+    {
+        self.input
+    }
+
+    /// How messages stand on the output.
+    pub fn output(&self) -> Transport
+        ensures { result ≡ self.now.output }
+    {
+        self.output
     }
 
     /// What is done with a frame.
@@ -98,6 +119,7 @@ impl<'s> Task<'s> {
         requires fits { length out.old.bytes + translated_room (length frame.now) ≤ out.old.room }
         ensures exact { IsJudged result out.old.bytes out.new.bytes (judged_by self.now from to frame.now) }
         ensures room { out.new.room ≡ out.old.room }
+        ensures short { length out.new.bytes ≤ length out.old.bytes + translated_room (length frame.now) }
     {
         let route = Route::ByName(self.service);
         translate(self.schema, route, from, to, frame, room, out)

@@ -87,6 +87,17 @@ const BREAKING: Row = Row {
     },
 };
 
+/// A call on a line of its own, behind an empty line.
+const LINED: Row = Row {
+    line: b"convert json json --limit 1024 --lines both",
+    input: b"\n[1,\"ping\",1,1,{}]\n",
+    ending: Ending {
+        code: 0,
+        output: b"[1,\"ping\",1,1,{}]\n",
+        report: b"",
+    },
+};
+
 /// The file that `calc.thrift` includes.
 const SHARED_FILE: &[u8] =
     b"namespace * shared\nstruct SharedStruct { 1: i32 key  2: string value }\nservice SharedService { SharedStruct getStruct(1: i32 key) }\n";
@@ -213,6 +224,7 @@ fn a_fault_cuts_off_what_follows(rt: HostRuntime) -> Result<(), Fail> {
         (REFUSED, [5, 0, 7, 0]),
         (MEETING, [6, 3, 0, 2]),
         (BREAKING, [6, 0, 7, 2]),
+        (LINED, [4, 4, 0, 0]),
     ];
     for (row, counts) in rows {
         let is_cut = is_cut_everywhere(rt.alloc(), &row, counts)

@@ -1,4 +1,4 @@
-//! The commands `check`, `convert` and `conform` on small inputs, and a body there and back.
+//! The commands `check`, `convert`, `show` and `conform` on small inputs, in frames and on lines, and a body there and back.
 ghost use Rattle.std.specs.Prelude.{◌≤◌, length};
 
 use crate::outside::{Ending, Outside, ends_as, with_input};
@@ -125,6 +125,75 @@ fn a_breach_of_the_declarations_is_told(rt: HostRuntime) -> Result<(), Fail> {
     };
     let text = b"service Calc { string name() }";
     assert!(rt; is_checked(rt.alloc(), text, ending).ok().ok_or("memory")?);
+    Ok(())
+}
+
+/// One byte more than the least limit, and no LF.
+const LONG: [u8; 1025] = [b' '; 1025];
+
+/// Messages with whitespace around them, and lines of nothing else; the last one has no LF.
+const WITH_BLANK_LINES: &[u8] = b" \t\r\n[1,\"a\",1,1,{}]\r\n\n[1,\"b\", 4,2,{}]";
+
+#[test]
+fn messages_stand_on_lines(rt: HostRuntime) -> Result<(), Fail> {
+    let ending = Ending {
+        code: 0,
+        output: b"[1,\"a\",1,1,{}]\n[1,\"b\",4,2,{}]\n",
+        report: b"",
+    };
+    let line = b"convert json json --lines both";
+    assert!(rt;
+        ends_so(rt.alloc(), line, b"", WITH_BLANK_LINES, ending)
+            .ok()
+            .ok_or("memory")?
+    );
+    Ok(())
+}
+
+#[test]
+fn a_refused_line_is_counted(rt: HostRuntime) -> Result<(), Fail> {
+    let ending = Ending {
+        code: 1,
+        output: b"call \"a\" 1 ()\n",
+        report: b"frame 1: at 1: G7 bad version\n",
+    };
+    let input = b"\n[]\n[1,\"a\",1,1,{}]\n";
+    assert!(rt;
+        ends_so(rt.alloc(), b"show json --lines in", b"", input, ending)
+            .ok()
+            .ok_or("memory")?
+    );
+    Ok(())
+}
+
+#[test]
+fn a_line_is_at_most_as_long_as_the_limit(rt: HostRuntime) -> Result<(), Fail> {
+    let ending = Ending {
+        code: 3,
+        output: b"",
+        report: b"stream: frame 1: over 1024 bytes\n",
+    };
+    let line = b"convert json compact --lines in --limit 1024";
+    assert!(rt;
+        ends_so(rt.alloc(), line, b"", &LONG, ending)
+            .ok()
+            .ok_or("memory")?
+    );
+    Ok(())
+}
+
+#[test]
+fn lines_are_shown_of_the_input_alone(rt: HostRuntime) -> Result<(), Fail> {
+    let ending = Ending {
+        code: 2,
+        output: b"",
+        report: b"usage: thrift_gate check|convert|show|serve|drill|help\n",
+    };
+    assert!(rt;
+        ends_so(rt.alloc(), b"show json --lines both", b"", b"", ending)
+            .ok()
+            .ok_or("memory")?
+    );
     Ok(())
 }
 

@@ -1,9 +1,10 @@
 -- The commands, as their words name them.
-use Rattle.std.specs.Prelude.{ℕ, ◌≡◌, ◌≤◌, ◌||◌, List, [], ◌∷◌, Option, Some, None, is_some, is_none, true, if◌then◌else◌, codes, ⊤}
+use Rattle.std.specs.Prelude.{ℕ, ◌≡◌, ◌≤◌, ◌||◌, List, [], ◌∷◌, Option, Some, None, is_some, is_none, true, not, if◌then◌else◌, codes, ⊤}
 use Rattle.protocol_traits.specs.declared.proto.Proto.{Proto}
 use Rattle.decimal_words.specs.Same.{is}
 use Rattle.gate_words.specs.Same.{is_empty, or_else}
 use Rattle.decimal_words.specs.Numbers.{number_of, within}
+use Rattle.gate_words.specs.Lines.{can_convert, can_show, input_of, output_of}
 use Rattle.gate_words.specs.Protos.{proto_of}
 use Rattle.gate_words.specs.Options.{no_options, options_of, is_server_alone}
 use Rattle.gate_words.specs.Serving.{serve_of}
@@ -21,8 +22,8 @@ check_of (file ∷ more ∷ rest) = None
 
 abbrev pub convert_as : Proto → Proto → Options → Option Command
 convert_as from to o =
-    if is_server_alone o then None
-    else Some (commands.Convert (record { from = from; to = to; limit = or_else DEFAULT_LIMIT o.limit }) (record { idl = o.idl; service = o.service }))
+    if is_server_alone o || not (can_convert from to o.lines) then None
+    else Some (commands.Convert (record { from = from; to = to; limit = or_else DEFAULT_LIMIT o.limit; input = input_of o.lines; output = output_of o.lines }) (record { idl = o.idl; service = o.service }))
 
 abbrev pub converted : Proto → Proto → Option Options → Option Command
 converted from to None = None
@@ -36,7 +37,7 @@ convert_between (Some from) (Some to) words = convert_with from to words
 convert_between None to words = None
 convert_between (Some from) None words = None
 
--- convert FROM TO [--idl FILE] [--service NAME] [--limit F]
+-- convert FROM TO [--idl FILE] [--service NAME] [--limit F] [--lines SIDE]
 abbrev pub convert_of : List (List ℕ) → Option Command
 convert_of [] = None
 convert_of (from ∷ []) = None
@@ -44,8 +45,8 @@ convert_of (from ∷ to ∷ rest) = convert_between (proto_of from) (proto_of to
 
 abbrev pub show_as : Proto → Options → Option Command
 show_as from o =
-    if is_server_alone o then None
-    else Some (commands.Show (record { from = from; limit = or_else DEFAULT_LIMIT o.limit }) (record { idl = o.idl; service = o.service }))
+    if is_server_alone o || not (can_show from o.lines) then None
+    else Some (commands.Show (record { from = from; limit = or_else DEFAULT_LIMIT o.limit; input = input_of o.lines }) (record { idl = o.idl; service = o.service }))
 
 abbrev pub shown : Proto → Option Options → Option Command
 shown from None = None
@@ -58,14 +59,14 @@ abbrev pub show_from : Option Proto → List (List ℕ) → Option Command
 show_from None words = None
 show_from (Some from) words = show_with from words
 
--- show FROM [--idl FILE] [--service NAME] [--limit F]
+-- show FROM [--idl FILE] [--service NAME] [--limit F] [--lines SIDE]
 abbrev pub show_of : List (List ℕ) → Option Command
 show_of [] = None
 show_of (from ∷ rest) = show_from (proto_of from) rest
 
 abbrev pub conform_as : Proto → Options → Option Command
 conform_as from o =
-    if is_server_alone o || is_none o.idl then None
+    if is_server_alone o || is_some o.lines || is_none o.idl then None
     else Some (commands.Conform (record { from = from; limit = or_else DEFAULT_LIMIT o.limit }) (record { idl = o.idl; service = o.service }))
 
 abbrev pub conformed : Proto → Option Options → Option Command

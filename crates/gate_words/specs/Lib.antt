@@ -2,6 +2,7 @@
 pub mod Same
 pub mod Protos
 pub mod Peers
+pub mod Lines
 pub mod Options
 pub mod Serving
 pub mod Targets

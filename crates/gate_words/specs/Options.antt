@@ -3,14 +3,16 @@ use Rattle.std.specs.Prelude.{ℕ, ◌||◌, ◌≤◌, List, [], ◌∷◌, Opt
 use Rattle.decimal_words.specs.Same.{is}
 use Rattle.gate_words.specs.Same.{is_empty}
 use Rattle.decimal_words.specs.Numbers.{number_of, within}
+use Rattle.gate_words.specs.Lines.{line_sides_of}
 use Rattle.gate_words.specs.Peers.{sides_of, front_of}
+use Rattle.gate_words.specs.declared.lines.LineSides.{LineSides}
 use Rattle.gate_words.specs.declared.peers.Sides.{Sides}
 use Rattle.gate_words.specs.declared.peers.Front.{Front}
 use Rattle.gate_words.specs.declared.options.Options.{Options}
 use Rattle.gate_words.specs.declared.limits.TheConstants.{LEAST_LIMIT, GREATEST_LIMIT, MOST_SESSIONS, MOST_ACCEPTED, MOST_EVENTS, MOST_CALLS}
 
 abbrev pub no_options : Options
-no_options = record { idl = None; service = None; limit = None; sessions = None; accept = None; events = None; calls = None; unframed = None; front = None }
+no_options = record { idl = None; service = None; limit = None; sessions = None; accept = None; events = None; calls = None; unframed = None; front = None; lines = None }
 
 -- the name of a file or a service isn't empty
 abbrev pub with_idl : Options → List ℕ → Option Options
@@ -29,6 +31,14 @@ set_limit o (Some limit) = Some (record o { limit = Some limit })
 
 abbrev pub with_limit : Options → List ℕ → Option Options
 with_limit o value = if is_some o.limit then None else set_limit o (limit_of value)
+
+-- the sides on which a message is a line
+abbrev pub set_lines : Options → Option LineSides → Option Options
+set_lines o None = None
+set_lines o (Some lines) = Some (record o { lines = Some lines })
+
+abbrev pub with_lines : Options → List ℕ → Option Options
+with_lines o value = if is_some o.lines then None else set_lines o (line_sides_of value)
 
 -- the sessions at a time
 abbrev pub set_sessions : Options → Option ℕ → Option Options
@@ -100,7 +110,7 @@ is_server_alone o = is_some o.sessions || is_some o.accept || is_some o.events |
 
 -- whether an option stands that a router doesn't have
 abbrev pub is_for_one_upstream : Options → Bool
-is_for_one_upstream o = is_some o.service || is_some o.unframed || is_some o.front
+is_for_one_upstream o = is_some o.service || is_some o.unframed || is_some o.front || is_some o.lines
 
 -- with one option more
 unfoldable pub with_option : Options → List ℕ → List ℕ → Option Options
@@ -108,6 +118,7 @@ with_option o name value =
     if is name (codes "--idl") then with_idl o value
     else if is name (codes "--service") then with_service o value
     else if is name (codes "--limit") then with_limit o value
+    else if is name (codes "--lines") then with_lines o value
     else with_server_option o name value
 
 abbrev pub and_then : Option Options → (Options → Option Options) → Option Options

@@ -1,8 +1,8 @@
 -- The command that serves.
-use Rattle.std.specs.Prelude.{ℕ, ◌+◌, ◌*◌, ◌&&◌, ◌||◌, List, [], ◌∷◌, Option, Some, None, Bool, true, false, not, if◌then◌else◌, nat_le}
+use Rattle.std.specs.Prelude.{ℕ, ◌+◌, ◌*◌, ◌&&◌, ◌||◌, List, [], ◌∷◌, Option, Some, None, is_some, Bool, false, not, if◌then◌else◌, nat_le}
 use Rattle.protocol_traits.specs.declared.proto.Proto.{Proto}
-use Rattle.protocol_traits.specs.declared.proto.Proto.TheVariants as protocols
 use Rattle.gate_words.specs.Same.{or_else}
+use Rattle.gate_words.specs.Lines.{is_json}
 use Rattle.gate_words.specs.Protos.{proto_of}
 use Rattle.gate_words.specs.Peers.{has_client, has_upstream, is_http, front_or_framed}
 use Rattle.decimal_words.specs.Addresses.{is_address}
@@ -42,11 +42,6 @@ http_bytes s = bytes_for_front s.front s.sessions s.limit
 abbrev pub is_within_memory : Serving → Bool
 is_within_memory s = nat_le (s.sessions * session_bytes s.limit s.calls + unframed_bytes s + http_bytes s) MOST_HELD
 
-abbrev pub is_json : Proto → Bool
-is_json protocols.Json = true
-is_json protocols.Binary = false
-is_json protocols.Compact = false
-
 -- one of these sides speaks JSON
 abbrev pub has_json : Option Sides → Proto → Proto → Bool
 has_json None client upstream = false
@@ -84,7 +79,7 @@ serving_of ends o = record {
 
 abbrev pub serve_as : Ends → Options → Option Command
 serve_as ends o =
-    if can_serve (serving_of ends o) then Some (commands.Serve (serving_of ends o) (record { idl = o.idl; service = o.service })) else None
+    if not (is_some o.lines) && can_serve (serving_of ends o) then Some (commands.Serve (serving_of ends o) (record { idl = o.idl; service = o.service })) else None
 
 abbrev pub served : Ends → Option Options → Option Command
 served ends None = None

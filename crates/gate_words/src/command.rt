@@ -5,27 +5,32 @@ ghost use Rattle.gate_words.specs.Commands.{command, check_of, convert_of, conve
 ghost use Rattle.gate_words.specs.Options.{IsInRange as AreInRange};
 
 use crate::limits::{DEFAULT_LIMIT, MOST_MESSAGES};
+use crate::lines::{can_convert, can_show, input_of, output_of};
 use crate::options::{Declared, Options, read_options};
 use crate::routing::{Routing, route};
 use crate::serving::{Serving, serve};
 use decimal_words::{number, number_within};
 use gate_base::{OutOfMemory, Text, Word};
+use line_transport::Transport;
 use protocol_traits::Proto;
 use std::alloc::Global;
 
-/// A conversion of a stream of frames, each of at most `limit` bytes.
+/// A conversion of a stream of messages, each of at most `limit` bytes, with how they stand on both sides.
 #[derive(Clone, Copy, Debug, PartialEq, Eq)]
 pub struct Conversion {
     pub from: Proto,
     pub to: Proto,
     pub limit: usize,
+    pub input: Transport,
+    pub output: Transport,
 }
 
-/// The showing of a stream of frames, each of at most `limit` bytes.
+/// The showing of a stream of messages, each of at most `limit` bytes, with how they stand on it.
 #[derive(Clone, Copy, Debug, PartialEq, Eq)]
 pub struct Showing {
     pub from: Proto,
     pub limit: usize,
+    pub input: Transport,
 }
 
 /// The judging of a stream of frames, each of at most `limit` bytes, by what their messages are declared to be.
@@ -47,9 +52,9 @@ pub struct Drilling {
 pub enum Command {
     /// `check FILE`
     Check(Text),
-    /// `convert FROM TO [--idl FILE] [--service NAME] [--limit F]`
+    /// `convert FROM TO [--idl FILE] [--service NAME] [--limit F] [--lines SIDE]`
     Convert(Conversion, Declared),
-    /// `show FROM [--idl FILE] [--service NAME] [--limit F]`
+    /// `show FROM [--idl FILE] [--service NAME] [--limit F] [--lines SIDE]`
     Show(Showing, Declared),
     /// `serve CLIENT UPSTREAM LISTEN TARGET [--idl FILE] [--service NAME] [--limit F] [--sessions N] [--accept C] [--events E] [--calls P] [--unframed SIDE] [--front KIND]`
     Serve(Serving, Declared),
@@ -147,13 +152,15 @@ fn convert_as(from: Proto, to: Proto, options: Options) -> Option<Command>
     ensures value { result ≡ convert_as from to options }
     ensures range { IfSome result IsInRange }
 {
-    if options.is_server_alone() {
+    if options.is_server_alone() || !can_convert(from, to, options.lines) {
         return None;
     }
     let conversion = Conversion {
         from,
         to,
         limit: options.limit.unwrap_or(DEFAULT_LIMIT) as usize,
+        input: input_of(options.lines),
+        output: output_of(options.lines),
     };
     let declared = Declared {
         idl: options.idl,
@@ -192,12 +199,13 @@ fn show_as(from: Proto, options: Options) -> Option<Command>
     ensures value { result ≡ show_as from options }
     ensures range { IfSome result IsInRange }
 {
-    if options.is_server_alone() {
+    if options.is_server_alone() || !can_show(from, options.lines) {
         return None;
     }
     let showing = Showing {
         from,
         limit: options.limit.unwrap_or(DEFAULT_LIMIT) as usize,
+        input: input_of(options.lines),
     };
     let declared = Declared {
         idl: options.idl,
@@ -236,7 +244,7 @@ fn conform_as(from: Proto, options: Options) -> Option<Command>
     ensures value { result ≡ conform_as from options }
     ensures range { IfSome result IsInRange }
 {
-    if options.is_server_alone() || options.idl.is_none() {
+    if options.is_server_alone() || options.lines.is_some() || options.idl.is_none() {
         return None;
     }
     let conforming = Conforming {

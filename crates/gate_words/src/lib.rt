@@ -6,6 +6,7 @@
 
 mod command;
 mod limits;
+mod lines;
 mod options;
 mod peers;
 mod routing;

@@ -1,10 +1,11 @@
 //! The options of a command.
 ghost use Rattle.std.specs.Prelude.{◌≡◌, ◌≤◌, IfOk, IfSome};
-ghost use Rattle.gate_words.specs.Options.{no_options, options_of, with_option, with_server_option, with_peers, with_idl, with_service, with_limit, with_sessions, with_accept, with_events, with_calls, with_unframed, with_front, limit_of, is_server_alone, is_for_one_upstream, IsInRange};
+ghost use Rattle.gate_words.specs.Options.{no_options, options_of, with_option, with_server_option, with_peers, with_idl, with_service, with_limit, with_sessions, with_accept, with_events, with_calls, with_unframed, with_front, with_lines, limit_of, is_server_alone, is_for_one_upstream, IsInRange};
 
 use crate::limits::{
     GREATEST_LIMIT, LEAST_LIMIT, MOST_ACCEPTED, MOST_CALLS, MOST_EVENTS, MOST_SESSIONS,
 };
+use crate::lines::{LineSides, read_line_sides};
 use crate::peers::{Front, Sides, read_front, read_sides};
 use decimal_words::number_within;
 use gate_base::{OutOfMemory, Text, Word};
@@ -29,6 +30,7 @@ pub struct Options {
     pub calls: Option<u32>,
     pub unframed: Option<Sides>,
     pub front: Option<Front>,
+    pub lines: Option<LineSides>,
 }
 
 impl Options {
@@ -46,6 +48,7 @@ impl Options {
             calls: None,
             unframed: None,
             front: None,
+            lines: None,
         }
     }
 
@@ -62,6 +65,8 @@ impl Options {
             self.with_service(alloc, value)
         } else if name == b"--limit".as_slice() {
             Ok(self.with_limit(value))
+        } else if name == b"--lines".as_slice() {
+            Ok(self.with_lines(value))
         } else {
             Ok(self.with_server_option(name, value))
         }
@@ -138,6 +143,23 @@ impl Options {
         match limit_of(value) {
             Some(limit) => Some(Options {
                 limit: Some(limit),
+                ..self
+            }),
+            None => None,
+        }
+    }
+
+    fn with_lines(self, value: &[u8]) -> Option<Options>
+        requires range { IsInRange self }
+        ensures value { result ≡ with_lines self value.now }
+        ensures range { IfSome result IsInRange }
+    {
+        if self.lines.is_some() {
+            return None;
+        }
+        match read_line_sides(value) {
+            Some(lines) => Some(Options {
+                lines: Some(lines),
                 ..self
             }),
             None => None,
@@ -258,11 +280,14 @@ impl Options {
             || self.front.is_some()
     }
 
-    /// Whether an option stands that a router doesn't have: its services are its targets, and its peers send frames.
+    /// Whether an option stands that a router doesn't have: its services are its targets, and its peers send frames and no lines.
     pub fn is_for_one_upstream(&self) -> bool
         ensures { result ≡ is_for_one_upstream self.now }
     {
-        self.service.is_some() || self.unframed.is_some() || self.front.is_some()
+        self.service.is_some()
+            || self.unframed.is_some()
+            || self.front.is_some()
+            || self.lines.is_some()
     }
 }
 

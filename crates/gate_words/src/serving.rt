@@ -2,13 +2,14 @@
 ghost use Rattle.std.specs.Prelude.{◌≡◌, ◌<◌, ◌^◌, IfOk, IfSome};
 ghost use Rattle.gate_words.specs.Commands.{IsInRange};
 ghost use Rattle.gate_words.specs.Options.{IsInRange as AreInRange};
-ghost use Rattle.gate_words.specs.Serving.{serve_of, serve_at, serve_with, serve_as, can_serve, speaks_unframed_json, is_json, wraps_twice, is_within_memory, session_bytes, unframed_bytes, http_bytes};
+ghost use Rattle.gate_words.specs.Serving.{serve_of, serve_at, serve_with, serve_as, can_serve, speaks_unframed_json, wraps_twice, is_within_memory, session_bytes, unframed_bytes, http_bytes};
 
 use crate::command::{Command, proto};
 use crate::limits::{
     CALL_BYTES, DEFAULT_CALLS, DEFAULT_LIMIT, DEFAULT_SESSIONS, HEAD_BYTES, HELD_FRAMES,
     MOST_EVENTS, MOST_HELD, SESSION_BYTES, UNFRAMED_FRAMES,
 };
+use crate::lines::is_json;
 use crate::options::{Declared, Options, read_options};
 use crate::peers::{Front, Sides};
 use decimal_words::read_address;
@@ -113,6 +114,7 @@ fn serve_as(ends: Ends, options: Options) -> Option<Command>
     ensures value { result ≡ serve_as ends options }
     ensures range { IfSome result IsInRange }
 {
+    let has_lines = options.lines.is_some();
     let serving = Serving {
         client: ends.client,
         upstream: ends.upstream,
@@ -130,7 +132,7 @@ fn serve_as(ends: Ends, options: Options) -> Option<Command>
         idl: options.idl,
         service: options.service,
     };
-    if can_serve(&serving) {
+    if !has_lines && can_serve(&serving) {
         Some(Command::Serve(serving, declared))
     } else {
         None
@@ -155,12 +157,6 @@ fn speaks_unframed_json(serving: &Serving) -> bool
         }
         None => false,
     }
-}
-
-fn is_json(protocol: Proto) -> bool
-    ensures { result ≡ is_json protocol }
-{
-    matches!(protocol, Proto::Json)
 }
 
 // Whether the clients would send messages both without frames and as bodies of HTTP.

@@ -1,9 +1,8 @@
 -- What a stream gives, from its clause.
-use Rattle.std.proofs.Common.{◌≡◌, ℕ, ◌+◌, ◌≤◌, Bool, true, false, List, [], ◌∷◌, ◌++◌, length, arith, Option, None, Some, refl, ap, ◌∙◌, sym, subst}
-use Rattle.std.proofs.lemmas.List.{append-nil}
+use Rattle.std.proofs.Common.{◌≡◌, ℕ, ◌+◌, ◌≤◌, Bool, true, false, cond, List, [], ◌∷◌, ◌++◌, length, append_assoc, arith, Option, None, Some, refl, ap, ◌∙◌, sym, subst}
 use Rattle.std.specs.Prelude.{⊤, not, ◌||◌, IfSome, IsSome}
 use Rattle.std.specs.List.{All, flat_map}
-use Rattle.std.proofs.lemmas.List.Elements.{All-head, All-tail}
+use Rattle.std.proofs.lemmas.List.Elements.{All-nil, All-cons, All-head, All-tail}
 use Rattle.std.specs.Io.KnownBytes.{Consumes}
 use Rattle.type_tables.specs.declared.declared.ServiceId.{ServiceId}
 use Rattle.type_tables.specs.Declarations.{Declarations}
@@ -12,7 +11,10 @@ use Rattle.protocol_traits.specs.declared.proto.Proto.TheVariants as protocols
 use Rattle.translate_core.specs.declared.route.Route.TheVariants.{ByName}
 use Rattle.translate_core.specs.declared.verdict.Cause.TheVariants.{Grammar}
 use Rattle.protocol_pairs.specs.Pairs.{answered}
-use Rattle.framed_transport.specs.Frames.{framed}
+use Rattle.line_transport.specs.Cuts.{sent, IsPiece, is_counted, messages_of, Spans, CutsAll, at_end}
+use Rattle.line_transport.specs.Lines.{ended}
+use Rattle.line_transport.specs.declared.transport.Transport.{Transport}
+use Rattle.line_transport.specs.declared.transport.Transport.TheVariants.{Frames, Lines}
 use Rattle.message_show.specs.Shown.{Showing, shown}
 use Rattle.gate_base.specs.Bytes.{AreBytes}
 use Rattle.binary_laws.proofs.Inverse.{bytes_front}
@@ -53,13 +55,13 @@ short_frame protocols.Compact limit frame low within = tt
 short_frame protocols.Json limit frame low within = omega (arith, low, within)
 
 module _ (k : Terms) (from to : Proto) (doing : k.doing ≡ Convert from to) (number : ℕ) (frame : List ℕ) (are : AreBytes frame) (short : IsShort from frame) where
-  by_said : IsSaidBy (passage_of k from to) (answered from from frame) frame (judged_by k from to frame) → Holds (IsConverted (passage_of k from to)) number frame (translated (judged_by k from to frame))
-  by_said (ByMessage m out says e) = subst (λ j. Holds (IsConverted (passage_of k from to)) number frame (translated j)) (sym e) (IsWritten m out says.0 says.1 says.2 says.3 refl refl)
-  by_said (ByCause h cause says e) = subst (λ j. Holds (IsConverted (passage_of k from to)) number frame (translated j)) (sym e) (IsReported cause says.1 refl refl)
-  by_said (ByFault f says e) = subst (λ j. Holds (IsConverted (passage_of k from to)) number frame (translated j)) (sym e) (IsReported (Grammar f) says.1 refl refl)
+  by_said : IsSaidBy (passage_of k from to) (answered from from frame) frame (judged_by k from to frame) → Holds (IsConverted k.output (passage_of k from to)) number frame (translated k.output (judged_by k from to frame))
+  by_said (ByMessage m out says e) = subst (λ j. Holds (IsConverted k.output (passage_of k from to)) number frame (translated k.output j)) (sym e) (IsWritten m out says.0 says.1 says.2 says.3 refl refl)
+  by_said (ByCause h cause says e) = subst (λ j. Holds (IsConverted k.output (passage_of k from to)) number frame (translated k.output j)) (sym e) (IsReported cause says.1 refl refl)
+  by_said (ByFault f says e) = subst (λ j. Holds (IsConverted k.output (passage_of k from to)) number frame (translated k.output j)) (sym e) (IsReported (Grammar f) says.1 refl refl)
 
-  pub converted : Holds (IsConverted (passage_of k from to)) number frame (treated k frame)
-  converted = subst (λ d. Holds (IsConverted (passage_of k from to)) number frame (treated_by k d frame)) (sym doing) (by_said (said_by (passage_of k from to) frame are short))
+  pub converted : Holds (IsConverted k.output (passage_of k from to)) number frame (treated k frame)
+  converted = subst (λ d. Holds (IsConverted k.output (passage_of k from to)) number frame (treated_by k d frame)) (sym doing) (by_said (said_by (passage_of k from to) frame are short))
 
 -- ---- one frame that is shown
 
@@ -112,6 +114,22 @@ nothing_reported k before (frame ∷ frames) none =
     let parts = both_false (is_passed (treated k frame)) (any_refused k frames) none in
     ap (λ l. l ++ lines k (before + 1) frames) (no_line (before + 1) (treated k frame) parts.0) ∙ nothing_reported k (before + 1) frames parts.1
 
+-- a piece on the stream consists of bytes
+piece_bytes : (t : Transport) (piece rest : List ℕ) → AreBytes (sent t piece ++ rest) → AreBytes piece × AreBytes rest
+unfolding ended
+piece_bytes Frames piece rest are = frame_bytes piece rest are
+piece_bytes Lines piece rest are = (let parts = bytes_front (ended piece) rest are in ((bytes_front piece (10 ∷ []) parts.0).0, parts.1))
+
+bytes_on : (xs ys : List ℕ) → AreBytes xs → AreBytes ys → AreBytes (xs ++ ys)
+bytes_on [] ys a b = b
+bytes_on (x ∷ xs) ys a b = (a.0, bytes_on xs ys a.1 b)
+
+-- and so does what is read, with the LF that the last line lacks
+ended_bytes : (t : Transport) (read : List ℕ) → AreBytes read → AreBytes (at_end t read)
+unfolding ended
+ended_bytes Frames read are = are
+ended_bytes Lines read are = bytes_on read (10 ∷ []) are (omega arith, tt)
+
 module _ (k : Terms) (Each : ℕ → List ℕ → List ℕ → List ℕ → Type 0) (each : (number : ℕ) (frame : List ℕ) → AreBytes frame → length frame ≤ k.limit → Holds Each number frame (treated k frame)) where
   -- frames of bytes
   abbrev Are : List (List ℕ) → Type 0
@@ -134,32 +152,55 @@ module _ (k : Terms) (Each : ℕ → List ℕ → List ℕ → List ℕ → Type
     refl,
   )
 
-  frames_are : (frames : List (List ℕ)) (rest : List ℕ) → AreBytes (flat_map framed frames ++ rest) → Are frames
-  frames_are [] rest are = tt
-  frames_are (x ∷ frames) rest are =
-      let parts = bytes_front (flat_map framed (x ∷ frames)) rest are in
-      let one = frame_bytes x (flat_map framed frames) parts.0 in
-      (one.0, frames_are frames [] (subst AreBytes (sym (append-nil (flat_map framed frames))) one.1))
+  pieces_are : (t : Transport) (pieces : List (List ℕ)) (rest : List ℕ) → AreBytes (flat_map (sent t) pieces ++ rest) → Are pieces
+  pieces_are t [] rest are = tt
+  pieces_are t (x ∷ pieces) rest are =
+      let one = piece_bytes t x (flat_map (sent t) pieces ++ rest) (subst AreBytes (append_assoc (sent t x) (flat_map (sent t) pieces) rest) are) in
+      (one.0, pieces_are t pieces rest one.1)
 
-  abbrev covers : (a b : Streams) (read : List ℕ) (frames : List (List ℕ)) (rest line : List ℕ) → AreBytes read → Covers k a b read frames rest line → CoversBy Each k.limit a b read frames rest line
-  covers a b read frames rest line are c = record {
+  kept_are : (b : Bool) (x : List ℕ) (xs : List (List ℕ)) → AreBytes x → Are xs → Are (cond b (x ∷ xs) xs)
+  kept_are true x xs first are = (first, are)
+  kept_are false x xs first are = are
+
+  counted_are : (t : Transport) (pieces : List (List ℕ)) → Are pieces → Are (messages_of t pieces)
+  counted_are Frames pieces are = are
+  counted_are Lines [] are = are
+  counted_are Lines (x ∷ pieces) are = kept_are (is_counted x) x (messages_of Lines pieces) are.0 (counted_are Lines pieces are.1)
+
+  kept_within : (b : Bool) (x : List ℕ) (xs : List (List ℕ)) → Within x → All Within xs → All Within (cond b (x ∷ xs) xs)
+  kept_within true x xs first all = All-cons Within x xs first all
+  kept_within false x xs first all = all
+
+  counted_within : (t : Transport) (pieces : List (List ℕ)) → All (IsPiece t k.limit) pieces → All Within (messages_of t pieces)
+  counted_within Frames pieces all = all
+  counted_within Lines [] all = All-nil Within
+  counted_within Lines (x ∷ pieces) all =
+      kept_within (is_counted x) x (messages_of Lines pieces) (All-head (IsPiece Lines k.limit) x pieces all).within (counted_within Lines pieces (All-tail (IsPiece Lines k.limit) x pieces all))
+
+  -- what is read gives so, however it is cut
+  abbrev covers : (a b : Streams) (read : List ℕ) (frames : List (List ℕ)) (line bytes rest : List ℕ) → AreBytes bytes → Spans k.input k.limit bytes frames rest → Covers k a b read frames line → CoversBy Each a b read frames line
+  covers a b read frames line bytes rest are s c = record {
     consumed = c.consumed;
-    splits = c.splits;
     out = outputs k 0 frames;
     told = lines k 0 frames;
-    give = all_give 0 frames (frames_are frames rest (subst AreBytes c.splits.whole are)) c.splits.each;
+    give = all_give 0 frames (subst Are (sym s.messages_are) (counted_are k.input s.pieces (pieces_are k.input s.pieces rest (subst AreBytes s.whole are))))
+        (subst (All Within) (sym s.messages_are) (counted_within k.input s.pieces s.each));
     written = c.written;
     reported = c.reported;
   }
 
-  some_covered : (a b : Streams) (text : List ℕ) (Many : ℕ → Type 0) → ((read : List ℕ) → Consumes a.left b.left read → AreBytes read) → StopsWith k a b text Many → GivesSome Each k.limit a b
-  some_covered a b text Many bytes x = (x.0, x.1, x.2, x.3, covers a b x.0 x.1 x.2 x.3 (bytes x.0 x.4.consumed) x.4)
+  all_covered : (a b : Streams) (read : List ℕ) (frames : List (List ℕ)) → AreBytes read → CutsAll k.input k.limit read frames → Covers k a b read frames [] → CoversBy Each a b read frames []
+  all_covered a b read frames are cuts c = covers a b read frames [] (at_end k.input read) [] (ended_bytes k.input read are) cuts.spans c
+
+  some_covered : (a b : Streams) (text : List ℕ) (Many : ℕ → Type 0) → ((read : List ℕ) → Consumes a.left b.left read → AreBytes read) → StopsWith k a b text Many → GivesSome Each k a b
+  some_covered a b text Many bytes x = (x.0, x.1, x.2, x.3, covers a b x.0 x.1 x.3 x.0 x.2 (bytes x.0 x.4.consumed) x.5.spans x.4, x.5)
 
   -- what is read of the input consists of bytes
-  pub by_ending : (a b : Streams) (ending : Ending) → ((read : List ℕ) → Consumes a.left b.left read → AreBytes read) → Streamed k a b ending → GivesBy Each k.limit a b ending
-  by_ending a b endings.Done bytes x = (x.0, x.1, covers a b x.0 x.1 [] [] (bytes x.0 x.2.consumed) x.2, nothing_reported k 0 x.1 x.3, x.4)
-  by_ending a b endings.Refused bytes x = (x.0, x.1, covers a b x.0 x.1 [] [] (bytes x.0 x.2.consumed) x.2, x.4)
-  by_ending a b endings.StreamFault bytes x = (x.0, x.1, x.2, x.3, covers a b x.0 x.1 x.2 x.3 (bytes x.0 x.4.consumed) x.4, x.5, x.6)
+  pub by_ending : (a b : Streams) (ending : Ending) → ((read : List ℕ) → Consumes a.left b.left read → AreBytes read) → Streamed k a b ending → GivesBy Each k a b ending
+  unfolding all_covered
+  by_ending a b endings.Done bytes x = (x.0, x.1, all_covered a b x.0 x.1 (bytes x.0 x.2.consumed) x.3 x.2, x.3, nothing_reported k 0 x.1 x.4, x.5)
+  by_ending a b endings.Refused bytes x = (x.0, x.1, all_covered a b x.0 x.1 (bytes x.0 x.2.consumed) x.3 x.2, x.3, x.5)
+  by_ending a b endings.StreamFault bytes x = (x.0, x.1, x.2, x.3, covers a b x.0 x.1 x.3 x.0 x.2 (bytes x.0 x.4.consumed) x.5.spans x.4, x.5, x.6, x.7)
   by_ending a b endings.ReadFault bytes x = some_covered a b _ (λ n. ⊤) bytes x.1
   by_ending a b endings.BudgetSpent bytes x = some_covered a b _ (λ n. n ≡ MOST_BYTES) bytes x
   by_ending a b endings.OutOfMemory bytes x = some_covered a b _ (λ n. n ≡ 0) bytes x

@@ -9,7 +9,8 @@ use Rattle.translate_core.specs.declared.route.Route.{Route}
 use Rattle.translate_core.specs.declared.route.Route.TheVariants.{ByName}
 use Rattle.protocol_traits.specs.Heads.{Header}
 use Rattle.translate_core.specs.Judged.{Judged}
-use Rattle.framed_transport.specs.Frames.{framed}
+use Rattle.line_transport.specs.Cuts.{sent}
+use Rattle.line_transport.specs.declared.transport.Transport.{Transport}
 use Rattle.gate_base.specs.Bytes.{AreBytes}
 use Rattle.verdict_laws.specs.Bars.{Spot}
 use Rattle.verdict_laws.specs.Rounds.{plain_in}
@@ -24,7 +25,7 @@ use Rattle.gate_run.specs.Terms.{Terms, judged_by}
 use Rattle.stream_laws.specs.Streams.{Gives, GiveAll, AreFrames}
 
 -- what is written of a frame, by its verdict
-written : (k : Terms) (from to : Proto) (number : ℕ) (frame : List ℕ) → k.doing ≡ Convert from to → output_of k number frame ≡ bytes_for number (translated (judged_by k from to frame))
+written : (k : Terms) (from to : Proto) (number : ℕ) (frame : List ℕ) → k.doing ≡ Convert from to → output_of k number frame ≡ bytes_for number (translated k.output (judged_by k from to frame))
 written k from to number frame e = ap (λ doing. bytes_for number (treated_by k doing frame)) e
 
 is_plain : (to : Proto) (d : Declarations) (route : Route) (m : Message) (bytes : List ℕ) → IsPlain to d route m bytes → bytes ≡ plain_in to d route m
@@ -32,16 +33,16 @@ is_plain protocols.Binary d route m bytes e = e
 is_plain protocols.Compact d route m bytes e = e
 is_plain protocols.Json d route m bytes e = e
 
-no_pass : (j : Judged) (i : Judged) → j ≡ i → is_passed (translated i) ≡ false → (p : Judged) → j ≡ p → is_passed (translated p) ≡ true → ⊥
-no_pass j i a none p b some = let wrong : false ≡ true = sym none ∙ ap (λ x. is_passed (translated x)) (sym a ∙ b) ∙ some in absurd (cc)
+no_pass : (t : Transport) (j : Judged) (i : Judged) → j ≡ i → is_passed (translated t i) ≡ false → (p : Judged) → j ≡ p → is_passed (translated t p) ≡ true → ⊥
+no_pass t j i a none p b some = let wrong : false ≡ true = sym none ∙ ap (λ x. is_passed (translated t x)) (sym a ∙ b) ∙ some in absurd (cc)
 
 module _ (k : Terms) (from to : Proto) (number : ℕ) (frame : List ℕ) (are : AreBytes frame) (short : IsShort from frame) (doing : k.doing ≡ Convert from to) where
   -- a frame that is refused carries none
-  none_given : (i : Judged) → judged_by k from to frame ≡ i → is_passed (translated i) ≡ false → bytes_for number (translated i) ≡ [] → Gives k from to frame (output_of k number frame)
+  none_given : (i : Judged) → judged_by k from to frame ≡ i → is_passed (translated k.output i) ≡ false → bytes_for number (translated k.output i) ≡ [] → Gives k from to frame (output_of k number frame)
   none_given i e none empty =
       inr (
-        (λ m c. no_pass (judged_by k from to frame) i e none _ (held_round k.declarations (ByName k.service) from to m frame c.spells c.shallow are short c.holds).goes refl),
-        written k from to number frame doing ∙ ap (λ x. bytes_for number (translated x)) e ∙ empty,
+        (λ m c. no_pass k.output (judged_by k from to frame) i e none _ (held_round k.declarations (ByName k.service) from to m frame c.spells c.shallow are short c.holds).goes refl),
+        written k from to number frame doing ∙ ap (λ x. bytes_for number (translated k.output x)) e ∙ empty,
       )
 
   by_verdict : (SpellsHead : Header → List ℕ → Type 0) (FaultAt : List ℕ → Fault → Type 0) (Place : Message → List ℕ → Spot → ℕ → Type 0)
@@ -50,7 +51,7 @@ module _ (k : Terms) (from to : Proto) (number : ℕ) (frame : List ℕ) (are : 
       inl (
         m,
         record { spells = spells; shallow = deep; holds = holds },
-        written k from to number frame doing ∙ ap (λ x. bytes_for number (translated x)) e ∙ ap framed (is_plain to k.declarations (ByName k.service) m bytes plain),
+        written k from to number frame doing ∙ ap (λ x. bytes_for number (translated k.output x)) e ∙ ap (sent k.output) (is_plain to k.declarations (ByName k.service) m bytes plain),
       )
   by_verdict SpellsHead FaultAt Place (IsBarred m spot place bar spells deep first at e) = none_given _ e refl refl
   by_verdict SpellsHead FaultAt Place (IsFaulty header front rest f laid head stands e) = none_given _ e refl refl

@@ -3,4 +3,5 @@ pub mod Sessions
 pub mod Unframed
 pub mod Posts
 pub mod Covering
+pub mod Unbroken
 pub mod Words

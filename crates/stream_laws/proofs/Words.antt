@@ -6,7 +6,7 @@ use Rattle.protocol_traits.specs.declared.proto.Proto.{Proto}
 use Rattle.decimal_words.specs.Addresses.{is_address}
 use Rattle.gate_words.specs.Commands.{command, check_of, convert_of, convert_between, converted, show_of, show_from, shown, conform_of, conform_from, conformed, drill_of, drill_as, help_of}
 use Rattle.decimal_words.specs.Numbers.{number_of, within}
-use Rattle.gate_words.specs.Options.{no_options, is_for_one_upstream, set_limit, limit_of, set_sessions, set_accept, set_events, set_calls, set_unframed, set_front, with_server_option, with_peers, with_option, and_then, options_of, is_server_alone}
+use Rattle.gate_words.specs.Options.{no_options, is_for_one_upstream, set_limit, limit_of, set_sessions, set_accept, set_events, set_calls, set_unframed, set_front, set_lines, with_server_option, with_peers, with_option, and_then, options_of, is_server_alone}
 use Rattle.gate_words.specs.Protos.{proto_of}
 use Rattle.gate_words.specs.Routing.{route_of, route_between, route_at, route_to, routed}
 use Rattle.gate_words.specs.Targets.{targets_of}
@@ -14,7 +14,9 @@ use Rattle.gate_fan.specs.declared.fan.Target.{Target}
 use Rattle.decimal_words.specs.Same.{is}
 use Rattle.gate_words.specs.Same.{is_empty, or_else}
 use Rattle.gate_words.specs.Serving.{serve_of, serve_between, serve_at, served, serving_of, can_serve, wraps_twice}
+use Rattle.gate_words.specs.Lines.{can_convert, can_show}
 use Rattle.gate_words.specs.declared.command.Command.TheVariants as commands
+use Rattle.gate_words.specs.declared.lines.LineSides.{LineSides}
 use Rattle.gate_words.specs.declared.options.Declared.{Declared}
 use Rattle.gate_words.specs.declared.options.Options.{Options}
 use Rattle.gate_words.specs.declared.peers.Sides.{Sides}
@@ -34,6 +36,10 @@ second_of_three : (a b c : Bool) → (not a && (not b && c)) ≡ true → b ≡ 
 second_of_three a false c e = refl
 second_of_three true true c e = absurd (cc)
 second_of_three false true c e = absurd (cc)
+
+third_of_four : (l a b c : Bool) → (not l && (not a && (not b && c))) ≡ true → b ≡ false
+third_of_four true a b c e = absurd (cc)
+third_of_four false a b c e = second_of_three a b c e
 
 none_is : {X : Type 0} {P : Type 0} (v : X) → None ≡ Some v → P
 none_is v e = absurd (cc)
@@ -87,6 +93,10 @@ fronted : (o new : Options) (found : Option Front) → set_front o found ≡ Som
 fronted o new None e p = absurd (cc)
 fronted o new (Some front) e p = some_same (record o { front = Some front }) new e p
 
+lined : (o new : Options) (found : Option LineSides) → set_lines o found ≡ Some new → IsBounded o → IsBounded new
+lined o new None e p = absurd (cc)
+lined o new (Some lines) e p = some_same (record o { lines = Some lines }) new e p
+
 one_option : (o new : Options) (name value : List ℕ) → with_option o name value ≡ Some new → IsBounded o → IsBounded new
 unfolding with_option with_server_option with_peers limit_of
 one_option o new name value e p =
@@ -96,6 +106,8 @@ one_option o new name value e p =
     (by_test (IsBounded new) _ None _ new (none_is new) (λ f. some_same (record o { service = Some value }) new f p))
     (by_test (IsBounded new) (is name (codes "--limit")) _ _ new
     (by_test (IsBounded new) (is_some o.limit) None _ new (none_is new) (λ f. limited o new (limit_of value) (λ n g. (omega (arith, (within_is _ _ (number_of value) n g).0), omega (arith, (within_is _ _ (number_of value) n g).1))) f p))
+    (by_test (IsBounded new) (is name (codes "--lines")) _ _ new
+    (by_test (IsBounded new) (is_some o.lines) None _ new (none_is new) (λ f. lined o new _ f p))
     (by_test (IsBounded new) (is name (codes "--sessions")) _ _ new
     (by_test (IsBounded new) (is_some o.sessions) None _ new (none_is new) (λ f. numbered o new _ f p))
     (by_test (IsBounded new) (is name (codes "--accept")) _ _ new
@@ -108,7 +120,7 @@ one_option o new name value e p =
     (by_test (IsBounded new) (is_some o.unframed) None _ new (none_is new) (λ f. wrapped o new _ f p))
     (by_test (IsBounded new) (is name (codes "--front")) _ None new
     (by_test (IsBounded new) (is_some o.front) None _ new (none_is new) (λ f. fronted o new _ f p))
-    (none_is new))))))))) e
+    (none_is new)))))))))) e
 
 all_options : (words : List (List ℕ)) (o new : Options) → options_of o words ≡ Some new → IsBounded o → IsBounded new
 all_options [] o new e p = some_same o new e p
@@ -137,9 +149,9 @@ served_small : (client upstream : Proto) (listen target : List ℕ) (found : Opt
     → served (record { client = client; upstream = upstream; listen = listen; target = target }) found ≡ Some (commands.Serve s d) → IsSmall s
 served_small client upstream listen target None s d p e = absurd (cc)
 served_small client upstream listen target (Some o) s d p e =
-    by_true (IsSmall s) (can_serve (serving_of (record { client = client; upstream = upstream; listen = listen; target = target }) o)) _ None (commands.Serve s d)
+    by_true (IsSmall s) (not (is_some o.lines) && can_serve (serving_of (record { client = client; upstream = upstream; listen = listen; target = target }) o)) _ None (commands.Serve s d)
     (λ can f. subst IsSmall (serving_is _ s _ d f)
-    (or_bounded IsLimit _ o.limit (omega arith, omega arith) p.0, or_bounded (λ n. 0 < n) _ o.calls (omega arith) p.1, second_of_three _ _ _ can))
+    (or_bounded IsLimit _ o.limit (omega arith, omega arith) p.0, or_bounded (λ n. 0 < n) _ o.calls (omega arith) p.1, third_of_four _ _ _ _ can))
     (none_is (commands.Serve s d)) e
 
 bounded_options : (words : List (List ℕ)) (found : Option Options) → options_of no_options words ≡ found → IfSome found IsBounded
@@ -175,7 +187,7 @@ module _ (s : Serving) (d : Declared) where
     where
       by_options : (found : Option Options) → converted from to found ≡ Some (commands.Serve s d) → IsSmall s
       by_options None f = absurd (cc)
-      by_options (Some o) f = by_test (IsSmall s) (is_server_alone o) None _ (commands.Serve s d) (none_is (commands.Serve s d)) (λ g. absurd (cc)) f
+      by_options (Some o) f = by_test (IsSmall s) (is_server_alone o || not (can_convert from to o.lines)) None _ (commands.Serve s d) (none_is (commands.Serve s d)) (λ g. absurd (cc)) f
   not_converted None to words e = absurd (cc)
   not_converted (Some from) None words e = absurd (cc)
 
@@ -190,7 +202,7 @@ module _ (s : Serving) (d : Declared) where
     where
       by_options : (found : Option Options) → shown from found ≡ Some (commands.Serve s d) → IsSmall s
       by_options None f = absurd (cc)
-      by_options (Some o) f = by_test (IsSmall s) (is_server_alone o) None _ (commands.Serve s d) (none_is (commands.Serve s d)) (λ g. absurd (cc)) f
+      by_options (Some o) f = by_test (IsSmall s) (is_server_alone o || not (can_show from o.lines)) None _ (commands.Serve s d) (none_is (commands.Serve s d)) (λ g. absurd (cc)) f
 
   no_showing : (words : List (List ℕ)) → show_of words ≡ Some (commands.Serve s d) → IsSmall s
   no_showing [] e = absurd (cc)
@@ -202,7 +214,7 @@ module _ (s : Serving) (d : Declared) where
     where
       by_options : (found : Option Options) → conformed from found ≡ Some (commands.Serve s d) → IsSmall s
       by_options None f = absurd (cc)
-      by_options (Some o) f = by_test (IsSmall s) (is_server_alone o || is_none o.idl) None _ (commands.Serve s d) (none_is (commands.Serve s d)) (λ g. absurd (cc)) f
+      by_options (Some o) f = by_test (IsSmall s) (is_server_alone o || is_some o.lines || is_none o.idl) None _ (commands.Serve s d) (none_is (commands.Serve s d)) (λ g. absurd (cc)) f
 
   no_conforming : (words : List (List ℕ)) → conform_of words ≡ Some (commands.Serve s d) → IsSmall s
   no_conforming [] e = absurd (cc)

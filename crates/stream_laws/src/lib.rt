@@ -3,8 +3,15 @@
 //! Each law is the contract of a function that does nothing. The code rests on none of them.
 #![tactic(auto)]
 
-ghost use Rattle.std.specs.Prelude.{◌≡◌, List, ℕ};
+ghost use Rattle.std.specs.Prelude.{◌≡◌, List, ℕ, length};
+ghost use Rattle.thrift_value.specs.Trees.{Message};
 ghost use Rattle.protocol_traits.specs.declared.proto.Proto.{Proto};
+ghost use Rattle.protocol_traits.specs.declared.proto.Proto.TheVariants.{Json};
+ghost use Rattle.type_tables.specs.Declarations.{Declarations};
+ghost use Rattle.translate_core.specs.declared.route.Route.{Route};
+ghost use Rattle.verdict_laws.specs.Rounds.{plain_in};
+ghost use Rattle.line_transport.specs.Cuts.{IsMessage};
+ghost use Rattle.line_transport.specs.declared.transport.Transport.TheVariants.{Lines};
 ghost use Rattle.gate_words.specs.declared.peers.Sides.{Sides};
 ghost use Rattle.gate_run.specs.Handling.{outputs};
 ghost use Rattle.gate_run.specs.Outcome.{Streams, Streamed};
@@ -15,7 +22,7 @@ ghost use Rattle.gate_run.specs.declared.task.Doing.TheVariants.{Convert};
 ghost use Rattle.stream_laws.specs.Covering.{Converts, Shows, Conforms, TellsInput, GivesConverted, GivesListed, GivesConformed};
 ghost use Rattle.stream_laws.specs.Posts.{IsOverPosts, IsServedByPosts};
 ghost use Rattle.stream_laws.specs.Sessions.{IsCommanded, IsOverFrames, IsUnframed, IsServed, IsServedOver};
-ghost use Rattle.stream_laws.specs.Streams.{GiveAll, AreFrames};
+ghost use Rattle.stream_laws.specs.Streams.{GiveAll, AreFrames, IsCutBack};
 
 use conform_laws::a_frame_is_checked_by_its_grammar;
 use framed_transport::{a_stream_is_split, frame_stands_at_the_front};
@@ -26,13 +33,20 @@ use session_laws::a_server_carries_messages;
 use show_laws::a_frame_is_shown_by_its_grammar;
 use unframed_laws::wrapped_sides_are_framed;
 
-/// What is written of frames that are converted between two protocols, or from one to itself, is the frames of the plain spellings of the messages
+/// What is written of frames that are converted between two protocols, or from one to itself, is the frames, or the lines, of the plain spellings of the messages
 /// that they spell, in order; a frame that spells none of depth at most 256 which the other protocol holds gives nothing. So many frames stood before.
 pub fn frames_are_converted_by_their_grammar()
     ensures { (k : Terms) (p q : Proto) (n : ℕ) (frames : List (List ℕ)) → AreFrames p frames → k.doing ≡ Convert p q → GiveAll k p q frames (outputs k n frames) }
 {}
 
-/// What is written and reported of a stream that is converted between two protocols, or from one to itself: of each frame, in order, the frame of
+/// No plain spelling of a message in JSON has an LF in it, and none is blank. So what is written on lines is read as the same messages again: it is cut into
+/// the plain spellings of the messages that the frames carry, in order, where the limit is as long as each.
+pub fn written_lines_are_cut_back()
+    ensures unbroken { (d : Declarations) (route : Route) (m : Message) → IsMessage (length (plain_in Json d route m)) (plain_in Json d route m) }
+    ensures cut { (k : Terms) (p : Proto) (n : ℕ) (frames : List (List ℕ)) → AreFrames p frames → k.doing ≡ Convert p Json → k.output ≡ Lines → IsCutBack k p frames (outputs k n frames) }
+{}
+
+/// What is written and reported of a stream that is converted between two protocols, or from one to itself: of each frame, or line, in order, the frame or line of
 /// the plain spelling of its message, or a line with the place and the cause for which it can't go on. The input tells what is left of it.
 pub fn a_stream_is_converted_by_its_grammar<I: Source>()
     ensures { (k : Terms) (p q : Proto) (a b : Streams) (e : Ending) → Converts k p q → TellsInput I.Source a → Streamed k a b e → GivesConverted k p q a b e }

@@ -7,14 +7,14 @@ use Rattle.gate_run.proofs.convert.convert_frame.Goals as goal
 pub returns-in-Passed-clause-treated : goal.returns-in-Passed-clause-treated
 returns-in-Passed-clause-treated c = λ w.
     let j = judged_by c.args.task.now c.args.from c.args.to c.args.frame.now in
-    translation_passed j.verdict j.bytes _ w c.args.out.now.bytes c.translate_framed.new.out.bytes (sym c.in-Passed.ensures.verdict) (ap (λ (b : Buffer). b.bytes) c.translate_framed.ensures.appended)
+    translation_passed c.args.task.now.output j.verdict j.bytes _ w c.args.out.now.bytes c.translate_sent.new.out.bytes (sym c.in-Passed.ensures.verdict) (ap (λ (b : Buffer). b.bytes) c.translate_sent.ensures.appended)
 
 pub returns-in-Refused-clause-treated : goal.returns-in-Refused-clause-treated
 returns-in-Refused-clause-treated c = λ w.
     let j = judged_by c.args.task.now c.args.from c.args.to c.args.frame.now in
-    translation_refused j.verdict j.bytes _ c.in-Refused.cause w c.args.out.now.bytes c.translate_framed.new.out.bytes (sym c.in-Refused.ensures.verdict) (ap (λ (b : Buffer). b.bytes) c.translate_framed.ensures.appended)
+    translation_refused c.args.task.now.output j.verdict j.bytes _ c.in-Refused.cause w c.args.out.now.bytes c.translate_sent.new.out.bytes (sym c.in-Refused.ensures.verdict) (ap (λ (b : Buffer). b.bytes) c.translate_sent.ensures.appended)
 
 pub returns-in-Unread-clause-treated : goal.returns-in-Unread-clause-treated
 returns-in-Unread-clause-treated c = λ w.
     let j = judged_by c.args.task.now c.args.from c.args.to c.args.frame.now in
-    translation_unread j.verdict j.bytes c.in-Unread.fault w c.args.out.now.bytes c.translate_framed.new.out.bytes (sym c.in-Unread.ensures.verdict) (ap (λ (b : Buffer). b.bytes) c.translate_framed.ensures.appended)
+    translation_unread c.args.task.now.output j.verdict j.bytes c.in-Unread.fault w c.args.out.now.bytes c.translate_sent.new.out.bytes (sym c.in-Unread.ensures.verdict) (ap (λ (b : Buffer). b.bytes) c.translate_sent.ensures.appended)

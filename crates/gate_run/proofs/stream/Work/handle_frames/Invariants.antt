@@ -15,4 +15,4 @@ invariant-frames g l =
     }
 
 abbrev pub decreases-frames : goal.decreases-frames
-decreases-frames g l = length l.self.frames.held
+decreases-frames g l = length l.self.inbox.held

@@ -1,6 +1,6 @@
 use Rattle.std.proofs.Common.{◌-◌, ◌^◌, ◌≤◌}
 use Rattle.gate_run.specs.Progress.{Goes}
-use Rattle.gate_run.specs.Working.{IsReady, IsFlushed, IsWaiting, moment}
+use Rattle.gate_run.specs.Working.{IsReady, IsCounted, IsFlushed, IsWaiting, moment}
 use Rattle.gate_run.proofs.stream.Work.process.Given as goal
 
 -- what the frames so far give was written, and no whole frame is held
@@ -11,9 +11,10 @@ invariant-pieces g l =
     let report = g.E.Sink in
     record {
       ready : IsReady l.task l.self;
+      counted : IsCounted l.self;
       flushed : IsFlushed l.self;
       goes : Goes l.task (moment l.fn.self (input.left l.fn.input) (output.written l.fn.output) (report.written l.fn.report)) (moment l.self (input.left l.input) (output.written l.output) (report.written l.report));
-      waiting : IsWaiting l.task l.self.frames.held;
+      waiting : IsWaiting l.task l.self.inbox.held;
       input_later : input.faults l.fn.input ≤ input.faults l.input;
       later : output.faults l.fn.output ≤ output.faults l.output;
       report_later : report.faults l.fn.report ≤ report.faults l.report;

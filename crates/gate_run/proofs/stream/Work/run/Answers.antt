@@ -6,7 +6,7 @@ pub process-requires-clause-flushed : goal.process-requires-clause-flushed
 process-requires-clause-flushed g c = c.requires.start.flushed
 
 pub process-requires-clause-waiting : goal.process-requires-clause-waiting
-process-requires-clause-waiting g c = nothing_waits c.args.task.now c.args.self.now.frames.held c.requires.start.held
+process-requires-clause-waiting g c = nothing_waits c.args.task.now c.args.self.now.inbox.held c.requires.start.held
 
 pub returns-in-Ok-clause-streamed : goal.returns-in-Ok-clause-streamed
 returns-in-Ok-clause-streamed g c =

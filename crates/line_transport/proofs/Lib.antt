@@ -1,0 +1,4 @@
+-- Lemmas.
+pub mod Cutting
+pub mod Searching
+pub mod Spanning
