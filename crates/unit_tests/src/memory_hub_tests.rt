@@ -38,29 +38,49 @@ fn script(alloc: Global) -> Result<HubSteps, OutOfMemory> {
     Ok(steps)
 }
 
+/// Starts it, and takes an event for each step that makes one, the fault and the end.
+fn tells_its_steps(hub: &mut MemHub, alloc: Global) -> bool {
+    hub.start(alloc, b"a", b"b", 0, 1) == Began::Done
+        && hub.next() == HubNext::Opened(0)
+        && hub.next() == HubNext::Ready(0)
+        && hub.next() == HubNext::Ready(0)
+        && hub.next() == HubNext::Ready(0)
+        && hub.next() == HubNext::Failed
+        && hub.next() == HubNext::Stopped
+}
+
+/// The bytes that came, two at a time, and the end; nothing behind it.
+fn reads_up_to_the_end(hub: &mut MemHub) -> bool {
+    let mut into = [0; 4];
+    hub.read(0, Side::Client, &mut into) == LinkGot::Bytes(2)
+        && hub.read(0, Side::Client, &mut into) == LinkGot::Bytes(1)
+        && hub.read(0, Side::Client, &mut into) == LinkGot::End
+        && into == [b'c', b'b', 0, 0]
+}
+
+/// One byte, for which there is room.
+fn writes_what_has_room(hub: &mut MemHub) -> bool {
+    hub.write(0, Side::Upstream, b"xy") == LinkPut::Took(1)
+        && hub.write(0, Side::Upstream, b"xy") == LinkPut::NotReady
+        && hub.sent_to(0, Side::Upstream) == b"x".as_slice()
+}
+
+fn scripted(alloc: Global) -> Result<MemHub, OutOfMemory> {
+    MemHub::new(alloc, script(alloc)?, 2)
+}
+
+fn does_its_steps(alloc: Global) -> Result<[bool; 3], OutOfMemory> {
+    let mut hub = scripted(alloc)?;
+    Ok([
+        tells_its_steps(&mut hub, alloc),
+        reads_up_to_the_end(&mut hub),
+        writes_what_has_room(&mut hub),
+    ])
+}
+
 #[test]
 fn a_hub_does_its_steps(rt: HostRuntime) -> Result<(), Fail> {
-    let Ok(steps) = script(rt.alloc()) else {
-        panic!(rt; "no memory");
-    };
-    let Ok(mut hub) = MemHub::new(rt.alloc(), steps, 2) else {
-        panic!(rt; "no memory");
-    };
-    assert_eq!(rt; hub.start(rt.alloc(), b"a", b"b", 0, 1), Began::Done);
-    assert_eq!(rt; hub.next(), HubNext::Opened(0));
-    for _ in 0..3 {
-        assert_eq!(rt; hub.next(), HubNext::Ready(0));
-    }
-    assert_eq!(rt; hub.next(), HubNext::Failed);
-    assert_eq!(rt; hub.next(), HubNext::Stopped);
-    let mut into = [0; 4];
-    for got in [LinkGot::Bytes(2), LinkGot::Bytes(1), LinkGot::End] {
-        assert_eq!(rt; hub.read(0, Side::Client, &mut into), got);
-    }
-    assert_eq!(rt; into, [b'c', b'b', 0, 0]);
-    for put in [LinkPut::Took(1), LinkPut::NotReady] {
-        assert_eq!(rt; hub.write(0, Side::Upstream, b"xy"), put);
-    }
-    assert_eq!(rt; hub.sent_to(0, Side::Upstream), b"x".as_slice());
+    let done = does_its_steps(rt.alloc()).ok().ok_or("memory")?;
+    assert_eq!(rt; done, [true; 3]);
     Ok(())
 }

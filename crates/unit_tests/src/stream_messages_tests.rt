@@ -76,43 +76,50 @@ fn steps(alloc: Global, sends: &[u8], ends: bool) -> Result<HubSteps, OutOfMemor
 }
 
 /// Reads until nothing more comes.
-fn read_all<H: Hub>(hub: &mut H, room: usize, read: &mut Vec<u8>) -> Result<LinkGot, Fail> {
+fn read_all<H: Hub>(hub: &mut H, room: usize, read: &mut Vec<u8>) -> Result<LinkGot, OutOfMemory> {
     let mut piece = [0; 64];
     let room = room.clamp(1, 64);
     for _ in 0..1000 {
         match hub.read(0, Side::Client, &mut piece[..room]) {
-            LinkGot::Bytes(count) => {
-                for byte in &piece[..count.min(64)] {
-                    read.push(*byte)?;
-                }
-            }
+            LinkGot::Bytes(count) => read.extend_from_slice(&piece[..count.min(64)])?,
             answer => return Ok(answer),
         }
     }
     Ok(LinkGot::Failed)
 }
 
+/// Whether a hub announces its session, and these frames are read of its client.
+fn reads_so<H: Hub>(
+    hub: &mut H,
+    alloc: Global,
+    room: usize,
+    row: &Row,
+) -> Result<bool, OutOfMemory> {
+    let is_open = hub.start(alloc, b"a", b"b", 0, 1) == Began::Done
+        && hub.next() == HubNext::Opened(0);
+    for _ in 0..3 {
+        hub.next();
+    }
+    let mut read = Vec::new(alloc);
+    let last = read_all(hub, room, &mut read)?;
+    Ok(is_open && read.as_slice() == row.frames && last == row.last)
+}
+
+/// The same over a hub whose client sends what the row tells, of which so many bytes move in a call.
+fn is_read(alloc: Global, row: &Row, chunk: usize, room: usize) -> Result<bool, OutOfMemory>
+    requires { 0 < chunk }
+{
+    let mut below = MemHub::new(alloc, steps(alloc, row.sends, row.ends)?, chunk)?;
+    let mut hub = UnframedHub::over(&mut below, Some(row.wire), None, LIMIT);
+    reads_so(&mut hub, alloc, room, row)
+}
+
 #[test]
 fn frames_of_what_is_sent_are_read(rt: HostRuntime) -> Result<(), Fail> {
-    let alloc = rt.alloc();
     for row in &ROWS {
         for (chunk, room) in [(1, 64), (64, 64), (64, 1), (3, 3)] {
-            let Ok(steps) = steps(alloc, row.sends, row.ends) else {
-                panic!(rt; "no memory");
-            };
-            let Ok(mut below) = MemHub::new(alloc, steps, chunk) else {
-                panic!(rt; "no memory");
-            };
-            let mut hub = UnframedHub::over(&mut below, Some(row.wire), None, LIMIT);
-            assert_eq!(rt; hub.start(alloc, b"a", b"b", 0, 1), Began::Done);
-            assert_eq!(rt; hub.next(), HubNext::Opened(0));
-            for _ in 0..3 {
-                hub.next();
-            }
-            let mut read = Vec::new(alloc);
-            let last = read_all(&mut hub, room, &mut read)?;
-            assert_eq!(rt; read.as_slice(), row.frames);
-            assert_eq!(rt; last, row.last);
+            let is_read = is_read(rt.alloc(), row, chunk, room).ok().ok_or("memory")?;
+            assert!(rt; is_read, "{chunk} and {room}");
         }
     }
     Ok(())
