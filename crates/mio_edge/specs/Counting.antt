@@ -19,7 +19,7 @@ counts_of faults client upstream = record {
 }
 
 -- the counts of this hub
-abbrev pub counts_in : {N : Type 0} → MioHub N → Counts
+abbrev pub counts_in : {W S : Type 0} → MioHub W S → Counts
 counts_in hub = counts_of hub.sockets.faults hub.client hub.upstream
 
 -- the counts of the fan over sockets: those of a port are of all ports and sessions together

@@ -2,3 +2,8 @@
 pub mod Counting
 pub mod Moving
 pub mod Numbers
+pub mod Sessions
+pub mod Tables
+pub mod Telling
+pub mod Wire
+pub mod Worlds

@@ -10,6 +10,7 @@ ghost use Rattle.mio_edge.specs.Numbers.{Numbers};
 
 use crate::Sockets;
 use crate::hub::SideCounts;
+use crate::mio_network::MioNetwork;
 use gate_base::{OutOfMemory, Text};
 use gate_fan::{Fan, Target};
 use gate_hub::{Began, HubNext, LinkGot, LinkPut};
@@ -24,8 +25,8 @@ use std::net::Net;
 /// It reserves `sessions + 1` places in `start`, each with two buffers for each of its ports, and takes no
 /// memory after it.
 #[derive(Drop)]
-pub struct MioFan<'n, N> {
-    sockets: Sockets<'n, N>,
+pub struct MioFan<'n, N: Net> {
+    sockets: Sockets<MioNetwork<'n, N>>,
     targets: usize,
     links: SideCounts,
 }

@@ -1,5 +1,5 @@
-//! The hub of sessions with one upstream. It tells no content, and counts what failed and what
-//! wasn't ready.
+//! The hub of sessions with one upstream. It tells what its network's streams tell, and counts what
+//! failed and what wasn't ready.
 ghost use Rattle.std.specs.Prelude.{◌≡◌, ◌<◌, ◌-◌, ◌^◌, ◌≤◌};
 ghost use Rattle.gate_base.specs.Causes.{Rose};
 ghost use Rattle.gate_hub.specs.Hubs.{HasStarted, Later, Leads, NextLeads, NotStarted, StartLeads, started_with};
@@ -7,8 +7,11 @@ ghost use Rattle.gate_hub.specs.declared.hub.Began.TheVariants as began;
 ghost use Rattle.gate_hub.specs.declared.hub.HubNext.TheVariants as event;
 ghost use Rattle.mio_edge.specs.Counting.{side_counts, counts_in};
 ghost use Rattle.mio_edge.specs.Numbers.{Numbers};
+ghost use Rattle.mio_edge.specs.Telling.{HubTells, port_number};
 
 use crate::Sockets;
+use crate::mio_network::MioNetwork;
+use crate::network::Network;
 use gate_base::Text;
 use gate_hub::{Began, Hub, HubNext, LinkGot, LinkPut, Side};
 use std::alloc::Global;
@@ -22,20 +25,31 @@ pub struct SideCounts {
     pub(crate) waits: u64,
 }
 
-/// A hub over real sockets.
+/// A hub over the sockets of a network.
 ///
 /// It reserves `sessions + 1` places in `start`, each of 1,048,576 bytes, or 262,144 for more than 64
 /// sessions, for the buffers of its two ports and some hundreds, and takes no memory after it.
 #[derive(Drop)]
-pub struct MioHub<'n, N> {
-    sockets: Sockets<'n, N>,
+pub struct MioHub<W: Network> {
+    sockets: Sockets<W>,
     client: SideCounts,
     upstream: SideCounts,
 }
 
-impl<'n, N: Net> MioHub<'n, N> {
-    /// A hub that hasn't started. Its counts are 0.
-    pub fn new(net: &'n N) -> MioHub<'n, N>
+impl<'n, N: Net> MioHub<MioNetwork<'n, N>> {
+    /// A hub over the system's sockets that hasn't started. Its counts are 0.
+    pub fn new(net: &'n N) -> MioHub<MioNetwork<'n, N>>
+        ensures faults { result.sockets.faults ≡ 0 }
+        ensures client { result.client ≡ record { faults = 0; waits = 0 } }
+        ensures upstream { result.upstream ≡ record { faults = 0; waits = 0 } }
+    {
+        MioHub::over(MioNetwork::new(net))
+    }
+}
+
+impl<W: Network> MioHub<W> {
+    /// A hub over this network that hasn't started. Its counts are 0.
+    pub fn over(network: W) -> MioHub<W>
         ensures faults { result.sockets.faults ≡ 0 }
         ensures client { result.client ≡ record { faults = 0; waits = 0 } }
         ensures upstream { result.upstream ≡ record { faults = 0; waits = 0 } }
@@ -45,14 +59,43 @@ impl<'n, N: Net> MioHub<'n, N> {
             waits: 0,
         };
         MioHub {
-            sockets: Sockets::new(net),
+            sockets: Sockets::over(network),
             client: none,
             upstream: none,
         }
     }
 
+    // Counts what a read of a side answered.
+    fn count_got(&mut self, side: Side, got: LinkGot)
+        ensures sockets { self.new.sockets ≡ self.old.sockets }
+        ensures later { Later (counts_in self.old) (counts_in self.new) }
+        ensures cause { got ≡ LinkGot.Failed → Rose (side_counts self.old.client self.old.upstream side).faults (side_counts self.new.client self.new.upstream side).faults }
+        ensures wait { got ≡ LinkGot.NotReady → Rose (side_counts self.old.client self.old.upstream side).waits (side_counts self.new.client self.new.upstream side).waits }
+    {
+        match got {
+            LinkGot::Failed => self.count_fault(side),
+            LinkGot::NotReady => self.count_wait(side),
+            LinkGot::Bytes(_) | LinkGot::End => (),
+        }
+    }
+
+    // Counts what a write to a side answered.
+    fn count_put(&mut self, side: Side, put: LinkPut)
+        ensures sockets { self.new.sockets ≡ self.old.sockets }
+        ensures later { Later (counts_in self.old) (counts_in self.new) }
+        ensures cause { put ≡ LinkPut.Failed → Rose (side_counts self.old.client self.old.upstream side).faults (side_counts self.new.client self.new.upstream side).faults }
+        ensures wait { put ≡ LinkPut.NotReady → Rose (side_counts self.old.client self.old.upstream side).waits (side_counts self.new.client self.new.upstream side).waits }
+    {
+        match put {
+            LinkPut::Failed => self.count_fault(side),
+            LinkPut::NotReady => self.count_wait(side),
+            LinkPut::Took(_) => (),
+        }
+    }
+
     // Counts a fault of a side.
     fn count_fault(&mut self, side: Side)
+        ensures sockets { self.new.sockets ≡ self.old.sockets }
         ensures later { Later (counts_in self.old) (counts_in self.new) }
         ensures cause { Rose (side_counts self.old.client self.old.upstream side).faults (side_counts self.new.client self.new.upstream side).faults }
     {
@@ -64,6 +107,7 @@ impl<'n, N: Net> MioHub<'n, N> {
 
     // Counts an answer of a side that it isn't ready.
     fn count_wait(&mut self, side: Side)
+        ensures sockets { self.new.sockets ≡ self.old.sockets }
         ensures later { Later (counts_in self.old) (counts_in self.new) }
         ensures cause { Rose (side_counts self.old.client self.old.upstream side).waits (side_counts self.new.client self.new.upstream side).waits }
     {
@@ -74,8 +118,8 @@ impl<'n, N: Net> MioHub<'n, N> {
     }
 }
 
-impl<N: Net> Hub for MioHub<'_, N> {
-    ghost tells = { λ _ _. ⊥ };
+impl<W: Network> Hub for MioHub<W> {
+    ghost tells = { HubTells W.is_telling W.Stream.tells };
 
     ghost counts = { λ h. counts_in h };
 
@@ -89,7 +133,7 @@ impl<N: Net> Hub for MioHub<'_, N> {
         accept: u64,
         sessions: usize,
     ) -> Began
-        ensures leads { Leads (λ _. ⊥) (λ _. ⊥) NotStarted (StartLeads (started_with listen.now upstream.now accept sessions) result) }
+        ensures leads { Leads (HubTells W.is_telling W.Stream.tells self.old) (HubTells W.is_telling W.Stream.tells self.new) NotStarted (StartLeads (started_with listen.now upstream.now accept sessions) result) }
         ensures later { Later (counts_in self.old) (counts_in self.new) }
         ensures cause { result ≡ began.Failed → Rose self.old.sockets.faults self.new.sockets.faults }
         ensures accept { result ≡ began.Done → self.new.sockets.accept ≡ accept }
@@ -103,7 +147,7 @@ impl<N: Net> Hub for MioHub<'_, N> {
     }
 
     fn next(&mut self) -> HubNext
-        ensures leads { Leads (λ _. ⊥) (λ _. ⊥) HasStarted (NextLeads result) }
+        ensures leads { Leads (HubTells W.is_telling W.Stream.tells self.old) (HubTells W.is_telling W.Stream.tells self.new) HasStarted (NextLeads result) }
         ensures later { Later (counts_in self.old) (counts_in self.new) }
         ensures cause { result ≡ event.Failed → Rose self.old.sockets.faults self.new.sockets.faults }
         ensures numbers { Numbers result self.old.sockets.announced self.new.sockets.announced }
@@ -114,21 +158,13 @@ impl<N: Net> Hub for MioHub<'_, N> {
 
     fn read(&mut self, k: u64, side: Side, into: &mut [u8]) -> LinkGot {
         let got = self.sockets.read(k, port_of(side), into);
-        match got {
-            LinkGot::Failed => self.count_fault(side),
-            LinkGot::NotReady => self.count_wait(side),
-            LinkGot::Bytes(_) | LinkGot::End => (),
-        }
+        self.count_got(side, got);
         got
     }
 
     fn write(&mut self, k: u64, side: Side, from: &[u8]) -> LinkPut {
         let put = self.sockets.write(k, port_of(side), from);
-        match put {
-            LinkPut::Failed => self.count_fault(side),
-            LinkPut::NotReady => self.count_wait(side),
-            LinkPut::Took(_) => (),
-        }
+        self.count_put(side, put);
         put
     }
 
@@ -136,11 +172,13 @@ impl<N: Net> Hub for MioHub<'_, N> {
         self.sockets.close(k);
     }
 
-    ghost bytes = { λ hub m told. absurd told };
+    ghost bytes = { λ hub m told. told.sessions.bytes };
 }
 
 // The port of a side.
-fn port_of(side: Side) -> usize {
+fn port_of(side: Side) -> usize
+    ensures { result ≡ port_number side }
+{
     match side {
         Side::Client => 0,
         Side::Upstream => 1,

@@ -12,14 +12,19 @@
 //! A session that moved 512 KiB, or 128 KiB where there may be more than 64 sessions, since it was last
 //! named waits until the others that are ready had their turn.
 //!
-//! What peers sent, and when a socket is ready, is the system's word: the hub tells no content. What
-//! is proved is safety, the counts, the numbers of the sessions, and that no byte is lost, doubled or
-//! put out of order between a socket's calls and the hub's.
+//! The rules stand over two traits: a `Stream` is a connection that may tell what went over it, and a
+//! `Network` has the streams of a server, and waits for what comes of them. The system's tell nothing,
+//! since what peers sent is the system's word; its impls only call. Over streams that tell, `MioHub`
+//! tells by the rules of a hub: of each open session, what its own streams gave and took. `MioFan` tells
+//! nothing.
 #![tactic(auto)]
 
 mod fan;
 mod hub;
 mod listening;
+mod mio_network;
+mod mio_stream;
+mod network;
 mod port;
 mod queue;
 mod session;
@@ -29,4 +34,7 @@ mod table;
 
 pub use fan::MioFan;
 pub use hub::{MioHub, SideCounts};
+pub use mio_network::MioNetwork;
+pub use network::{Accepted, Network, Readiness, Reports, Waited};
 pub use sockets::Sockets;
+pub use stream::Stream;

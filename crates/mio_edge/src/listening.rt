@@ -1,18 +1,14 @@
-//! The listener of a server, its poll and its sessions.
+//! The sessions of a server that listens, and its wait for what comes of them.
+ghost use Rattle.std.specs.Prelude.{◌≡◌, ◌≢◌, [], ℕ, true, false};
+ghost use Rattle.mio_edge.specs.Wire.{Stays, new_wire};
+ghost use Rattle.mio_edge.specs.Tables.{TableTells, IsPrepared, IsClosedAt, Announces};
+
+use crate::Stream;
+use crate::network::{Accepted, Network, Waited};
 use crate::port::Sending;
 use crate::table::Table;
-use mio::net::{TcpListener, TcpStream};
-use mio::{Events, Interest, Poll, Token};
-use std::alloc::Global;
-use std::io;
-use std::io::ErrorKind;
-use std::net::{Net, SocketAddr};
+use std::net::SocketAddr;
 use std::time::Duration;
-
-const LISTENER: Token = Token(usize::MAX);
-
-/// At most so many events are taken at a time.
-const MOST_EVENTS: usize = 1024;
 
 /// At most so many connections are accepted between two waits, so that a crowd of them doesn't hold
 /// up the sessions.
@@ -27,35 +23,6 @@ const RETRY_MILLIS: u64 = 100;
 const PATIENCE: u32 = 100_000;
 
 const IDLE_COST: u32 = 10_000;
-
-/// Why no listener could be opened.
-#[derive(Clone, Copy)]
-pub(crate) enum OpenError {
-    OutOfMemory,
-    Failed,
-}
-
-impl From<gate_base::OutOfMemory> for OpenError {
-    ghost use Rattle.std.specs.Prelude.{◌≡◌};
-    ghost use Rattle.mio_edge.specs.declared.listening.OpenError.TheVariants.{OutOfMemory};
-
-    ghost from_gives = { λ _ e. e ≡ OutOfMemory };
-
-    fn from(_: gate_base::OutOfMemory) -> Self {
-        OpenError::OutOfMemory
-    }
-}
-
-impl From<std::alloc::AllocError> for OpenError {
-    ghost use Rattle.std.specs.Prelude.{◌≡◌};
-    ghost use Rattle.mio_edge.specs.declared.listening.OpenError.TheVariants.{OutOfMemory};
-
-    ghost from_gives = { λ _ e. e ≡ OutOfMemory };
-
-    fn from(_: std::alloc::AllocError) -> Self {
-        OpenError::OutOfMemory
-    }
-}
 
 // Whether a connection may wait: none so far, one may, or the last accept failed, for want of
 // descriptors, say, and is to be tried again later.
@@ -74,163 +41,238 @@ pub(crate) enum Connecting {
     OnDemand,
 }
 
-/// What a server listens and waits with.
+/// What a server that listens has.
 #[derive(Drop)]
-pub(crate) struct Listening {
-    poll: Poll,
-    events: Events<Global>,
-    /// Absent once no more connections are to be accepted.
-    listener: Option<TcpListener>,
+pub(crate) struct Listening<S: Stream> {
+    /// Later connections are accepted.
+    is_accepting: bool,
     accepting: Accepting,
     accepts_left: u32,
     patience: u32,
     targets: Vec<SocketAddr>,
     connecting: Connecting,
-    pub(crate) table: Table,
+    pub(crate) table: Table<S>,
 }
 
-impl Listening {
-    /// Listens at an address, for sessions that are led to these targets.
-    pub(crate) fn open<N: Net>(
-        net: &N,
-        alloc: Global,
-        listen: SocketAddr,
+impl<S: Stream> Listening<S> {
+    /// No sessions yet, which are to be led to these targets.
+    pub(crate) fn new(
         targets: Vec<SocketAddr>,
         connecting: Connecting,
-        table: Table,
-    ) -> Result<Listening, OpenError> {
-        let (events, poll, listener) = listen_at(net, alloc, listen)?;
-        Ok(Listening {
-            poll,
-            events,
-            listener: Some(listener),
+        table: Table<S>,
+    ) -> Listening<S>
+        ensures connecting { result.connecting ≡ connecting }
+        ensures table { result.table ≡ table }
+    {
+        Listening {
+            is_accepting: true,
             accepting: Accepting::Idle,
             accepts_left: MOST_ACCEPTS,
             patience: PATIENCE,
             targets,
             connecting,
             table,
-        })
+        }
     }
 
     /// Lets the listener go: later connections are refused.
-    pub(crate) fn stop_accepting(&mut self) {
-        self.listener = None;
+    pub(crate) fn stop_accepting<W: Network<Stream = S>>(&mut self, network: &mut W)
+        ensures table { self.new.table ≡ self.old.table }
+        ensures connecting { self.new.connecting ≡ self.old.connecting }
+    {
+        if self.is_accepting {
+            self.is_accepting = false;
+            network.stop_listening();
+        }
     }
 
     /// Whether all sessions are closed and everything is sent, and the peers have ended too or were
     /// waited for long enough.
-    pub(crate) fn is_over(&self) -> bool {
+    pub(crate) fn is_over(&self) -> bool
+        ensures { result ≡ true → self.now.table.entries.items ≡ [] }
+    {
         self.table.is_done() && (self.patience == 0 || self.table.is_empty())
     }
 
     /// Accepts the next connection that waits, as this session, and begins one to each target, or has
     /// it begun later. It says whether there is a new session. An accept that fails is passed over.
-    pub(crate) fn accept<N: Net>(&mut self, net: &N, number: u64) -> bool {
-        let Some(listener) = &self.listener else {
-            return false;
-        };
+    pub(crate) fn accept<W: Network<Stream = S>>(&mut self, network: &mut W, number: u64) -> bool
+        ensures opens { result ≡ true → W.is_telling → Announces number (TableTells S.tells self.old.table) (TableTells S.tells self.new.table) }
+        ensures kept { result ≡ false → Stays (TableTells S.tells self.old.table) (TableTells S.tells self.new.table) }
+        ensures connecting { self.new.connecting ≡ self.old.connecting }
+    {
         if self.accepting != Accepting::Ready || self.accepts_left == 0 || !self.table.has_place() {
             return false;
         }
         self.accepts_left = self.accepts_left.saturating_sub(1);
-        match listener.accept() {
-            Ok((client, _)) => self.admit(net, number, client),
-            Err(error) => {
-                self.accepting = after_failure(error.kind());
-                false
-            }
-        }
+        let next = match network.accept() {
+            Accepted::Came(client) => return self.admit(network, number, client),
+            Accepted::Nothing => Accepting::Idle,
+            Accepted::Gone => Accepting::Ready,
+            Accepted::Failed => Accepting::Short,
+        };
+        self.accepting = next;
+        false
     }
 
     // Makes a session of a connection.
-    fn admit<N: Net>(&mut self, net: &N, number: u64, client: TcpStream) -> bool {
+    fn admit<W: Network<Stream = S>>(&mut self, network: &mut W, number: u64, client: S) -> bool
+        ensures opens { result ≡ true → W.is_telling → S.tells client new_wire → Announces number (TableTells S.tells self.old.table) (TableTells S.tells self.new.table) }
+        ensures kept { result ≡ false → Stays (TableTells S.tells self.old.table) (TableTells S.tells self.new.table) }
+        ensures connecting { self.new.connecting ≡ self.old.connecting }
+    {
         let Some(place) = self.table.begin(number) else {
             return false;
         };
-        let is_whole = self
-            .table
-            .attach(self.poll.registry(), place, 0, client, Sending::Ready)
-            && self.table.announce(number, place);
-        if !is_whole {
+        if !self.link(network, place, client) {
             self.table.release(place);
             return false;
         }
-        match self.connecting {
-            Connecting::AtOnce => self.connect_all(net, place),
-            Connecting::OnDemand => self.table.defer(place),
+        if self.table.announce(number, place) {
+            return true;
         }
+        self.table.release(place);
+        false
+    }
+
+    // Gives the ports of the session at a place their connections, those to the targets now or at the
+    // first write to each. It says whether the client has one.
+    fn link<W: Network<Stream = S>>(&mut self, network: &mut W, place: usize, client: S) -> bool
+        ensures prepared { (k : ℕ) → W.is_telling → S.tells client new_wire → IsPrepared S.tells self.old.table place k → IsPrepared S.tells self.new.table place k }
+        ensures keeps { IsClosedAt self.old.table.sessions place → IsClosedAt self.new.table.sessions place × Stays (TableTells S.tells self.old.table) (TableTells S.tells self.new.table) }
+        ensures connecting { self.new.connecting ≡ self.old.connecting }
+    {
+        if self.connecting == Connecting::OnDemand {
+            self.table.defer(place);
+            return self.attach(network, place, 0, client, Sending::Ready);
+        }
+        if !self.attach(network, place, 0, client, Sending::Ready) {
+            return false;
+        }
+        self.connect_all(network, place);
         true
     }
 
+    // Gives a port of the session at a place its connection, and has it reported.
+    fn attach<W: Network<Stream = S>>(
+        &mut self,
+        network: &mut W,
+        place: usize,
+        port: usize,
+        mut stream: S,
+        sending: Sending,
+    ) -> bool
+        requires { sending ≢ Sending.Lost }
+        ensures prepared { (k : ℕ) → S.tells stream new_wire → IsPrepared S.tells self.old.table place k → IsPrepared S.tells self.new.table place k }
+        ensures keeps { IsClosedAt self.old.table.sessions place → IsClosedAt self.new.table.sessions place × Stays (TableTells S.tells self.old.table) (TableTells S.tells self.new.table) }
+        ensures connecting { self.new.connecting ≡ self.old.connecting }
+    {
+        let token = self.table.token(place, port);
+        network.watch(&mut stream, token) && self.table.attach(place, port, stream, sending)
+    }
+
     // Begins a connection to each target. A port whose connection can't be begun stays without one.
-    fn connect_all<N: Net>(&mut self, net: &N, place: usize) {
+    fn connect_all<W: Network<Stream = S>>(&mut self, network: &mut W, place: usize)
+        ensures prepared { (k : ℕ) → W.is_telling → IsPrepared S.tells self.old.table place k → IsPrepared S.tells self.new.table place k }
+        ensures keeps { IsClosedAt self.old.table.sessions place → IsClosedAt self.new.table.sessions place × Stays (TableTells S.tells self.old.table) (TableTells S.tells self.new.table) }
+        ensures connecting { self.new.connecting ≡ self.old.connecting }
+    {
         for at in 0..self.targets.len() {
-            self.connect(net, place, at.saturating_add(1));
+            self.connect(network, place, at.saturating_add(1));
         }
     }
 
     // Begins the connection of a port to its target, and says whether there is one.
-    fn connect<N: Net>(&mut self, net: &N, place: usize, port: usize) -> bool {
+    fn connect<W: Network<Stream = S>>(
+        &mut self,
+        network: &mut W,
+        place: usize,
+        port: usize,
+    ) -> bool
+        ensures prepared { (k : ℕ) → W.is_telling → IsPrepared S.tells self.old.table place k → IsPrepared S.tells self.new.table place k }
+        ensures keeps { IsClosedAt self.old.table.sessions place → IsClosedAt self.new.table.sessions place × Stays (TableTells S.tells self.old.table) (TableTells S.tells self.new.table) }
+        ensures connecting { self.new.connecting ≡ self.old.connecting }
+    {
         let Some(target) = self.targets.get(port.wrapping_sub(1)) else {
             return false;
         };
-        let Ok(stream) = TcpStream::connect(net, *target) else {
+        let Some(stream) = network.connect(*target) else {
             return false;
         };
-        self.table.attach(self.poll.registry(), place, port, stream, Sending::Blocked)
+        self.attach(network, place, port, stream, Sending::Blocked)
     }
 
     /// Begins the connection of a port of session `number` where that was left to the first write.
     /// Where it can't be begun the port stays without one.
-    pub(crate) fn connect_for_write<N: Net>(&mut self, net: &N, number: u64, port: usize) {
+    pub(crate) fn connect_for_write<W: Network<Stream = S>>(
+        &mut self,
+        network: &mut W,
+        number: u64,
+        port: usize,
+    )
+        ensures at_once { self.old.connecting ≡ Connecting.AtOnce → self.new ≡ self.old }
+    {
         if self.connecting == Connecting::AtOnce {
             return;
         }
         if let Some(place) = self.table.find_deferred(number, port)
-            && !self.connect(net, place, port)
+            && !self.connect(network, place, port)
         {
             self.table.give_up(place, port);
         }
     }
 
     /// Sends what was written, and waits until something is reported where no session is to have a
-    /// turn for that.
-    pub(crate) fn rest(&mut self) -> io::Result<()> {
+    /// turn for that. It says whether the wait failed.
+    pub(crate) fn rest<W: Network<Stream = S>>(&mut self, network: &mut W) -> bool
+        ensures keeps { Stays (TableTells S.tells self.old.table) (TableTells S.tells self.new.table) }
+        ensures connecting { self.new.connecting ≡ self.old.connecting }
+    {
         self.table.send();
         if self.table.has_ready() {
-            return Ok(());
+            return false;
         }
-        self.wait()
+        self.wait(network)
     }
 
-    // Waits until something is reported. It doesn't wait where a session is to have a turn behind the
-    // others, or a connection may be accepted.
-    fn wait(&mut self) -> io::Result<()> {
+    // Waits until something is reported, and says whether that failed. It doesn't wait where a session
+    // is to have a turn behind the others, or a connection may be accepted.
+    fn wait<W: Network<Stream = S>>(&mut self, network: &mut W) -> bool
+        ensures keeps { Stays (TableTells S.tells self.old.table) (TableTells S.tells self.new.table) }
+        ensures connecting { self.new.connecting ≡ self.old.connecting }
+    {
         let timeout = self.timeout();
-        self.poll.poll(&mut self.events, timeout)?;
-        if self.accepting == Accepting::Short {
+        let waited = network.wait(timeout, &mut self.table);
+        self.wake(waited);
+        self.table.recall();
+        waited == Waited::Failed
+    }
+
+    // Takes note of what a wait answered.
+    fn wake(&mut self, waited: Waited)
+        ensures table { self.new.table ≡ self.old.table }
+        ensures connecting { self.new.connecting ≡ self.old.connecting }
+    {
+        if self.accepting == Accepting::Short || waited == Waited::Connection {
             self.accepting = Accepting::Ready;
         }
         self.accepts_left = MOST_ACCEPTS;
-        self.spend_patience();
-        for event in &self.events {
-            if event.token() == LISTENER {
-                self.accepting = Accepting::Ready;
-            } else {
-                self.table.report(*event);
-            }
-        }
-        self.table.recall();
-        Ok(())
+        self.spend_patience(waited);
     }
 
     // Counts a wait, where only peers' ends are waited for.
-    fn spend_patience(&mut self) {
-        if self.listener.is_some() || !self.table.is_done() {
+    fn spend_patience(&mut self, waited: Waited)
+        ensures table { self.new.table ≡ self.old.table }
+        ensures connecting { self.new.connecting ≡ self.old.connecting }
+    {
+        if self.is_accepting || !self.table.is_done() {
             return;
         }
-        let cost = if self.events.is_empty() { IDLE_COST } else { 1 };
+        let cost = if waited == Waited::Nothing {
+            IDLE_COST
+        } else {
+            1
+        };
         self.patience = self.patience.saturating_sub(cost);
     }
 
@@ -239,10 +281,10 @@ impl Listening {
         if self.table.has_behind() {
             return Some(Duration::ZERO);
         }
-        if self.listener.is_none() && self.table.is_done() {
+        if !self.is_accepting && self.table.is_done() {
             return Some(Duration::from_millis(RETRY_MILLIS));
         }
-        if self.listener.is_none() || !self.table.has_place() {
+        if !self.is_accepting || !self.table.has_place() {
             return None;
         }
         match self.accepting {
@@ -251,36 +293,4 @@ impl Listening {
             Accepting::Short => Some(Duration::from_millis(RETRY_MILLIS)),
         }
     }
-}
-
-// Where no connection waits, the listener is to be reported again; one that is gone already is
-// passed over. Whatever else fails is tried again later.
-fn after_failure(kind: ErrorKind) -> Accepting {
-    match kind {
-        ErrorKind::WouldBlock => Accepting::Idle,
-        ErrorKind::ConnectionAborted | ErrorKind::Interrupted => Accepting::Ready,
-        _ => Accepting::Short,
-    }
-}
-
-// A listener at this address, with the poll to which it is known and room for what that reports.
-fn listen_at<N: Net>(
-    net: &N,
-    alloc: Global,
-    address: SocketAddr,
-) -> Result<(Events<Global>, Poll, TcpListener), OpenError> {
-    let events = Events::with_capacity(alloc, MOST_EVENTS)?;
-    let Ok(poll) = Poll::new(net) else {
-        return Err(OpenError::Failed);
-    };
-    let Ok(mut listener) = TcpListener::bind(net, address) else {
-        return Err(OpenError::Failed);
-    };
-    let registered = poll
-        .registry()
-        .register(&mut listener, LISTENER, Interest::READABLE);
-    if registered.is_err() {
-        return Err(OpenError::Failed);
-    }
-    Ok((events, poll, listener))
 }

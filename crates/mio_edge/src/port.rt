@@ -1,35 +1,38 @@
 //! One connection of a session: its stream, what is known of its readiness, and its two buffers.
-ghost use Rattle.std.specs.Prelude.{◌≡◌, ◌<◌, ◌≤◌, ◌⊎◌, ◌++◌, length, take};
-ghost use Rattle.gate_hub.specs.Hubs.{GotWithin, TookWithin};
-ghost use Rattle.mio_edge.specs.Moving.{CameIn, HandsOut, TakesIn, Sends};
+ghost use Rattle.std.specs.Prelude.{◌≡◌, ◌≢◌, false, ◌<◌, ◌≤◌, [], ◌++◌, length, take, None, Some, IsSome, IfOk};
+ghost use Rattle.gate_hub.specs.Hubs.{GotWithin, TookWithin, LinkReads, LinkWrites};
+ghost use Rattle.gate_hub.specs.Meaning.{new_link};
+ghost use Rattle.mio_edge.specs.Wire.{Moves, Stays, new_wire};
+ghost use Rattle.mio_edge.specs.Moving.{PortTells, IsOver, Finds, Notes, HasSent, TakesIn, after_failure};
 
-use crate::stream::{Moved, receive_from, send_to};
+use crate::Stream;
+use crate::network::Readiness;
+use crate::stream::{receive_from, send_from};
 use gate_base::OutOfMemory;
 use gate_hub::{LinkGot, LinkPut};
 use gate_io::Out;
-use mio::event::Event;
-use mio::net::TcpStream;
 use std::alloc::Global;
-use std::net::Shutdown;
 
 // Whether bytes may be read from the stream: none came since a read found the last ones, some may
-// have, the peer's end or a failure was reported behind them, or the end was read.
+// have, the peer's end or a failure was reported behind them, the end was read, or the stream failed.
 #[derive(Clone, Copy, PartialEq, Eq)]
 enum Receiving {
     Idle,
     Ready,
     Closing,
     Ended,
+    Lost,
 }
 
-// Whether the stream takes bytes: it is begun at the first write, not so far, it may, or its end was
-// told to the peer.
+// Whether the stream takes bytes: it is begun at the first write, not so far, it may, its end was
+// told to the peer, or the stream failed.
 #[derive(Clone, Copy, PartialEq, Eq)]
 pub(crate) enum Sending {
     Deferred,
     Blocked,
     Ready,
     Shut,
+    Lost,
 }
 
 /// How far the end of a closed port has come: bytes are to be sent still, more than one read of what
@@ -42,25 +45,28 @@ pub(crate) enum Rest {
     Gone,
 }
 
-/// A connection with its buffers. Where it failed, or never came to be, there is no stream.
+/// A connection with its buffers. Where it never came to be there is no stream.
 ///
 /// Readiness is reported once, at a change. So it is kept here until a read or a write shows that it
-/// is over: one that would have to wait, or that moved less than it could.
+/// is over: one that would have to wait, or that moved less than it could. A stream that failed is
+/// kept until the session is over, and not used again.
 #[derive(Drop)]
-pub(crate) struct Port {
-    stream: Option<TcpStream>,
+pub(crate) struct Port<S: Stream> {
+    stream: Option<S>,
     receiving: Receiving,
     sending: Sending,
     incoming: Out,
     outgoing: Out,
 }
 
-impl Port {
+impl<S: Stream> Port<S> {
     /// A port without a connection. It takes the memory of both buffers, each of so many bytes.
     ///
     /// A read is offered all room for what comes in, since one that leaves room has found the last of
     /// what came.
-    pub(crate) fn open(alloc: Global, room: usize) -> Result<Port, OutOfMemory> {
+    pub(crate) fn open(alloc: Global, room: usize) -> Result<Port<S>, OutOfMemory>
+        ensures { IfOk result (λ port. PortTells S.tells port new_link) }
+    {
         Ok(Port {
             stream: None,
             receiving: Receiving::Idle,
@@ -70,15 +76,22 @@ impl Port {
         })
     }
 
-    /// Gives the port a connection.
-    pub(crate) fn attach(&mut self, stream: TcpStream, sending: Sending) {
+    /// Gives the port a connection, over which nothing went.
+    pub(crate) fn attach(&mut self, stream: S, sending: Sending)
+        requires { sending ≢ Sending.Lost }
+        ensures { S.tells stream new_wire → PortTells S.tells self.new new_link }
+    {
         self.stream = Some(stream);
         self.receiving = Receiving::Idle;
         self.sending = sending;
+        self.incoming.clear();
+        self.outgoing.clear();
     }
 
     /// Has the connection begun at the first write. Until then nothing can be read.
-    pub(crate) fn defer(&mut self) {
+    pub(crate) fn defer(&mut self)
+        ensures { Stays (PortTells S.tells self.old) (PortTells S.tells self.new) }
+    {
         self.sending = Sending::Deferred;
     }
 
@@ -87,8 +100,17 @@ impl Port {
         self.sending == Sending::Deferred
     }
 
+    /// Lets the connection be no more begun.
+    pub(crate) fn give_up(&mut self)
+        ensures { Stays (PortTells S.tells self.old) (PortTells S.tells self.new) }
+    {
+        self.sending = Sending::Blocked;
+    }
+
     /// Lets the connection go, with all that the buffers hold.
-    pub(crate) fn detach(&mut self) {
+    pub(crate) fn detach(&mut self)
+        ensures { PortTells S.tells self.new new_link }
+    {
         self.stream = None;
         self.sending = Sending::Blocked;
         self.incoming.clear();
@@ -96,17 +118,19 @@ impl Port {
     }
 
     /// Takes note of what was reported, and says whether it is news to a caller that waits.
-    pub(crate) fn report(&mut self, event: Event) -> bool {
-        let is_over = event.is_read_closed() || event.is_error();
-        let mut is_news = event.is_error();
-        if self.receiving == Receiving::Idle && (event.is_readable() || is_over) {
+    pub(crate) fn report(&mut self, news: Readiness) -> bool
+        ensures { Stays (PortTells S.tells self.old) (PortTells S.tells self.new) }
+    {
+        let is_over = news.is_closing || news.has_failed;
+        let mut is_news = news.has_failed;
+        if self.receiving == Receiving::Idle && (news.is_readable || is_over) {
             self.receiving = Receiving::Ready;
             is_news = true;
         }
         if self.receiving == Receiving::Ready && is_over {
             self.receiving = Receiving::Closing;
         }
-        if self.sending == Sending::Blocked && (event.is_writable() || event.is_error()) {
+        if self.sending == Sending::Blocked && (news.is_writable || news.has_failed) {
             self.sending = Sending::Ready;
             is_news = true;
         }
@@ -115,42 +139,36 @@ impl Port {
 
     /// Whether bytes that were written are to be sent still.
     pub(crate) fn has_unsent(&self) -> bool {
-        self.stream.is_some() && !self.outgoing.bytes().is_empty()
+        self.sending != Sending::Lost && !self.outgoing.bytes().is_empty()
     }
 
     /// Whether the connection failed or never came to be.
-    pub(crate) fn is_gone(&self) -> bool {
-        self.stream.is_none()
+    pub(crate) fn is_gone(&self) -> bool
+        ensures { result ≡ false → IsSome self.now.stream }
+    {
+        self.sending == Sending::Lost || self.stream.is_none()
+    }
+
+    /// Whether the peer's end was read: it is answered from then on.
+    pub(crate) fn has_ended(&self) -> bool
+        ensures { result ≡ false → IsOver self.now → ⊥ }
+    {
+        self.receiving == Receiving::Ended
     }
 
     /// Hands out what was received. Where nothing is held, all that came and has room is read.
     pub(crate) fn read(&mut self, into: &mut [u8]) -> LinkGot
         requires { 0 < length into.old }
         ensures within { GotWithin into.new result }
-        ensures bytes { HandsOut result into.new self.old.incoming self.new.incoming }
+        ensures leads { Moves (PortTells S.tells self.old) (PortTells S.tells self.new) (LinkReads into.new result) }
     {
-        if self.stream.is_none() {
-            return self.without_stream();
-        }
         if !self.incoming.bytes().is_empty() {
             return LinkGot::Bytes(hand_out(&mut self.incoming, into));
         }
         match self.receive() {
-            Moved::Bytes(_) => LinkGot::Bytes(hand_out(&mut self.incoming, into)),
-            Moved::End => LinkGot::End,
-            Moved::Blocked => LinkGot::NotReady,
-            Moved::Failed => LinkGot::Failed,
-        }
-    }
-
-    // What a read answers where there is no stream.
-    fn without_stream(&self) -> LinkGot
-        ensures { (result ≡ LinkGot.NotReady) ⊎ (result ≡ LinkGot.Failed) }
-    {
-        if self.is_deferred() {
-            LinkGot::NotReady
-        } else {
-            LinkGot::Failed
+            LinkGot::Bytes(_) => LinkGot::Bytes(hand_out(&mut self.incoming, into)),
+            LinkGot::Failed if self.is_deferred() => LinkGot::NotReady,
+            got => got,
         }
     }
 
@@ -158,32 +176,52 @@ impl Port {
     pub(crate) fn write(&mut self, from: &[u8]) -> LinkPut
         requires { 0 < length from.now }
         ensures within { TookWithin from.now result }
-        ensures bytes { TakesIn result from.now self.old.outgoing self.new.outgoing }
+        ensures leads { Moves (PortTells S.tells self.old) (PortTells S.tells self.new) (LinkWrites from.now result) }
     {
-        if self.outgoing.spare() == 0 {
-            self.send();
-        }
-        if self.stream.is_none() {
+        self.make_room();
+        if self.is_gone() {
             return LinkPut::Failed;
         }
         take_in(&mut self.outgoing, from)
     }
 
-    /// Sends what was written, as far as the stream takes it now. Where that fails, the connection
-    /// is let go.
-    pub(crate) fn send(&mut self)
-        ensures { Sends self.old.outgoing self.new.outgoing }
+    // Sends what was written where no room is left for more.
+    fn make_room(&mut self)
+        ensures { Stays (PortTells S.tells self.old) (PortTells S.tells self.new) }
     {
-        let Some(stream) = &self.stream else {
-            return;
-        };
+        if self.outgoing.spare() == 0 {
+            self.send();
+        }
+    }
+
+    /// Sends what was written, where there is some, and says whether the connection failed in that.
+    pub(crate) fn send_unsent(&mut self) -> bool
+        ensures { Stays (PortTells S.tells self.old) (PortTells S.tells self.new) }
+    {
+        if !self.has_unsent() {
+            return false;
+        }
+        self.send();
+        self.is_gone()
+    }
+
+    /// Sends what was written, as far as the stream takes it now.
+    pub(crate) fn send(&mut self)
+        ensures keeps { Stays (PortTells S.tells self.old) (PortTells S.tells self.new) }
+        ensures sent { HasSent self.new }
+    {
         if self.sending != Sending::Ready || self.outgoing.bytes().is_empty() {
             return;
         }
-        if let Moved::Failed = send_to(stream, &mut self.outgoing) {
-            self.stream = None;
-        } else if !self.outgoing.bytes().is_empty() {
-            self.sending = Sending::Blocked;
+        let Some(stream) = &mut self.stream else {
+            return;
+        };
+        match send_from(stream, &mut self.outgoing) {
+            LinkPut::Failed => self.fail(),
+            LinkPut::NotReady => self.sending = Sending::Blocked,
+            LinkPut::Took(_) if !self.outgoing.bytes().is_empty() => self.sending =
+                Sending::Blocked,
+            LinkPut::Took(_) => (),
         }
     }
 
@@ -195,15 +233,17 @@ impl Port {
     pub(crate) fn wind_up(&mut self) -> Rest {
         self.send();
         self.incoming.clear();
-        let moved = self.receive();
+        let got = self.receive();
+        if self.is_gone() {
+            return Rest::Gone;
+        }
         let is_sent = self.outgoing.bytes().is_empty();
         if is_sent {
             self.shut();
         }
-        match moved {
-            Moved::Bytes(_) if self.receiving != Receiving::Idle => Rest::Unread,
-            Moved::Failed => Rest::Gone,
-            Moved::End if is_sent => Rest::Gone,
+        match got {
+            LinkGot::Bytes(_) if self.receiving != Receiving::Idle => Rest::Unread,
+            LinkGot::End if is_sent => Rest::Gone,
             _ if is_sent => Rest::Awaited,
             _ => Rest::Unsent,
         }
@@ -215,42 +255,55 @@ impl Port {
             return;
         }
         self.sending = Sending::Shut;
-        if let Some(stream) = &self.stream {
-            let _ = stream.shutdown(Shutdown::Write);
+        if let Some(stream) = &mut self.stream {
+            stream.shut();
         }
     }
 
-    // Reads once from the stream, where something may have come.
-    fn receive(&mut self) -> Moved
-        ensures { CameIn result self.old.incoming self.new.incoming }
+    // Reads once from the stream, where something may have come, into the buffer, which is empty.
+    fn receive(&mut self) -> LinkGot
+        requires empty { self.old.incoming.bytes ≡ [] }
+        ensures finds { Finds result self.new }
+        ensures keeps { Stays (PortTells S.tells self.old) (PortTells S.tells self.new) }
     {
-        let Some(stream) = &self.stream else {
-            return Moved::Failed;
+        let Some(stream) = &mut self.stream else {
+            return LinkGot::Failed;
         };
         match self.receiving {
-            Receiving::Idle => return Moved::Blocked,
-            Receiving::Ended => return Moved::End,
+            Receiving::Idle => return LinkGot::NotReady,
+            Receiving::Ended => return LinkGot::End,
+            Receiving::Lost => return LinkGot::Failed,
             Receiving::Ready | Receiving::Closing => (),
         }
-        let moved = receive_from(stream, &mut self.incoming);
-        self.note(moved);
-        moved
+        let got = receive_from(stream, &mut self.incoming);
+        self.note(got);
+        got
     }
 
-    // Takes note of what a read did. One that left room found the last of what had come; what comes
+    // Takes note of what a read found. One that left room found the last of what had come; what comes
     // later is reported, but an end that was reported already is not reported again.
-    fn note(&mut self, moved: Moved)
-        ensures { self.new.incoming ≡ self.old.incoming }
+    fn note(&mut self, got: LinkGot)
+        ensures { Notes got self.old self.new }
     {
-        match moved {
-            Moved::Bytes(_) => {
+        match got {
+            LinkGot::Bytes(_) => {
                 if self.receiving == Receiving::Ready && self.incoming.spare() > 0 {
                     self.receiving = Receiving::Idle;
                 }
             }
-            Moved::End => self.receiving = Receiving::Ended,
-            Moved::Blocked => self.receiving = Receiving::Idle,
-            Moved::Failed => self.stream = None,
+            LinkGot::NotReady => self.receiving = Receiving::Idle,
+            LinkGot::End => self.receiving = Receiving::Ended,
+            LinkGot::Failed => self.fail(),
+        }
+    }
+
+    // The stream failed.
+    fn fail(&mut self)
+        ensures { self.new ≡ record self.old { receiving = after_failure self.old.receiving; sending = Sending.Lost } }
+    {
+        self.sending = Sending::Lost;
+        if self.receiving != Receiving::Ended {
+            self.receiving = Receiving::Lost;
         }
     }
 }

@@ -1,16 +1,22 @@
 //! A session: its ports, and how much it may still move before the others have their turn.
-ghost use Rattle.std.specs.Prelude.{◌<◌, length};
-ghost use Rattle.gate_hub.specs.Hubs.{GotWithin, TookWithin};
+ghost use Rattle.std.specs.Prelude.{◌≡◌, ◌≢◌, ◌<◌, length, false};
+ghost use Rattle.gate_hub.specs.Hubs.{GotWithin, TookWithin, LinkReads, LinkWrites};
+ghost use Rattle.mio_edge.specs.Wire.{Moves, Stays, new_wire};
+ghost use Rattle.mio_edge.specs.Sessions.{SessionTells, PortsTell, AtPort, IsSame, new_links};
 
-use crate::port::{Port, Rest};
+use crate::Stream;
+use crate::network::Readiness;
+use crate::port::{Port, Rest, Sending};
+use crate::queue::Queue;
 use gate_hub::{LinkGot, LinkPut};
 
 /// The ports of one accepted connection.
 #[derive(Drop)]
-pub(crate) struct Session {
+pub(crate) struct Session<S: Stream> {
     pub(crate) number: u64,
-    pub(crate) ports: Vec<Port>,
+    pub(crate) ports: Vec<Port<S>>,
     allowance: usize,
+    /// It was announced and isn't closed.
     pub(crate) is_open: bool,
     /// It stands in one of the queues of those that are to have a turn.
     pub(crate) is_queued: bool,
@@ -18,27 +24,45 @@ pub(crate) struct Session {
     pub(crate) is_written: bool,
 }
 
-impl Session {
-    /// An open session over these ports, which have no connections yet. It may move so many bytes in
+impl<S: Stream> Session<S> {
+    /// A session over these ports, which have no connections yet. It may move so many bytes in
     /// its first turn.
-    pub(crate) fn over(number: u64, ports: Vec<Port>, allowance: usize) -> Session {
+    pub(crate) fn over(number: u64, ports: Vec<Port<S>>, allowance: usize) -> Session<S>
+        ensures number { result.number ≡ number }
+        ensures closed { result.is_open ≡ false }
+        ensures ports { result.ports ≡ ports }
+    {
         Session {
             number,
             ports,
             allowance,
-            is_open: true,
+            is_open: false,
             is_queued: false,
             is_written: false,
         }
     }
 
-    /// Has the connections to the upstreams begun at the first write to each.
-    pub(crate) fn defer(&mut self) {
-        for (at, port) in self.ports.iter_mut().enumerate() {
-            if at > 0 {
-                port.defer();
+    /// Gives a port a connection. It says whether there is such a port.
+    pub(crate) fn attach(&mut self, port: usize, stream: S, sending: Sending) -> bool
+        requires { sending ≢ Sending.Lost }
+        ensures begins { SessionTells S.tells self.old new_links → S.tells stream new_wire → SessionTells S.tells self.new new_links }
+        ensures same { IsSame self.old self.new }
+    {
+        match self.ports.get_mut(port) {
+            Some(port) => {
+                port.attach(stream, sending);
+                true
             }
+            None => false,
         }
+    }
+
+    /// Has all connections begun at the first write to each.
+    pub(crate) fn defer(&mut self)
+        ensures keeps { Stays (SessionTells S.tells self.old) (SessionTells S.tells self.new) }
+        ensures same { IsSame self.old self.new }
+    {
+        defer_all(&mut self.ports);
     }
 
     /// Whether the connection of a port is to be begun at the first write.
@@ -49,8 +73,54 @@ impl Session {
         }
     }
 
+    /// Lets a port have no connection: what is written to it fails.
+    pub(crate) fn give_up(&mut self, port: usize)
+        ensures keeps { Stays (SessionTells S.tells self.old) (SessionTells S.tells self.new) }
+        ensures same { IsSame self.old self.new }
+    {
+        if let Some(port) = self.ports.get_mut(port) {
+            port.give_up();
+        }
+    }
+
+    /// Takes note of what was reported of a port, and says whether it is news.
+    pub(crate) fn report(&mut self, port: usize, news: Readiness) -> bool
+        ensures keeps { Stays (SessionTells S.tells self.old) (SessionTells S.tells self.new) }
+        ensures same { IsSame self.old self.new }
+    {
+        match self.ports.get_mut(port) {
+            Some(port) => port.report(news),
+            None => false,
+        }
+    }
+
+    /// Puts the session, which stands at this place, into a queue of those that are to have a turn, if it
+    /// stands in none.
+    pub(crate) fn stand_in(&mut self, queue: &mut Queue, place: usize)
+        ensures ports { self.new.ports ≡ self.old.ports }
+        ensures same { IsSame self.old self.new }
+    {
+        if !self.is_queued {
+            self.is_queued = queue.push(place);
+        }
+    }
+
+    /// Puts the session, which stands at this place, into the queue of those whose writes are to be sent,
+    /// if some are and it doesn't stand there.
+    pub(crate) fn resend(&mut self, queue: &mut Queue, place: usize)
+        ensures ports { self.new.ports ≡ self.old.ports }
+        ensures same { IsSame self.old self.new }
+    {
+        if !self.is_written && self.has_unsent() {
+            self.is_written = queue.push(place);
+        }
+    }
+
     /// Begins a turn of the session, in which it may read and write so many bytes.
-    pub(crate) fn begin_turn(&mut self, allowance: usize) {
+    pub(crate) fn begin_turn(&mut self, allowance: usize)
+        ensures keeps { Stays (SessionTells S.tells self.old) (SessionTells S.tells self.new) }
+        ensures same { IsSame self.old self.new }
+    {
         self.allowance = allowance;
     }
 
@@ -59,14 +129,19 @@ impl Session {
         self.allowance == 0
     }
 
-    /// Reads from a port.
+    /// Reads from a port, or answers that it isn't ready where the session moved all that it may.
     pub(crate) fn read(&mut self, port: usize, into: &mut [u8]) -> LinkGot
         requires { 0 < length into.old }
-        ensures { GotWithin into.new result }
+        ensures within { GotWithin into.new result }
+        ensures leads { Moves (SessionTells S.tells self.old) (SessionTells S.tells self.new) (AtPort port (LinkReads into.new result)) }
+        ensures same { IsSame self.old self.new }
     {
         let Some(port) = self.ports.get_mut(port) else {
             return LinkGot::Failed;
         };
+        if self.allowance == 0 && !port.has_ended() {
+            return LinkGot::NotReady;
+        }
         let got = port.read(into);
         if let LinkGot::Bytes(count) = got {
             self.allowance = self.allowance.saturating_sub(count);
@@ -74,14 +149,19 @@ impl Session {
         got
     }
 
-    /// Writes to a port.
+    /// Writes to a port, or answers that it isn't ready where the session moved all that it may.
     pub(crate) fn write(&mut self, port: usize, from: &[u8]) -> LinkPut
         requires { 0 < length from.now }
-        ensures { TookWithin from.now result }
+        ensures within { TookWithin from.now result }
+        ensures leads { Moves (SessionTells S.tells self.old) (SessionTells S.tells self.new) (AtPort port (LinkWrites from.now result)) }
+        ensures same { IsSame self.old self.new }
     {
         let Some(port) = self.ports.get_mut(port) else {
             return LinkPut::Failed;
         };
+        if self.allowance == 0 {
+            return LinkPut::NotReady;
+        }
         let put = port.write(from);
         if let LinkPut::Took(count) = put {
             self.allowance = self.allowance.saturating_sub(count);
@@ -100,20 +180,18 @@ impl Session {
     }
 
     /// Sends what was written, and says whether a connection failed in that.
-    pub(crate) fn send(&mut self) -> bool {
-        let mut has_failed = false;
-        for port in self.ports.iter_mut() {
-            if port.has_unsent() {
-                port.send();
-                has_failed = has_failed || port.is_gone();
-            }
-        }
-        has_failed
+    pub(crate) fn send(&mut self) -> bool
+        ensures keeps { Stays (SessionTells S.tells self.old) (SessionTells S.tells self.new) }
+        ensures same { IsSame self.old self.new }
+    {
+        send_all(&mut self.ports)
     }
 
     /// Goes on with the end of the session once it is closed, and says how far the port that is the
     /// furthest back has come.
-    pub(crate) fn wind_up(&mut self) -> Rest {
+    pub(crate) fn wind_up(&mut self) -> Rest
+        ensures { IsSame self.old self.new }
+    {
         let mut rest = Rest::Gone;
         for port in self.ports.iter_mut() {
             rest = further_back(rest, port.wind_up());
@@ -122,11 +200,38 @@ impl Session {
     }
 
     /// Lets all connections go, and gives back the ports.
-    pub(crate) fn into_ports(mut self) -> Vec<Port> {
-        for port in self.ports.iter_mut() {
-            port.detach();
-        }
+    pub(crate) fn into_ports(mut self) -> Vec<Port<S>>
+        ensures { PortsTell S.tells result.items new_links }
+    {
+        detach_all(&mut self.ports);
         self.ports
+    }
+}
+
+fn defer_all<S: Stream>(ports: &mut [Port<S>])
+    ensures { Stays (PortsTell S.tells ports.old) (PortsTell S.tells ports.new) }
+{
+    for port in ports.iter_mut() {
+        port.defer();
+    }
+}
+
+// Sends what was written to each of the ports, and says whether a connection failed in that.
+fn send_all<S: Stream>(ports: &mut [Port<S>]) -> bool
+    ensures { Stays (PortsTell S.tells ports.old) (PortsTell S.tells ports.new) }
+{
+    let mut has_failed = false;
+    for port in ports.iter_mut() {
+        has_failed = port.send_unsent() || has_failed;
+    }
+    has_failed
+}
+
+fn detach_all<S: Stream>(ports: &mut [Port<S>])
+    ensures { PortsTell S.tells ports.new new_links }
+{
+    for port in ports.iter_mut() {
+        port.detach();
     }
 }
 

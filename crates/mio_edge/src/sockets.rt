@@ -1,15 +1,21 @@
 //! The sockets of a server: sessions of one client and some upstreams.
-ghost use Rattle.std.specs.Prelude.{◌≡◌, ◌≢◌, ◌<◌, ◌≤◌, ◌-◌, ◌^◌, ◌+◌, length, Some};
+ghost use Rattle.std.specs.Prelude.{◌≡◌, ◌≢◌, ◌<◌, ◌≤◌, ◌-◌, ◌^◌, ◌+◌, ℕ, length, true, false, None, Some, Ok, IsSome, IfSome};
 ghost use Rattle.gate_base.specs.Causes.{Rose};
 ghost use Rattle.gate_hub.specs.Hubs.{GotWithin, TookWithin};
 ghost use Rattle.gate_hub.specs.declared.hub.Began.TheVariants as began;
 ghost use Rattle.gate_hub.specs.declared.hub.HubNext.TheVariants as event;
+ghost use Rattle.gate_hub.specs.Hubs.{LinkReads, LinkWrites};
 ghost use Rattle.mio_edge.specs.Numbers.{Numbers, NumbersIfAny};
+ghost use Rattle.mio_edge.specs.Wire.{Moves, Stays};
+ghost use Rattle.mio_edge.specs.Tables.{World, AtSession, Shuts, Opens, MovesAt, empty_world};
+ghost use Rattle.mio_edge.specs.Worlds.{SocketsTell, EventMoves, EventMovesIfAny, HasStopped};
 
-use crate::listening::{Connecting, Listening, OpenError};
+use crate::listening::{Connecting, Listening};
+use crate::mio_network::MioNetwork;
+use crate::network::Network;
 use crate::table::Table;
 use decimal_words::read_address;
-use gate_base::Text;
+use gate_base::{OutOfMemory, Text};
 use gate_hub::{Began, HubNext, LinkGot, LinkPut};
 use std::alloc::Global;
 use std::net::{IpAddr, Ipv4Addr, Net, SocketAddr};
@@ -27,46 +33,60 @@ use std::net::{IpAddr, Ipv4Addr, Net, SocketAddr};
 /// the system reset a connection of which bytes stand unread and what was sent be lost; but it gives
 /// its place to a new connection.
 #[derive(Drop)]
-pub struct Sockets<'n, N> {
-    net: &'n N,
+pub struct Sockets<W: Network> {
+    network: W,
     connecting: Connecting,
-    listening: Option<Listening>,
+    listening: Option<Listening<W::Stream>>,
     accept: u64,
     announced: u64,
+    /// `next` has answered that no event will follow.
+    has_stopped: bool,
     faults: u64,
 }
 
-impl<'n, N: Net> Sockets<'n, N> {
+impl<'n, N: Net> Sockets<MioNetwork<'n, N>> {
     /// No sockets yet. A session is connected to all its upstreams as soon as it is opened.
-    pub fn new(net: &'n N) -> Sockets<'n, N>
+    pub fn new(net: &'n N) -> Sockets<MioNetwork<'n, N>>
         ensures faults { result.faults ≡ 0 }
         ensures accept { result.accept ≡ 0 }
         ensures announced { result.announced ≡ 0 }
     {
-        Sockets::connecting(net, Connecting::AtOnce)
+        Sockets::over(MioNetwork::new(net))
     }
 
     /// No sockets yet. A session is connected to an upstream at the first write to it: until then
     /// nothing can be read from it, and a session that never writes to it isn't touched by its absence.
-    pub fn on_demand(net: &'n N) -> Sockets<'n, N>
+    pub fn on_demand(net: &'n N) -> Sockets<MioNetwork<'n, N>>
         ensures faults { result.faults ≡ 0 }
         ensures accept { result.accept ≡ 0 }
         ensures announced { result.announced ≡ 0 }
     {
-        Sockets::connecting(net, Connecting::OnDemand)
+        Sockets::connecting(MioNetwork::new(net), Connecting::OnDemand)
+    }
+}
+
+impl<W: Network> Sockets<W> {
+    /// No sockets of this network yet. A session is connected to all its upstreams as soon as it is opened.
+    pub fn over(network: W) -> Sockets<W>
+        ensures faults { result.faults ≡ 0 }
+        ensures accept { result.accept ≡ 0 }
+        ensures announced { result.announced ≡ 0 }
+    {
+        Sockets::connecting(network, Connecting::AtOnce)
     }
 
-    fn connecting(net: &'n N, connecting: Connecting) -> Sockets<'n, N>
+    fn connecting(network: W, connecting: Connecting) -> Sockets<W>
         ensures faults { result.faults ≡ 0 }
         ensures accept { result.accept ≡ 0 }
         ensures announced { result.announced ≡ 0 }
     {
         Sockets {
-            net,
+            network,
             connecting,
             listening: None,
             accept: 0,
             announced: 0,
+            has_stopped: false,
             faults: 0,
         }
     }
@@ -85,31 +105,56 @@ impl<'n, N: Net> Sockets<'n, N> {
         accept: u64,
         sessions: usize,
     ) -> Began
+        ensures begins { result ≡ began.Done → Moves (SocketsTell W.is_telling W.Stream.tells self.old) (SocketsTell W.is_telling W.Stream.tells self.new) (λ a b. b ≡ empty_world) }
+        ensures keeps { result ≢ began.Done → Stays (SocketsTell W.is_telling W.Stream.tells self.old) (SocketsTell W.is_telling W.Stream.tells self.new) }
         ensures announced { self.new.announced ≡ self.old.announced }
         ensures accept { result ≡ began.Done → self.new.accept ≡ accept }
         ensures kept { result ≢ began.Done → self.new.accept ≡ self.old.accept }
         ensures later { self.old.faults ≤ self.new.faults }
         ensures cause { result ≡ began.Failed → Rose self.old.faults self.new.faults }
     {
-        match open(
-            self.net,
-            alloc,
-            self.connecting,
-            listen,
-            upstreams,
-            sessions,
-        ) {
-            Ok(listening) => {
-                self.listening = Some(listening);
+        match self.open(alloc, listen, upstreams, sessions) {
+            Ok(Began::Done) => {
                 self.accept = accept;
                 Began::Done
             }
-            Err(OpenError::OutOfMemory) => Began::OutOfMemory,
-            Err(OpenError::Failed) => {
+            Ok(Began::OutOfMemory) | Err(_) => Began::OutOfMemory,
+            Ok(Began::Failed) => {
                 self.faults = self.faults.saturating_add(1);
                 Began::Failed
             }
         }
+    }
+
+    // Takes all memory, and listens.
+    fn open(
+        &mut self,
+        alloc: Global,
+        listen: &[u8],
+        upstreams: &[Text],
+        sessions: usize,
+    ) -> Result<Began, OutOfMemory>
+        ensures begins { result ≡ Ok began.Done → Moves (SocketsTell W.is_telling W.Stream.tells self.old) (SocketsTell W.is_telling W.Stream.tells self.new) (λ a b. b ≡ empty_world) }
+        ensures keeps { result ≢ Ok began.Done → Stays (SocketsTell W.is_telling W.Stream.tells self.old) (SocketsTell W.is_telling W.Stream.tells self.new) }
+        ensures announced { self.new.announced ≡ self.old.announced }
+        ensures accept { self.new.accept ≡ self.old.accept }
+        ensures faults { self.new.faults ≡ self.old.faults }
+    {
+        let Some(listen) = socket_address(listen) else {
+            return Ok(Began::Failed);
+        };
+        let mut targets = Vec::with_capacity(alloc, upstreams.len())?;
+        if !parse_targets(upstreams, &mut targets)? {
+            return Ok(Began::Failed);
+        }
+        let width = targets.len().saturating_add(1);
+        let table = Table::open(alloc, sessions.saturating_add(1), width)?;
+        let began = self.network.listen(alloc, listen);
+        if began != Began::Done {
+            return Ok(began);
+        }
+        self.listening = Some(Listening::new(targets, self.connecting, table));
+        Ok(Began::Done)
     }
 
     /// The next event. Sessions are numbered from 0.
@@ -121,12 +166,19 @@ impl<'n, N: Net> Sockets<'n, N> {
     /// nothing came of them. `Failed`: the count of `start` and `next` rose; the
     /// system refused to wait, or the last number was given.
     pub fn next(&mut self) -> HubNext
+        ensures moves { Moves (SocketsTell W.is_telling W.Stream.tells self.old) (SocketsTell W.is_telling W.Stream.tells self.new) (EventMoves result) }
+        ensures over { result ≡ event.Stopped → self.old.has_stopped ≡ false → (world : World) → SocketsTell W.is_telling W.Stream.tells self.old world → (k : ℕ) → world k ≡ None }
+        ensures still { HasStopped self.old → result ≡ event.Stopped }
+        ensures told { result ≡ event.Stopped → HasStopped self.new }
         ensures numbers { Numbers result self.old.announced self.new.announced }
         ensures stopped { result ≡ event.Stopped → (0 < self.new.accept) × (self.new.accept ≤ self.new.announced) }
         ensures accept { self.new.accept ≡ self.old.accept }
         ensures later { self.old.faults ≤ self.new.faults }
         ensures cause { result ≡ event.Failed → Rose self.old.faults self.new.faults }
     {
+        if self.has_stopped && self.accept > 0 && self.announced >= self.accept {
+            return HubNext::Stopped;
+        }
         for _ in 0..u64::MAX {
             if let Some(event) = self.advance() {
                 return event;
@@ -143,6 +195,8 @@ impl<'n, N: Net> Sockets<'n, N> {
     pub fn read(&mut self, k: u64, port: usize, into: &mut [u8]) -> LinkGot
         requires { 0 < length into.old }
         ensures within { GotWithin into.new result }
+        ensures leads { MovesAt k (SocketsTell W.is_telling W.Stream.tells self.old) (SocketsTell W.is_telling W.Stream.tells self.new) (AtSession k port (LinkReads into.new result)) }
+        ensures stopped { self.new.has_stopped ≡ self.old.has_stopped }
         ensures announced { self.new.announced ≡ self.old.announced }
         ensures accept { self.new.accept ≡ self.old.accept }
         ensures faults { self.new.faults ≡ self.old.faults }
@@ -162,13 +216,15 @@ impl<'n, N: Net> Sockets<'n, N> {
     pub fn write(&mut self, k: u64, port: usize, from: &[u8]) -> LinkPut
         requires { 0 < length from.now }
         ensures within { TookWithin from.now result }
+        ensures leads { MovesAt k (SocketsTell W.is_telling W.Stream.tells self.old) (SocketsTell W.is_telling W.Stream.tells self.new) (AtSession k port (LinkWrites from.now result)) }
+        ensures stopped { self.new.has_stopped ≡ self.old.has_stopped }
         ensures announced { self.new.announced ≡ self.old.announced }
         ensures accept { self.new.accept ≡ self.old.accept }
         ensures faults { self.new.faults ≡ self.old.faults }
     {
         match &mut self.listening {
             Some(listening) => {
-                listening.connect_for_write(self.net, k, port);
+                listening.connect_for_write(&mut self.network, k, port);
                 listening.table.write(k, port, from)
             }
             None => LinkPut::Failed,
@@ -177,6 +233,8 @@ impl<'n, N: Net> Sockets<'n, N> {
 
     /// Closes session k. What was written to it is sent still, and its peers see the end behind it.
     pub fn close(&mut self, k: u64)
+        ensures leads { MovesAt k (SocketsTell W.is_telling W.Stream.tells self.old) (SocketsTell W.is_telling W.Stream.tells self.new) (Shuts k) }
+        ensures stopped { self.new.has_stopped ≡ self.old.has_stopped }
         ensures announced { self.new.announced ≡ self.old.announced }
         ensures accept { self.new.accept ≡ self.old.accept }
         ensures faults { self.new.faults ≡ self.old.faults }
@@ -188,36 +246,121 @@ impl<'n, N: Net> Sockets<'n, N> {
 
     // A step towards the next event: none where there is to be another.
     fn advance(&mut self) -> Option<HubNext>
+        ensures moves { Moves (SocketsTell W.is_telling W.Stream.tells self.old) (SocketsTell W.is_telling W.Stream.tells self.new) (EventMovesIfAny result) }
+        ensures over { result ≡ Some event.Stopped → (world : World) → SocketsTell W.is_telling W.Stream.tells self.old world → (k : ℕ) → world k ≡ None }
+        ensures told { result ≡ Some event.Stopped → HasStopped self.new }
         ensures numbers { NumbersIfAny result self.old.announced self.new.announced }
         ensures stopped { result ≡ Some event.Stopped → (0 < self.new.accept) × (self.new.accept ≤ self.new.announced) }
         ensures accept { self.new.accept ≡ self.old.accept }
         ensures later { self.old.faults ≤ self.new.faults }
         ensures cause { result ≡ Some event.Failed → Rose self.old.faults self.new.faults }
     {
-        let Some(listening) = &mut self.listening else {
-            return Some(self.fails());
-        };
-        listening.table.send_where_many();
+        self.send_where_many();
         if self.accept > 0 && self.announced >= self.accept {
-            listening.stop_accepting();
-            if listening.is_over() {
-                return Some(HubNext::Stopped);
-            }
-        } else if self.announced == u64::MAX {
+            return self.finish();
+        }
+        if self.announced == u64::MAX {
             return Some(self.fails());
-        } else if listening.accept(self.net, self.announced) {
+        }
+        if self.accept_next() {
             return Some(self.opened());
         }
         self.ready()
+    }
+
+    // A step once no more connections are accepted.
+    fn finish(&mut self) -> Option<HubNext>
+        requires { (0 < self.old.accept) × (self.old.accept ≤ self.old.announced) }
+        ensures moves { Moves (SocketsTell W.is_telling W.Stream.tells self.old) (SocketsTell W.is_telling W.Stream.tells self.new) (EventMovesIfAny result) }
+        ensures over { result ≡ Some event.Stopped → (world : World) → SocketsTell W.is_telling W.Stream.tells self.old world → (k : ℕ) → world k ≡ None }
+        ensures told { result ≡ Some event.Stopped → HasStopped self.new }
+        ensures numbers { NumbersIfAny result self.old.announced self.new.announced }
+        ensures accept { self.new.accept ≡ self.old.accept }
+        ensures later { self.old.faults ≤ self.new.faults }
+        ensures cause { result ≡ Some event.Failed → Rose self.old.faults self.new.faults }
+    {
+        if self.is_over() {
+            self.has_stopped = true;
+            return Some(HubNext::Stopped);
+        }
+        self.ready()
+    }
+
+    // Lets the listener go, and says whether all is over.
+    fn is_over(&mut self) -> bool
+        ensures keeps { Stays (SocketsTell W.is_telling W.Stream.tells self.old) (SocketsTell W.is_telling W.Stream.tells self.new) }
+        ensures over { result ≡ true → (world : World) → SocketsTell W.is_telling W.Stream.tells self.old world → (k : ℕ) → world k ≡ None }
+        ensures announced { self.new.announced ≡ self.old.announced }
+        ensures accept { self.new.accept ≡ self.old.accept }
+        ensures faults { self.new.faults ≡ self.old.faults }
+    {
+        match &mut self.listening {
+            Some(listening) => {
+                listening.stop_accepting(&mut self.network);
+                listening.is_over()
+            }
+            None => false,
+        }
+    }
+
+    // Sends what the sessions wrote, where these are many.
+    fn send_where_many(&mut self)
+        ensures keeps { Stays (SocketsTell W.is_telling W.Stream.tells self.old) (SocketsTell W.is_telling W.Stream.tells self.new) }
+        ensures announced { self.new.announced ≡ self.old.announced }
+        ensures accept { self.new.accept ≡ self.old.accept }
+        ensures faults { self.new.faults ≡ self.old.faults }
+    {
+        if let Some(listening) = &mut self.listening {
+            listening.table.send_where_many();
+        }
+    }
+
+    // Accepts the next connection, if there is one, as the session of the next number.
+    fn accept_next(&mut self) -> bool
+        ensures opens { result ≡ true → Moves (SocketsTell W.is_telling W.Stream.tells self.old) (SocketsTell W.is_telling W.Stream.tells (record self.new { announced = self.new.announced + 1 })) (Opens self.old.announced) }
+        ensures keeps { result ≡ false → Stays (SocketsTell W.is_telling W.Stream.tells self.old) (SocketsTell W.is_telling W.Stream.tells self.new) }
+        ensures announced { self.new.announced ≡ self.old.announced }
+        ensures accept { self.new.accept ≡ self.old.accept }
+        ensures faults { self.new.faults ≡ self.old.faults }
+    {
+        match &mut self.listening {
+            Some(listening) => listening.accept(&mut self.network, self.announced),
+            None => false,
+        }
+    }
+
+    // The number of the session that is to have a turn next.
+    fn next_named(&mut self) -> Option<u64>
+        ensures keeps { Stays (SocketsTell W.is_telling W.Stream.tells self.old) (SocketsTell W.is_telling W.Stream.tells self.new) }
+        ensures found { (world : World) → SocketsTell W.is_telling W.Stream.tells self.old world → IfSome result (λ k. IsSome (world k)) }
+        ensures announced { self.new.announced ≡ self.old.announced }
+        ensures accept { self.new.accept ≡ self.old.accept }
+        ensures faults { self.new.faults ≡ self.old.faults }
+    {
+        match &mut self.listening {
+            Some(listening) => listening.table.next_ready(),
+            None => None,
+        }
+    }
+
+    // Sends what was written and waits, where no session is to have a turn. It says whether that failed.
+    fn rest(&mut self) -> bool
+        ensures keeps { Stays (SocketsTell W.is_telling W.Stream.tells self.old) (SocketsTell W.is_telling W.Stream.tells self.new) }
+        ensures announced { self.new.announced ≡ self.old.announced }
+        ensures accept { self.new.accept ≡ self.old.accept }
+        ensures faults { self.new.faults ≡ self.old.faults }
+    {
+        match &mut self.listening {
+            Some(listening) => listening.rest(&mut self.network),
+            None => true,
+        }
     }
 
     // The session that was accepted.
     fn opened(&mut self) -> HubNext
         requires { self.old.announced < 2 ^ 64 - 1 }
         ensures result { result ≡ event.Opened self.old.announced }
-        ensures announced { self.new.announced ≡ self.old.announced + 1 }
-        ensures accept { self.new.accept ≡ self.old.accept }
-        ensures faults { self.new.faults ≡ self.old.faults }
+        ensures after { self.new ≡ record self.old { announced = self.old.announced + 1 } }
     {
         let number = self.announced;
         self.announced += 1;
@@ -226,6 +369,7 @@ impl<'n, N: Net> Sockets<'n, N> {
 
     // A session that is to have a turn: none after a wait.
     fn ready(&mut self) -> Option<HubNext>
+        ensures moves { Moves (SocketsTell W.is_telling W.Stream.tells self.old) (SocketsTell W.is_telling W.Stream.tells self.new) (EventMovesIfAny result) }
         ensures numbers { NumbersIfAny result self.old.announced self.new.announced }
         ensures running { result ≢ Some event.Stopped }
         ensures announced { self.new.announced ≡ self.old.announced }
@@ -233,23 +377,21 @@ impl<'n, N: Net> Sockets<'n, N> {
         ensures later { self.old.faults ≤ self.new.faults }
         ensures cause { result ≡ Some event.Failed → Rose self.old.faults self.new.faults }
     {
-        let Some(listening) = &mut self.listening else {
-            return Some(self.fails());
-        };
-        // The table holds announced sessions alone, but its contract doesn't say so; one comparison a turn says it here.
-        if let Some(number) = listening.table.next_ready()
+        // One comparison a turn says that the session was announced, also where nothing is told.
+        if let Some(number) = self.next_named()
             && number < self.announced
         {
             return Some(HubNext::Ready(number));
         }
-        match listening.rest() {
-            Ok(()) => None,
-            Err(_) => Some(self.fails()),
+        if self.rest() {
+            return Some(self.fails());
         }
+        None
     }
 
     // Counts a fault of `start` or `next`.
     fn fails(&mut self) -> HubNext
+        ensures keeps { Stays (SocketsTell W.is_telling W.Stream.tells self.old) (SocketsTell W.is_telling W.Stream.tells self.new) }
         ensures result { result ≡ event.Failed }
         ensures announced { self.new.announced ≡ self.old.announced }
         ensures accept { self.new.accept ≡ self.old.accept }
@@ -261,36 +403,15 @@ impl<'n, N: Net> Sockets<'n, N> {
     }
 }
 
-// Takes all memory, and listens.
-fn open<N: Net>(
-    net: &N,
-    alloc: Global,
-    connecting: Connecting,
-    listen: &[u8],
-    upstreams: &[Text],
-    sessions: usize,
-) -> Result<Listening, OpenError> {
-    let Some(listen) = socket_address(listen) else {
-        return Err(OpenError::Failed);
-    };
-    let targets = parse_targets(alloc, upstreams)?;
-    let width = targets.len().saturating_add(1);
-    let table = Table::open(alloc, sessions.saturating_add(1), width)?;
-    Listening::open(net, alloc, listen, targets, connecting, table)
-}
-
-// The addresses of the upstreams.
-fn parse_targets(alloc: Global, upstreams: &[Text]) -> Result<Vec<SocketAddr>, OpenError> {
-    let mut targets = Vec::with_capacity(alloc, upstreams.len())?;
+// The addresses of the upstreams. It says whether each is one.
+fn parse_targets(upstreams: &[Text], targets: &mut Vec<SocketAddr>) -> Result<bool, OutOfMemory> {
     for upstream in upstreams {
         let Some(target) = socket_address(upstream.as_slice()) else {
-            return Err(OpenError::Failed);
+            return Ok(false);
         };
-        if targets.push(target).is_err() {
-            return Err(OpenError::OutOfMemory);
-        }
+        targets.push(target)?;
     }
-    Ok(targets)
+    Ok(true)
 }
 
 // The address that a word spells, for the system.

@@ -1,85 +1,69 @@
-//! Reads and writes of a stream that never wait.
-ghost use Rattle.std.specs.Prelude.{None};
-ghost use Rattle.mio_edge.specs.Moving.{CameIn, WentOut};
+//! A connection that is read and written without waiting, and how the buffers of a port move over it.
+ghost use Rattle.std.specs.Prelude.{◌≡◌, ◌<◌, [], length};
+ghost use Rattle.gate_base.specs.Bytes.{AreBytes};
+ghost use Rattle.gate_hub.specs.Hubs.{GotWithin, TookWithin};
+ghost use Rattle.mio_edge.specs.Wire.{Wire, Moves, WireReads, WireWrites, WireShuts};
+ghost use Rattle.mio_edge.specs.Moving.{Receives, Sends};
 
-use gate_io::{Got, Out, Source};
-use mio::net::TcpStream;
-use std::io::{ErrorKind, Read, Write};
+use gate_hub::{LinkGot, LinkPut};
+use gate_io::Out;
 
-/// What a read or a write of a stream did: so many bytes moved, the peer will send no more, none can
-/// be moved so far, or it failed.
-#[derive(Clone, Copy)]
-pub(crate) enum Moved {
-    Bytes(usize),
-    End,
-    Blocked,
-    Failed,
+/// A connection to a peer. No call of it waits.
+pub trait Stream: Drop {
+    /// What it tells of what went over it: one meaning, or none where it knows nothing of that.
+    ghost tells: { Self → Wire → Type 0 };
+
+    /// Reads into a slice that isn't empty.
+    ///
+    /// `NotReady`: nothing came so far, or it isn't connected yet. `End`: the peer will send no more.
+    fn receive(&mut self, into: &mut [u8]) -> LinkGot
+        requires { 0 < length into.old }
+        ensures within { GotWithin into.new result }
+        ensures moves { Moves (tells self.old) (tells self.new) (WireReads into.new result) };
+
+    /// Writes the front of a slice that isn't empty.
+    ///
+    /// `NotReady`: nothing is taken so far, or it isn't connected yet.
+    fn send(&mut self, from: &[u8]) -> LinkPut
+        requires { 0 < length from.now }
+        ensures within { TookWithin from.now result }
+        ensures moves { Moves (tells self.old) (tells self.new) (WireWrites from.now result) };
+
+    /// Tells the peer that no more will come.
+    fn shut(&mut self)
+        ensures { Moves (tells self.old) (tells self.new) WireShuts };
+
+    /// What it tells that was received consists of bytes.
+    ghost bytes: { (stream : Self) (wire : Wire) → tells stream wire → AreBytes wire.received };
 }
 
-// A stream that is read as a source. A read that would have to wait fails, and is marked.
-#[derive(Drop)]
-struct Incoming<'s> {
-    stream: &'s TcpStream,
-    is_blocked: bool,
-    faults: u64,
-}
-
-impl Source for Incoming<'_> {
-    ghost left = { λ _. None };
-
-    ghost faults = { λ s. s.faults };
-
-    fn read(&mut self, into: &mut [u8]) -> Got {
-        let mut stream = self.stream;
-        match stream.read(into) {
-            Ok(0) => return Got::End,
-            Ok(count) => return Got::Bytes(count),
-            Err(error) => self.is_blocked = is_not_yet(error.kind()),
-        }
-        self.faults = self.faults.saturating_add(1);
-        Got::Failed
-    }
-
-    ghost bytes = { λ _. tt };
-}
-
-/// Reads once into all the room of a buffer.
-pub(crate) fn receive_from(stream: &TcpStream, buffer: &mut Out) -> Moved
-    ensures { CameIn result buffer.old buffer.new }
+/// Reads once into all the room of a buffer that is empty.
+pub(crate) fn receive_from<S: Stream>(stream: &mut S, buffer: &mut Out) -> LinkGot
+    requires empty { buffer.old.bytes ≡ [] }
+    ensures some { Receives result buffer.old buffer.new }
+    ensures moves { Moves (S.tells stream.old) (S.tells stream.new) (WireReads buffer.new.bytes result) }
 {
     let room = buffer.spare();
     if room == 0 {
-        return Moved::Blocked;
+        return LinkGot::NotReady;
     }
-    let mut incoming = Incoming {
-        stream,
-        is_blocked: false,
-        faults: 0,
-    };
-    match buffer.read_from(&mut incoming, room) {
-        Got::Bytes(count) => Moved::Bytes(count),
-        Got::End => Moved::End,
-        Got::Failed if incoming.is_blocked => Moved::Blocked,
-        Got::Failed => Moved::Failed,
+    let got = stream.receive(buffer.tail(room));
+    match got {
+        LinkGot::Bytes(count) => buffer.cut(count),
+        LinkGot::NotReady | LinkGot::End | LinkGot::Failed => buffer.clear(),
     }
+    got
 }
 
-/// Writes once what a buffer holds, and lets go what was taken.
-pub(crate) fn send_to(mut stream: &TcpStream, buffer: &mut Out) -> Moved
-    ensures { WentOut result buffer.old buffer.new }
+/// Writes once what a buffer holds, which is something, and lets go what was taken.
+pub(crate) fn send_from<S: Stream>(stream: &mut S, buffer: &mut Out) -> LinkPut
+    requires some { 0 < length buffer.old.bytes }
+    ensures front { Sends result buffer.old buffer.new }
+    ensures moves { Moves (S.tells stream.old) (S.tells stream.new) (WireWrites buffer.old.bytes result) }
 {
-    match stream.write(buffer.bytes()) {
-        Ok(0) => Moved::Failed,
-        Ok(count) => {
-            buffer.drop_front(count);
-            Moved::Bytes(count)
-        }
-        Err(error) if is_not_yet(error.kind()) => Moved::Blocked,
-        Err(_) => Moved::Failed,
+    let put = stream.send(buffer.bytes());
+    if let LinkPut::Took(count) = put {
+        buffer.drop_front(count);
     }
-}
-
-// A connection that isn't there yet isn't ready.
-fn is_not_yet(kind: ErrorKind) -> bool {
-    matches!(kind, ErrorKind::WouldBlock | ErrorKind::NotConnected)
+    put
 }

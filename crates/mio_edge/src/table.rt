@@ -1,15 +1,18 @@
 //! The sessions of a server by their places, and the queues of those that are to have a turn.
-ghost use Rattle.std.specs.Prelude.{◌<◌, length};
-ghost use Rattle.gate_hub.specs.Hubs.{GotWithin, TookWithin};
+ghost use Rattle.std.specs.Prelude.{◌≡◌, ◌≢◌, ◌<◌, ◌==◌, not, [], ℕ, length, true, false, None, Some, IsSome, IfSome, IfOk};
+ghost use Rattle.std.specs.List.{slice_get, filter};
+ghost use Rattle.gate_hub.specs.Hubs.{GotWithin, TookWithin, LinkReads, LinkWrites};
+ghost use Rattle.mio_edge.specs.Wire.{Moves, Stays, new_wire};
+ghost use Rattle.mio_edge.specs.Tables.{World, TableTells, IsNew, IsPrepared, IsClosedAt, AtSession, Shuts, Announces, MovesAt, RisesFrom, SpareTells, place_of, empty_world};
+ghost use Rattle.mio_edge.specs.Sessions.{PortsTell, new_links};
 
+use crate::Stream;
+use crate::network::{Readiness, Reports};
 use crate::port::{Port, Rest, Sending};
 use crate::queue::Queue;
 use crate::session::Session;
 use gate_base::OutOfMemory;
 use gate_hub::{LinkGot, LinkPut};
-use mio::event::Event;
-use mio::net::TcpStream;
-use mio::{Interest, Registry, Token};
 use slab::Slab;
 use std::alloc::Global;
 
@@ -42,14 +45,14 @@ struct Entry {
 /// written to it is sent or can't be. After that it waits for the peers' ends, but gives its place to
 /// a new connection.
 #[derive(Drop)]
-pub(crate) struct Table {
+pub(crate) struct Table<S: Stream> {
     /// The number of ports of a session.
     width: usize,
-    sessions: Slab<Session>,
+    sessions: Slab<Session<S>>,
     /// The ports, with their buffers, of the places that are free.
-    spare: Vec<Vec<Port>>,
+    spare: Vec<Vec<Port<S>>>,
     /// The open sessions, by rising numbers.
-    open: Vec<Entry>,
+    entries: Vec<Entry>,
     /// The places of the closed sessions, in the order in which they were closed.
     closed: Vec<usize>,
     /// The sessions that are to have a turn before the next wait.
@@ -64,9 +67,11 @@ pub(crate) struct Table {
     quantum: usize,
 }
 
-impl Table {
+impl<S: Stream> Table<S> {
     /// An empty table of so many places, for sessions of so many ports.
-    pub(crate) fn open(alloc: Global, places: usize, width: usize) -> Result<Table, OutOfMemory> {
+    pub(crate) fn open(alloc: Global, places: usize, width: usize) -> Result<Table<S>, OutOfMemory>
+        ensures { IfOk result (λ table. TableTells S.tells table empty_world) }
+    {
         let quantum = if places <= FEW_PLACES {
             LARGE_BUFFERS
         } else {
@@ -75,7 +80,7 @@ impl Table {
         let ready = Queue::open(alloc, places)?;
         let behind = Queue::open(alloc, places)?;
         let written = Queue::open(alloc, places)?;
-        let open = Vec::with_capacity(alloc, places)?;
+        let entries = Vec::with_capacity(alloc, places)?;
         let closed = Vec::with_capacity(alloc, places)?;
         let sessions = Slab::with_capacity(alloc, places)?;
         let spare = open_places(alloc, places, width, quantum)?;
@@ -83,7 +88,7 @@ impl Table {
             width,
             sessions,
             spare,
-            open,
+            entries,
             closed,
             ready,
             behind,
@@ -94,8 +99,10 @@ impl Table {
     }
 
     /// Whether no session is open, and nothing is to be sent to those that are closed.
-    pub(crate) fn is_done(&self) -> bool {
-        if !self.open.is_empty() {
+    pub(crate) fn is_done(&self) -> bool
+        ensures { result ≡ true → self.now.entries.items ≡ [] }
+    {
+        if !self.entries.is_empty() {
             return false;
         }
         for place in &self.closed {
@@ -110,7 +117,7 @@ impl Table {
 
     /// Whether no session is left, not even a closed one.
     pub(crate) fn is_empty(&self) -> bool {
-        self.open.is_empty() && self.closed.is_empty()
+        self.entries.is_empty() && self.closed.is_empty()
     }
 
     /// Whether a new connection finds a place.
@@ -123,45 +130,58 @@ impl Table {
         !self.behind.is_empty()
     }
 
-    /// Opens a session at a place that is free, or that the closed session which has waited longest
-    /// for its peers' ends gives up. Its ports have no connections yet.
-    pub(crate) fn begin(&mut self, number: u64) -> Option<usize> {
+    /// Prepares a session at a place that is free, or that the closed session which has waited longest
+    /// for its peers' ends gives up. Its ports have no connections yet, and it isn't open.
+    pub(crate) fn begin(&mut self, number: u64) -> Option<usize>
+        ensures keeps { Stays (TableTells S.tells self.old) (TableTells S.tells self.new) }
+        ensures prepared { (world : World) → TableTells S.tells self.old world → IfSome result (λ place. IsPrepared S.tells self.new place number) }
+    {
+        self.make_place();
+        let ports = self.spare.pop()?;
+        self.insert(Session::over(number, ports, self.quantum))
+    }
+
+    // Frees a place where there is none.
+    fn make_place(&mut self)
+        ensures { Stays (TableTells S.tells self.old) (TableTells S.tells self.new) }
+    {
         if self.spare.is_empty() {
             self.give_up_one();
         }
-        let ports = self.spare.pop()?;
-        self.sessions
-            .insert(Session::over(number, ports, self.quantum))
-            .ok()
     }
 
-    /// Gives a port of the session at a place its connection, and has it reported.
-    pub(crate) fn attach(
-        &mut self,
-        registry: &Registry,
-        place: usize,
-        port: usize,
-        mut stream: TcpStream,
-        sending: Sending,
-    ) -> bool {
-        let token = Token(self.width.wrapping_mul(place).wrapping_add(port));
-        let Some(session) = self.sessions.get_mut(place) else {
-            return false;
-        };
-        let Some(port) = session.ports.get_mut(port) else {
-            return false;
-        };
-        let _ = stream.set_nodelay(true);
-        let both = Interest::READABLE | Interest::WRITABLE;
-        if registry.register(&mut stream, token, both).is_err() {
-            return false;
+    // Puts a session that isn't open at a place of its own.
+    fn insert(&mut self, session: Session<S>) -> Option<usize>
+        ensures keeps { session.is_open ≡ false → Stays (TableTells S.tells self.old) (TableTells S.tells self.new) }
+        ensures prepared { IsNew S.tells session → (world : World) → TableTells S.tells self.old world → IfSome result (λ place. IsPrepared S.tells self.new place session.number) }
+    {
+        self.sessions.insert(session).ok()
+    }
+
+    /// Where what comes of a port of the session at a place is reported.
+    pub(crate) fn token(&self, place: usize, port: usize) -> usize {
+        self.width.wrapping_mul(place).wrapping_add(port)
+    }
+
+    /// Gives a port of the session at a place its connection. It says whether there is such a port.
+    pub(crate) fn attach(&mut self, place: usize, port: usize, stream: S, sending: Sending) -> bool
+        requires { sending ≢ Sending.Lost }
+        ensures keeps { IsClosedAt self.old.sessions place → Stays (TableTells S.tells self.old) (TableTells S.tells self.new) }
+        ensures closed { IsClosedAt self.old.sessions place → IsClosedAt self.new.sessions place }
+        ensures prepared { (k : ℕ) → S.tells stream new_wire → IsPrepared S.tells self.old place k → IsPrepared S.tells self.new place k }
+    {
+        match self.sessions.get_mut(place) {
+            Some(session) => session.attach(port, stream, sending),
+            None => false,
         }
-        port.attach(stream, sending);
-        true
     }
 
-    /// Has the connections of the session at a place to its upstreams begun at the first write to each.
-    pub(crate) fn defer(&mut self, place: usize) {
+    /// Has the connections of the session at a place begun at the first write to each.
+    pub(crate) fn defer(&mut self, place: usize)
+        ensures prepared { (k : ℕ) → IsPrepared S.tells self.old place k → IsPrepared S.tells self.new place k }
+        ensures closed { IsClosedAt self.old.sessions place → IsClosedAt self.new.sessions place }
+        ensures keeps { Stays (TableTells S.tells self.old) (TableTells S.tells self.new) }
+    {
         if let Some(session) = self.sessions.get_mut(place) {
             session.defer();
         }
@@ -178,44 +198,40 @@ impl Table {
         }
     }
 
-    /// Lets the port of a session have no connection: what is written to it fails.
-    pub(crate) fn give_up(&mut self, place: usize, port: usize) {
-        if let Some(session) = self.sessions.get_mut(place)
-            && let Some(port) = session.ports.get_mut(port)
-        {
-            port.detach();
+    /// Lets a port of the session at a place have no connection: what is written to it fails.
+    pub(crate) fn give_up(&mut self, place: usize, port: usize)
+        ensures { Stays (TableTells S.tells self.old) (TableTells S.tells self.new) }
+    {
+        if let Some(session) = self.sessions.get_mut(place) {
+            session.give_up(port);
         }
     }
 
-    /// Lets a session be found by its number, which is above all others.
-    pub(crate) fn announce(&mut self, number: u64, place: usize) -> bool {
-        self.open.len() < self.open.capacity() && self.open.push(Entry { number, place }).is_ok()
-    }
-
-    /// Takes note of what was reported of a port, and lets its session have a turn if that is news.
-    pub(crate) fn report(&mut self, event: Event) {
-        if self.width == 0 {
-            return;
+    /// Opens the session at a place: it is found by its number from now on, which is above all others.
+    pub(crate) fn announce(&mut self, number: u64, place: usize) -> bool
+        ensures opens { result ≡ true → IsPrepared S.tells self.old place number → Announces number (TableTells S.tells self.old) (TableTells S.tells self.new) }
+        ensures kept { result ≡ false → self.new ≡ self.old }
+    {
+        if self.entries.len() >= self.entries.capacity() {
+            return false;
         }
-        let token = event.token().0;
-        let place = token / self.width;
         let Some(session) = self.sessions.get_mut(place) else {
-            return;
+            return false;
         };
-        let Some(port) = session.ports.get_mut(token % self.width) else {
-            return;
-        };
-        if port.report(event) && !session.is_queued {
-            session.is_queued = self.ready.push(place);
-        }
+        session.is_open = true;
+        self.entries.push_reserved(Entry { number, place });
+        true
     }
 
     /// Lets the sessions that were to have a turn behind the others have it now.
-    pub(crate) fn recall(&mut self) {
+    pub(crate) fn recall(&mut self)
+        ensures { Stays (TableTells S.tells self.old) (TableTells S.tells self.new) }
+    {
         for _ in 0..self.behind.len() {
-            if let Some(place) = self.behind.pop() {
-                self.ready.push(place);
-            }
+            let Some(place) = self.behind.pop() else {
+                return;
+            };
+            self.ready.push(place);
         }
     }
 
@@ -225,7 +241,10 @@ impl Table {
     }
 
     /// The number of the next open session that is to have a turn.
-    pub(crate) fn next_ready(&mut self) -> Option<u64> {
+    pub(crate) fn next_ready(&mut self) -> Option<u64>
+        ensures keeps { Stays (TableTells S.tells self.old) (TableTells S.tells self.new) }
+        ensures found { (world : World) → TableTells S.tells self.old world → IfSome result (λ k. IsSome (world k)) }
+    {
         for _ in 0..self.ready.len() {
             let place = self.ready.pop()?;
             if let Some(number) = self.begin_turn(place) {
@@ -236,7 +255,10 @@ impl Table {
     }
 
     // Begins the turn of the session at a place. A closed one has it here.
-    fn begin_turn(&mut self, place: usize) -> Option<u64> {
+    fn begin_turn(&mut self, place: usize) -> Option<u64>
+        ensures keeps { Stays (TableTells S.tells self.old) (TableTells S.tells self.new) }
+        ensures found { (world : World) → TableTells S.tells self.old world → IfSome result (λ k. IsSome (world k)) }
+    {
         let session = self.sessions.get_mut(place)?;
         session.is_queued = false;
         if !session.is_open {
@@ -245,42 +267,48 @@ impl Table {
         }
         session.begin_turn(self.quantum);
         self.turning = place;
-        if session.has_unsent() && !session.is_written {
-            session.is_written = self.written.push(place);
-        }
+        session.resend(&mut self.written, place);
         Some(session.number)
     }
 
     /// Sends what the sessions wrote, where these are many.
-    pub(crate) fn send_where_many(&mut self) {
+    pub(crate) fn send_where_many(&mut self)
+        ensures { Stays (TableTells S.tells self.old) (TableTells S.tells self.new) }
+    {
         if self.written.len() >= MOST_WRITTEN {
             self.send();
         }
     }
 
     /// Sends what the sessions wrote. One whose connection fails in that is to have a turn.
-    pub(crate) fn send(&mut self) {
+    pub(crate) fn send(&mut self)
+        ensures { Stays (TableTells S.tells self.old) (TableTells S.tells self.new) }
+    {
         for _ in 0..self.written.len() {
-            if let Some(place) = self.written.pop() {
-                self.send_at(place);
-            }
+            let Some(place) = self.written.pop() else {
+                return;
+            };
+            self.send_at(place);
         }
     }
 
-    fn send_at(&mut self, place: usize) {
+    fn send_at(&mut self, place: usize)
+        ensures { Stays (TableTells S.tells self.old) (TableTells S.tells self.new) }
+    {
         let Some(session) = self.sessions.get_mut(place) else {
             return;
         };
         session.is_written = false;
-        if session.send() && !session.is_queued {
-            session.is_queued = self.ready.push(place);
+        if session.send() {
+            session.stand_in(&mut self.ready, place);
         }
     }
 
     /// Reads from a port of a session.
     pub(crate) fn read(&mut self, number: u64, port: usize, into: &mut [u8]) -> LinkGot
         requires { 0 < length into.old }
-        ensures { GotWithin into.new result }
+        ensures within { GotWithin into.new result }
+        ensures leads { MovesAt number (TableTells S.tells self.old) (TableTells S.tells self.new) (AtSession number port (LinkReads into.new result)) }
     {
         let Some(place) = self.find(number) else {
             return LinkGot::Failed;
@@ -288,17 +316,19 @@ impl Table {
         let Some(session) = self.sessions.get_mut(place) else {
             return LinkGot::Failed;
         };
-        if !session.is_spent() {
-            return session.read(port, into);
+        let is_spent = session.is_spent();
+        let got = session.read(port, into);
+        if is_spent {
+            self.put_behind(place);
         }
-        self.put_behind(place);
-        LinkGot::NotReady
+        got
     }
 
     /// Writes to a port of a session.
     pub(crate) fn write(&mut self, number: u64, port: usize, from: &[u8]) -> LinkPut
         requires { 0 < length from.now }
-        ensures { TookWithin from.now result }
+        ensures within { TookWithin from.now result }
+        ensures leads { MovesAt number (TableTells S.tells self.old) (TableTells S.tells self.new) (AtSession number port (LinkWrites from.now result)) }
     {
         let Some(place) = self.find(number) else {
             return LinkPut::Failed;
@@ -306,36 +336,47 @@ impl Table {
         let Some(session) = self.sessions.get_mut(place) else {
             return LinkPut::Failed;
         };
-        if session.is_spent() {
+        let is_spent = session.is_spent();
+        let put = session.write(port, from);
+        if is_spent {
             self.put_behind(place);
-            return LinkPut::NotReady;
-        }
-        if !session.is_written {
+        } else if !session.is_written {
             session.is_written = self.written.push(place);
         }
-        session.write(port, from)
+        put
     }
 
     /// Closes a session. What was written to it is sent still.
-    pub(crate) fn close(&mut self, number: u64) {
-        let Some(at) = self.search(number) else {
-            return;
+    pub(crate) fn close(&mut self, number: u64)
+        ensures { MovesAt number (TableTells S.tells self.old) (TableTells S.tells self.new) (Shuts number) }
+    {
+        if let Some(at) = self.search(number) {
+            let place = self.shut(at);
+            self.wind_up(place);
+        }
+    }
+
+    // Closes the session of an entry, and says at which place it stands.
+    fn shut(&mut self, at: usize) -> usize
+        requires { at < length self.old.entries.items }
+        ensures closed { (world : World) → TableTells S.tells self.old world → IsClosedAt self.new.sessions result }
+        ensures shuts { (e : Entry) → slice_get self.old.entries.items at ≡ Some e → Moves (TableTells S.tells self.old) (TableTells S.tells self.new) (Shuts e.number) }
+    {
+        let place = self.entries.remove(at).place;
+        let Some(session) = self.sessions.get_mut(place) else {
+            return place;
         };
-        if at >= self.open.len() {
-            return;
-        }
-        let place = self.open.remove(at).place;
-        if let Some(session) = self.sessions.get_mut(place) {
-            session.is_open = false;
-        }
+        session.is_open = false;
         if self.closed.len() < self.closed.capacity() {
             self.closed.push_reserved(place);
         }
-        self.wind_up(place);
+        place
     }
 
     // Goes on with the end of the closed session at a place, and frees the place once it is over.
-    fn wind_up(&mut self, place: usize) {
+    fn wind_up(&mut self, place: usize)
+        ensures { IsClosedAt self.old.sessions place → Stays (TableTells S.tells self.old) (TableTells S.tells self.new) }
+    {
         let Some(session) = self.sessions.get_mut(place) else {
             return;
         };
@@ -348,17 +389,19 @@ impl Table {
     }
 
     // Lets the session at a place have a turn behind those that are reported next.
-    fn put_behind(&mut self, place: usize) {
-        if let Some(session) = self.sessions.get_mut(place)
-            && !session.is_queued
-        {
-            session.is_queued = self.behind.push(place);
+    fn put_behind(&mut self, place: usize)
+        ensures { Stays (TableTells S.tells self.old) (TableTells S.tells self.new) }
+    {
+        if let Some(session) = self.sessions.get_mut(place) {
+            session.stand_in(&mut self.behind, place);
         }
     }
 
     /// Frees a place.
-    pub(crate) fn release(&mut self, place: usize) {
-        self.closed.retain(|other| *other != place);
+    pub(crate) fn release(&mut self, place: usize)
+        ensures { IsClosedAt self.old.sessions place → Stays (TableTells S.tells self.old) (TableTells S.tells self.new) }
+    {
+        forget(&mut self.closed, place);
         if let Some(session) = self.sessions.try_remove(place) {
             let ports = session.into_ports();
             if self.spare.len() < self.spare.capacity() {
@@ -368,14 +411,18 @@ impl Table {
     }
 
     // Frees the place of the closed session that has waited longest for its peers' ends.
-    fn give_up_one(&mut self) {
+    fn give_up_one(&mut self)
+        ensures { Stays (TableTells S.tells self.old) (TableTells S.tells self.new) }
+    {
         if let Some(place) = self.find_sent() {
             self.release(place);
         }
     }
 
     // The place of the first closed session that has sent everything, and isn't to have a turn.
-    fn find_sent(&self) -> Option<usize> {
+    fn find_sent(&self) -> Option<usize>
+        ensures { (world : World) → TableTells S.tells self.now world → IfSome result (λ place. IsClosedAt self.now.sessions place) }
+    {
         for place in &self.closed {
             if let Some(session) = self.sessions.get(*place)
                 && !session.is_queued
@@ -388,7 +435,9 @@ impl Table {
     }
 
     // The place of an open session: mostly the one whose turn it is.
-    fn find(&self, number: u64) -> Option<usize> {
+    fn find(&self, number: u64) -> Option<usize>
+        ensures { (world : World) → TableTells S.tells self.now world → result ≡ place_of self.now.entries.items number }
+    {
         if let Some(session) = self.sessions.get(self.turning)
             && session.number == number
             && session.is_open
@@ -396,24 +445,61 @@ impl Table {
             return Some(self.turning);
         }
         let at = self.search(number)?;
-        self.open.get(at).map(|entry| entry.place)
+        let entry = self.entries.get(at)?;
+        Some(entry.place)
     }
 
     // Where an open session stands among them.
-    fn search(&self, number: u64) -> Option<usize> {
-        self.open
+    fn search(&self, number: u64) -> Option<usize>
+        ensures within { IfSome result (λ at. at < length self.now.entries.items) }
+        ensures here { IfSome result (λ at. (e : Entry) × (slice_get self.now.entries.items at ≡ Some e) × (e.number ≡ number)) }
+        ensures none { RisesFrom 0 self.now.entries.items → result ≡ None → place_of self.now.entries.items number ≡ None }
+    {
+        self.entries
             .binary_search_by_key(&number, |entry| entry.number)
             .ok()
     }
 }
 
+impl<S: Stream> Reports for Table<S> {
+    ghost goes = { λ a b. Stays (TableTells S.tells a) (TableTells S.tells b) };
+
+    /// Takes note of what was reported at a token, and lets its session have a turn if that is news.
+    fn report(&mut self, token: usize, news: Readiness) {
+        if self.width == 0 {
+            return;
+        }
+        let place = token / self.width;
+        let port = token % self.width;
+        let Some(session) = self.sessions.get_mut(place) else {
+            return;
+        };
+        if session.report(port, news) {
+            session.stand_in(&mut self.ready, place);
+        }
+    }
+
+    ghost stays = { λ a world told. told };
+
+    ghost follows = { λ a b c first second world told. second world (first world told) };
+}
+
+// Takes a place out of a list.
+fn forget(places: &mut Vec<usize>, place: usize)
+    ensures { places.new.items ≡ filter (λ other. not (other == place)) places.old.items }
+{
+    places.retain(|other| *other != place);
+}
+
 // The ports of so many places.
-fn open_places(
+fn open_places<S: Stream>(
     alloc: Global,
     places: usize,
     width: usize,
     buffers: usize,
-) -> Result<Vec<Vec<Port>>, OutOfMemory> {
+) -> Result<Vec<Vec<Port<S>>>, OutOfMemory>
+    ensures { IfOk result (λ spare. (n : ℕ) → SpareTells S.tells (slice_get spare.items n)) }
+{
     let mut spare = Vec::with_capacity(alloc, places)?;
     for _ in 0..places {
         spare.push(open_ports(alloc, width, buffers)?)?;
@@ -422,7 +508,13 @@ fn open_places(
 }
 
 // The ports of a session, without connections.
-fn open_ports(alloc: Global, width: usize, buffers: usize) -> Result<Vec<Port>, OutOfMemory> {
+fn open_ports<S: Stream>(
+    alloc: Global,
+    width: usize,
+    buffers: usize,
+) -> Result<Vec<Port<S>>, OutOfMemory>
+    ensures { IfOk result (λ ports. PortsTell S.tells ports.items new_links) }
+{
     let room = (buffers / width.max(1)).max(LEAST_BUFFER);
     let mut ports = Vec::with_capacity(alloc, width)?;
     for _ in 0..width {

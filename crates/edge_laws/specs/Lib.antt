@@ -1,0 +1,2 @@
+-- The streams of a session.
+pub mod Streams

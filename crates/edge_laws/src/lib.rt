@@ -1,0 +1,30 @@
+//! Laws of the server over sockets, from its command to the streams of its sessions.
+//!
+//! Each law is the contract of a function that does nothing. The code rests on none of them.
+#![tactic(auto)]
+
+ghost use Rattle.std.specs.Prelude.{◌≡◌, ℕ};
+ghost use Rattle.gate_hub.specs.Meaning.{Meaning, IsOpen};
+ghost use Rattle.gate_hub.specs.declared.hub.Side.{Side};
+ghost use Rattle.gate_run.specs.Undisturbed.{ServerRun, IsRunOf};
+ghost use Rattle.mio_edge.specs.Telling.{HubTells};
+ghost use Rattle.stream_laws.specs.Sessions.{IsCommanded, IsOverFrames, IsServed};
+ghost use Rattle.edge_laws.specs.Streams.{HasOwnStream};
+
+use gate_hub::Hub;
+use mio_edge::{MioHub, Network};
+use stream_laws::a_session_carries_messages;
+
+/// What a server carries whose hub is the one over sockets, over a network whose streams tell: in each session, the messages of the law
+/// `a_session_carries_messages` of the crate stream_laws.
+pub fn a_session_over_sockets_carries_messages<W: Network>()
+    ensures { (x : ServerRun (MioHub W W.Stream)) → IsCommanded x → IsRunOf ⟦<MioHub<W> as Hub>⟧ x → IsOverFrames x.serving → IsServed (HubTells W.is_telling W.Stream.tells) x }
+{
+    a_session_carries_messages::<MioHub<W>>();
+}
+
+/// What a session that is open received and was sent at a side is what its own stream had and took: the stream gave that and then what its
+/// port holds still, and took a front of it. A side without a stream has received and was sent nothing.
+pub fn an_open_session_has_its_own_streams<W: Network>()
+    ensures { (hub : MioHub W W.Stream) (m : Meaning) → HubTells W.is_telling W.Stream.tells hub m → (k : ℕ) → IsOpen k m → (s : Side) → HasOwnStream W.Stream.tells hub m k s }
+{}

@@ -1,0 +1,2 @@
+-- What a stream in memory tells.
+pub mod Streams

@@ -1,0 +1,114 @@
+//! A network in memory.
+ghost use Rattle.std.specs.Prelude.{⊤, IfOk, IfSome};
+ghost use Rattle.mio_edge.specs.Wire.{Stays, IfCame, new_wire};
+ghost use Rattle.edge_memory.specs.Streams.{TellsStream};
+
+use crate::MemStream;
+use gate_base::OutOfMemory;
+use gate_hub::Began;
+use mio_edge::{Accepted, Network, Readiness, Reports, Waited};
+use std::alloc::Global;
+use std::net::SocketAddr;
+use std::time::Duration;
+
+/// What each connection is reported to be: a read or a write finds whether it is.
+const READY: Readiness = Readiness {
+    is_readable: true,
+    is_writable: true,
+    is_closing: false,
+    has_failed: false,
+};
+
+/// A network whose streams tell all. Each wait reports all of its connections.
+#[derive(Drop)]
+pub struct MemNetwork {
+    alloc: Global,
+    clients: Vec<Vec<u8>>,
+    targets: Vec<Vec<u8>>,
+    room: usize,
+    tokens: Vec<usize>,
+    is_listening: bool,
+}
+
+impl MemNetwork {
+    /// A network to which clients connect that send these bytes, the last first, and whose targets send
+    /// those, the last first. Each stream takes so many bytes, and ends behind what it sends.
+    pub fn new(
+        alloc: Global,
+        clients: Vec<Vec<u8>>,
+        targets: Vec<Vec<u8>>,
+        room: usize,
+    ) -> MemNetwork {
+        MemNetwork {
+            alloc,
+            clients,
+            targets,
+            room,
+            tokens: Vec::new(alloc),
+            is_listening: false,
+        }
+    }
+}
+
+impl Network for MemNetwork {
+    type Stream = MemStream;
+
+    ghost is_telling = { ⊤ };
+
+    fn listen(&mut self, _alloc: Global, _address: SocketAddr) -> Began {
+        self.is_listening = true;
+        Began::Done
+    }
+
+    fn stop_listening(&mut self) {
+        self.is_listening = false;
+    }
+
+    fn accept(&mut self) -> Accepted<MemStream>
+        ensures { ⊤ → IfCame result (λ stream. TellsStream stream new_wire) }
+    {
+        match self.clients.pop() {
+            Some(sends) => came(MemStream::new(self.alloc, &sends, true, self.room)),
+            None => Accepted::Nothing,
+        }
+    }
+
+    fn connect(&mut self, _target: SocketAddr) -> Option<MemStream>
+        ensures { ⊤ → IfSome result (λ stream. TellsStream stream new_wire) }
+    {
+        let sends = self.targets.pop()?;
+        MemStream::new(self.alloc, &sends, true, self.room).ok()
+    }
+
+    fn watch(&mut self, stream: &mut MemStream, token: usize) -> bool
+        ensures { Stays (TellsStream stream.old) (TellsStream stream.new) }
+    {
+        self.tokens.push(token).is_ok()
+    }
+
+    fn wait<R: Reports>(&mut self, _timeout: Option<Duration>, reports: &mut R) -> Waited
+        ensures { R.goes reports.old reports.new }
+    {
+        for token in &self.tokens {
+            reports.report(*token, READY);
+        }
+        if self.is_listening && !self.clients.is_empty() {
+            return Waited::Connection;
+        }
+        if self.tokens.is_empty() {
+            return Waited::Nothing;
+        }
+        Waited::News
+    }
+}
+
+// The connection that came, if there was memory for it.
+fn came(stream: Result<MemStream, OutOfMemory>) -> Accepted<MemStream>
+    requires { IfOk stream (λ stream. TellsStream stream new_wire) }
+    ensures { IfCame result (λ stream. TellsStream stream new_wire) }
+{
+    match stream {
+        Ok(stream) => Accepted::Came(stream),
+        Err(_) => Accepted::Failed,
+    }
+}

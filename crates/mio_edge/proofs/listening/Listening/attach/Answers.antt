@@ -1,0 +1,8 @@
+use Rattle.mio_edge.specs.Wire.{new_wire}
+use Rattle.mio_edge.proofs.listening.Listening.attach.Goals as goal
+
+pub returns-then-watch-clause-prepared : goal.returns-then-watch-clause-prepared
+returns-then-watch-clause-prepared g c = λ k says ready. c.attach.ensures.prepared k (c.watch.ensures new_wire says) ready
+
+pub returns-then-watch-clause-keeps : goal.returns-then-watch-clause-keeps
+returns-then-watch-clause-keeps g c = λ shut. (c.attach.ensures.closed shut, c.attach.ensures.keeps shut)

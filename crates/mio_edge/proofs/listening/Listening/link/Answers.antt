@@ -1,0 +1,19 @@
+use Rattle.mio_edge.proofs.listening.Listening.link.Goals as goal
+
+pub returns-then-eq-clause-prepared : goal.returns-then-eq-clause-prepared
+returns-then-eq-clause-prepared g c = λ k telling says ready. c.attach.ensures.prepared k says (c.defer.ensures.prepared k ready)
+
+pub returns-then-eq-clause-keeps : goal.returns-then-eq-clause-keeps
+returns-then-eq-clause-keeps g c = λ shut. let after = c.attach.ensures.keeps (c.defer.ensures.closed shut) in (after.0, λ world told. after.1 world (c.defer.ensures.keeps world told))
+
+pub returns-then-not-attach-clause-prepared : goal.returns-then-not-attach-clause-prepared
+returns-then-not-attach-clause-prepared g c = λ k telling says ready. c.attach-2.ensures.prepared k says ready
+
+pub returns-clause-prepared : goal.returns-clause-prepared
+returns-clause-prepared g c = λ k telling says ready. c.connect_all.ensures.prepared k telling (c.attach-2.ensures.prepared k says ready)
+
+pub returns-clause-keeps : goal.returns-clause-keeps
+returns-clause-keeps g c = λ shut.
+    let first = c.attach-2.ensures.keeps shut in
+    let second = c.connect_all.ensures.keeps first.0 in
+    (second.0, λ world told. second.1 world (first.1 world told))

@@ -1,0 +1,5 @@
+use Rattle.mio_edge.proofs.mio_network.MioNetworkNetwork.wait.Given as goal
+
+-- what came so far was reported
+abbrev pub invariant-loop-event : goal.invariant-loop-event
+invariant-loop-event g l = g.R.Reports.goes l.fn.reports l.reports

@@ -1,0 +1,7 @@
+use Rattle.mio_edge.specs.Wire.{Stays}
+use Rattle.mio_edge.specs.Tables.{TableTells}
+use Rattle.mio_edge.proofs.table.Table.recall.Given as goal
+
+-- what was told is told still
+abbrev pub invariant-loop : goal.invariant-loop
+invariant-loop g l = Stays (TableTells g.S.Stream.tells l.fn.self) (TableTells g.S.Stream.tells l.self)

@@ -1,0 +1,40 @@
+-- What the sockets tell: the sessions that are open, and what went over the ports of each.
+use Rattle.std.specs.Prelude.{◌≡◌, ℕ, ◌<◌, ◌≤◌, true, Option, None, Some, IsSome}
+use Rattle.gate_hub.specs.declared.hub.HubNext.{HubNext}
+use Rattle.gate_hub.specs.declared.hub.HubNext.TheVariants as event
+use Rattle.mio_edge.specs.Wire.{Wire}
+use Rattle.mio_edge.specs.Tables.{World, TableTells, Opens}
+use Rattle.mio_edge.specs.declared.listening.Connecting.TheVariants as connecting
+use Rattle.mio_edge.specs.declared.listening.Listening.{Listening}
+use Rattle.mio_edge.specs.declared.sockets.Sockets.{Sockets}
+
+-- the sessions of a server that listens; none is open before it does
+abbrev pub ListeningTells : {S : Type 0} → (S → Wire → Type 0) → Option (Listening S) → World → Type 0
+ListeningTells tells None world = (k : ℕ) → world k ≡ None
+ListeningTells tells (Some listening) world = (listening.connecting ≡ connecting.AtOnce) × TableTells tells listening.table world
+
+-- What the sockets of a network that tells tell, where each session is connected to all its upstreams at once: the open
+-- sessions, whose numbers are below the count of those that were announced.
+pub record SocketsTell {W S : Type 0} (IsTelling : Type 0) (tells : S → Wire → Type 0) (sockets : Sockets W S) (world : World) : Type 0 where
+  pub is_telling : IsTelling
+  pub at_once : sockets.connecting ≡ connecting.AtOnce
+  pub sessions : ListeningTells tells sockets.listening world
+  pub below : (k : ℕ) → IsSome (world k) → k < sockets.announced
+
+-- what an event does to the open sessions
+abbrev pub EventMoves : HubNext → World → World → Type 0
+EventMoves (event.Opened k) a b = Opens k a b
+EventMoves (event.Ready k) a b = (b ≡ a) × IsSome (a k)
+EventMoves event.Stopped a b = b ≡ a
+EventMoves event.Failed a b = b ≡ a
+
+-- the same where there may be no event yet
+abbrev pub EventMovesIfAny : Option HubNext → World → World → Type 0
+EventMovesIfAny (Some answer) a b = EventMoves answer a b
+EventMovesIfAny None a b = b ≡ a
+
+-- they answer that no event follows
+pub record HasStopped {W S : Type 0} (sockets : Sockets W S) : Type 0 where
+  pub stopped : sockets.has_stopped ≡ true
+  pub some : 0 < sockets.accept
+  pub all : sockets.accept ≤ sockets.announced
