@@ -4,6 +4,7 @@
 
 ghost use Rattle.std.specs.Prelude.{◌≡◌, ℕ, List, Option, Some};
 ghost use Rattle.idl_names.specs.Files.{FileTree};
+ghost use Rattle.idl_files.specs.Answers.{WhereTold};
 ghost use Rattle.idl_files.specs.Walk.{walked};
 ghost use Rattle.idl_laws.specs.LookUps.{AreDotless};
 ghost use Rattle.gate_idl.specs.Opening.{IsOpened, Opened};
@@ -32,6 +33,6 @@ pub fn an_opened_idl_is_its_texts()
 /// And the command `check`, where the files tell what they hold, writes how much good texts declare, or reports what is wrong;
 /// or a file could not be read, or memory was not found.
 pub fn a_check_says_what_the_texts_are()
-    ensures { (file : List ℕ) (x y : Outside) (ending : Ending) (holds : List ℕ → Option (List ℕ)) → Obeys (Check file) x y ending
-        → x.holds ≡ Some holds → SaysWhatIs holds x.streams y.streams ending }
+    ensures { (file : List ℕ) (x y : Outside) (ending : Ending) → Obeys (Check file) x y ending
+        → WhereTold x.holds (λ holds. SaysWhatIs holds x.streams y.streams ending) }
 {}

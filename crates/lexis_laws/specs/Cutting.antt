@@ -1,6 +1,6 @@
 -- How a text of the IDL is cut up to some place (Thrift interface description language): whitespace and comments, and tokens between them,
 -- each the longest that fits.
-use Rattle.std.specs.Prelude.{◌≡◌, ℕ, ◌+◌, ◌<◌, ◌≤◌, List, [], ◌∷◌, ◌++◌, length, take, true}
+use Rattle.std.specs.Prelude.{◌≡◌, ℕ, ◌+◌, ◌<◌, ◌≤◌, List, [], ◌∷◌, ◌++◌, length, take, drop, true}
 use Rattle.idl_lexer.specs.Bytes.{is_blank}
 use Rattle.idl_lexer.specs.Grammar.{IsToken, IsOneLine, IsLineEnd, IsInComment, is_in_range}
 use Rattle.idl_lexer.specs.declared.token.Token.{Token}
@@ -23,6 +23,14 @@ pub record Stands (form : TokenForm) (bytes rest : List ℕ) : Type 0 where
   pub token : IsToken form bytes
   pub longest : IsLongest bytes rest
 
+-- at the front of a text stands this token, the longest that fits
+abbrev pub StandsIn : List ℕ → TokenForm → List ℕ → Type 0
+StandsIn text form bytes = (rest : List ℕ) × (text ≡ bytes ++ rest) × Stands form bytes rest
+
+-- the texts begin with the same bytes, so many
+abbrev pub Agree : ℕ → List ℕ → List ℕ → Type 0
+Agree n text other = take n text ≡ take n other
+
 -- The tokens of the bytes from one place up to another, and the bytes that stand from there on.
 pub data Cuts : ℕ → List ℕ → List Token → ℕ → List ℕ → Type 0 where
   here : (at : ℕ) (rest : List ℕ) → Cuts at rest [] at rest
@@ -31,3 +39,7 @@ pub data Cuts : ℕ → List ℕ → List Token → ℕ → List ℕ → Type 0 
   token : (at place : ℕ) (form : TokenForm) (bytes rest behind : List ℕ) (tokens : List Token) → Stands form bytes rest → is_in_range form ≡ true →
       Cuts (at + length bytes) rest tokens place behind →
       Cuts at (bytes ++ rest) (record { form = form; from = at; len = length bytes } ∷ tokens) place behind
+
+-- these are the tokens of a text up to this place
+abbrev pub CutsUpTo : List ℕ → List Token → ℕ → Type 0
+CutsUpTo text tokens place = Cuts 0 text tokens place (drop place text)

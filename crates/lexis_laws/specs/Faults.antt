@@ -52,3 +52,12 @@ abbrev pub IsLexed : List ℕ → Result (Vec Token) LexError → Type 0
 IsLexed text (Ok tokens) = Lexes 0 text tokens.items
 IsLexed text (Err (errors.Fault fault)) = IsFaultOf text fault
 IsLexed text (Err errors.OutOfMemory) = Unit {0}
+
+-- the text is cut up to this place, at which these bytes are a whole number that is out of range
+pub record HasBigNumber (text : List ℕ) (at : ℕ) (bytes : List ℕ) : Type 0 where
+  pub tokens : List Token
+  pub rest : List ℕ
+  pub number : ℤ
+  pub cut : Cuts 0 text tokens at (bytes ++ rest)
+  pub stands : Stands (forms.Int number) bytes rest
+  pub big : is_in_range (forms.Int number) ≡ false

@@ -4,18 +4,17 @@
 //! Each law is the contract of a function that does nothing. The code rests on none of them.
 #![tactic(auto)]
 
-ghost use Rattle.std.specs.Prelude.{◌≡◌, ◌↔◌, ◌⊎◌, ℕ, ℤ, ◌+◌, ◌≤◌, false, List, [], ◌++◌, length, take, drop, Result, Ok, Err};
+ghost use Rattle.std.specs.Prelude.{◌≡◌, ◌↔◌, ◌⊎◌, ℕ, ◌+◌, ◌≤◌, List, [], length, Result, Ok, Err};
 ghost use Rattle.std.specs.Global.{Vec};
-ghost use Rattle.idl_lexer.specs.Grammar.{Lexes, is_in_range};
+ghost use Rattle.idl_lexer.specs.Grammar.{Lexes};
 ghost use Rattle.idl_lexer.specs.Tokens.{tokens_of, Gives};
 ghost use Rattle.idl_lexer.specs.declared.token.Token.{Token};
 ghost use Rattle.idl_lexer.specs.declared.token.TokenForm.{TokenForm};
-ghost use Rattle.idl_lexer.specs.declared.token.TokenForm.TheVariants as forms;
 ghost use Rattle.idl_lexer.specs.declared.token.LexReason.TheVariants as reasons;
 ghost use Rattle.idl_lexer.specs.declared.token.LexError.{LexError};
 ghost use Rattle.idl_lexer.specs.declared.token.LexFault.{LexFault};
-ghost use Rattle.lexis_laws.specs.Cutting.{Stands, Cuts};
-ghost use Rattle.lexis_laws.specs.Faults.{IsFaultOf, IsLexed, fault_at};
+ghost use Rattle.lexis_laws.specs.Cutting.{StandsIn, Cuts, CutsUpTo, Agree};
+ghost use Rattle.lexis_laws.specs.Faults.{IsFaultOf, IsLexed, HasBigNumber, fault_at};
 
 /// What is read of a text is a cutting of it, and each cutting is what is read.
 pub fn a_text_is_cut_as_it_is_read()
@@ -35,8 +34,7 @@ pub fn a_text_is_cut_in_one_way()
 
 /// At a place one token stands at most: the longest that fits there has one form, and a whole number one value.
 pub fn one_token_stands_at_a_place()
-    ensures { (form other : TokenForm) (bytes rest front behind : List ℕ) → bytes ++ rest ≡ front ++ behind
-        → Stands form bytes rest → Stands other front behind → (form ≡ other) × (bytes ≡ front) }
+    ensures { (text bytes front : List ℕ) (form other : TokenForm) → StandsIn text form bytes → StandsIn text other front → (form ≡ other) × (bytes ≡ front) }
 {}
 
 /// A cutting of a text is a cutting up to its end.
@@ -63,15 +61,14 @@ pub fn a_text_is_cut_or_has_one_fault()
 /// What is cut of a text up to some place depends on the bytes up to there and on three bytes behind alone: a token looks no further.
 pub fn a_token_looks_no_further()
     ensures { (text other behind : List ℕ) (tokens : List Token) (place : ℕ) → Cuts 0 text tokens place behind
-        → take (place + 3) text ≡ take (place + 3) other → Cuts 0 other tokens place (drop place other) }
+        → Agree (place + 3) text other → CutsUpTo other tokens place }
 {}
 
 /// A bad byte is told by the bytes up to it and three from it on, and a number that is too big by its own bytes and three behind, whatever
 /// stands further on.
 pub fn a_fault_looks_no_further()
     ensures bad_byte { (text other : List ℕ) (at : ℕ) → IsFaultOf text (fault_at at reasons.BadByte)
-        → take (at + 3) text ≡ take (at + 3) other → IsFaultOf other (fault_at at reasons.BadByte) }
-    ensures big_number { (text other bytes rest : List ℕ) (tokens : List Token) (at : ℕ) (z : ℤ) → Cuts 0 text tokens at (bytes ++ rest)
-        → Stands (forms.Int z) bytes rest → is_in_range (forms.Int z) ≡ false
-        → take (at + (length bytes + 3)) text ≡ take (at + (length bytes + 3)) other → IsFaultOf other (fault_at at reasons.BigNumber) }
+        → Agree (at + 3) text other → IsFaultOf other (fault_at at reasons.BadByte) }
+    ensures big_number { (text other bytes : List ℕ) (at : ℕ) → HasBigNumber text at bytes
+        → Agree (at + (length bytes + 3)) text other → IsFaultOf other (fault_at at reasons.BigNumber) }
 {}

@@ -4,7 +4,7 @@ use Rattle.std.specs.List.{slice_get}
 use Rattle.std.specs.Global.{Vec}
 use Rattle.slab.specs.Slab.{Slab, get}
 use Rattle.gate_hub.specs.Meaning.{Link}
-use Rattle.mio_edge.specs.Wire.{Wire}
+use Rattle.mio_edge.specs.Wire.{Wire, Stays}
 use Rattle.mio_edge.specs.Sessions.{Links, SessionTells, PortsTell, AtPort, new_links}
 use Rattle.mio_edge.specs.declared.port.Port.{Port}
 use Rattle.mio_edge.specs.declared.session.Session.{Session}
@@ -64,6 +64,10 @@ pub record Tells {S : Type 0} (tells : S → Wire → Type 0) (sessions : Slab (
 
 abbrev pub TableTells : {S : Type 0} → (S → Wire → Type 0) → Table S → World → Type 0
 TableTells tells table world = Tells tells table.sessions table.entries.items table.closed.items table.spare.items world
+
+-- a place without an open session stays so, and what was told is told still
+abbrev pub KeepsClosed : {S : Type 0} → (S → Wire → Type 0) → ℕ → Table S → Table S → Type 0
+KeepsClosed tells place a b = IsClosedAt a.sessions place → IsClosedAt b.sessions place × Stays (TableTells tells a) (TableTells tells b)
 
 -- session k is prepared at this place: nothing went over it, and it is neither open nor closed
 pub record IsPrepared {S : Type 0} (tells : S → Wire → Type 0) (table : Table S) (place k : ℕ) : Type 0 where

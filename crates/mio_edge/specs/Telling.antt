@@ -1,6 +1,7 @@
 -- What the hub over sockets tells: the open sessions of its sockets, as the two sides of each.
 use Rattle.std.specs.Prelude.{◌≡◌, ℕ, true, false, Option, None, Some, nat_lt}
 use Rattle.gate_base.specs.Bytes.{AreBytes}
+use Rattle.gate_hub.specs.Hubs.{Leads}
 use Rattle.gate_hub.specs.Meaning.{Link, Told, Meaning, link_of}
 use Rattle.gate_hub.specs.declared.hub.Side.{Side}
 use Rattle.gate_hub.specs.declared.hub.Side.TheVariants as side
@@ -41,3 +42,7 @@ pub record HubTells {W S : Type 0} (IsTelling : Type 0) (tells : S → Wire → 
   pub sessions : Matches hub.sockets.announced world m
   pub fresh : m.started ≡ None → hub.sockets.announced ≡ 0
   pub stopped : m.last_event ≡ Some event.Stopped → HasStopped hub.sockets
+
+-- what the hub told leads so to what it tells
+abbrev pub HubLeads : {W S : Type 0} → Type 0 → (S → Wire → Type 0) → (Meaning → Type 0) → (Meaning → Meaning → Type 0) → MioHub W S → MioHub W S → Type 0
+HubLeads IsTelling tells Can Step a b = Leads (HubTells IsTelling tells a) (HubTells IsTelling tells b) Can Step

@@ -1,8 +1,8 @@
 -- What the sockets tell: the sessions that are open, and what went over the ports of each.
-use Rattle.std.specs.Prelude.{◌≡◌, ℕ, ◌<◌, ◌≤◌, true, Option, None, Some, IsSome}
+use Rattle.std.specs.Prelude.{◌≡◌, ℕ, ◌+◌, ◌<◌, ◌≤◌, true, Option, None, Some, IsSome}
 use Rattle.gate_hub.specs.declared.hub.HubNext.{HubNext}
 use Rattle.gate_hub.specs.declared.hub.HubNext.TheVariants as event
-use Rattle.mio_edge.specs.Wire.{Wire}
+use Rattle.mio_edge.specs.Wire.{Wire, Moves}
 use Rattle.mio_edge.specs.Tables.{World, TableTells, Opens}
 use Rattle.mio_edge.specs.declared.listening.Connecting.TheVariants as connecting
 use Rattle.mio_edge.specs.declared.listening.Listening.{Listening}
@@ -38,3 +38,8 @@ pub record HasStopped {W S : Type 0} (sockets : Sockets W S) : Type 0 where
   pub stopped : sockets.has_stopped ≡ true
   pub some : 0 < sockets.accept
   pub all : sockets.accept ≤ sockets.announced
+
+-- a session of the next number is open, once it is announced
+abbrev pub OpensNext : {W S : Type 0} → Type 0 → (S → Wire → Type 0) → Sockets W S → Sockets W S → Type 0
+OpensNext IsTelling tells a b =
+    Moves (SocketsTell IsTelling tells a) (SocketsTell IsTelling tells (record b { announced = b.announced + 1 })) (Opens a.announced)

@@ -7,7 +7,7 @@ ghost use Rattle.gate_hub.specs.declared.hub.Began.TheVariants as began;
 ghost use Rattle.gate_hub.specs.declared.hub.HubNext.TheVariants as event;
 ghost use Rattle.mio_edge.specs.Counting.{side_counts, counts_in};
 ghost use Rattle.mio_edge.specs.Numbers.{Numbers};
-ghost use Rattle.mio_edge.specs.Telling.{HubTells, port_number};
+ghost use Rattle.mio_edge.specs.Telling.{HubTells, HubLeads, port_number};
 
 use crate::Sockets;
 use crate::mio_network::MioNetwork;
@@ -133,7 +133,7 @@ impl<W: Network> Hub for MioHub<W> {
         accept: u64,
         sessions: usize,
     ) -> Began
-        ensures leads { Leads (HubTells W.is_telling W.Stream.tells self.old) (HubTells W.is_telling W.Stream.tells self.new) NotStarted (StartLeads (started_with listen.now upstream.now accept sessions) result) }
+        ensures leads { HubLeads W.is_telling W.Stream.tells NotStarted (StartLeads (started_with listen.now upstream.now accept sessions) result) self.old self.new }
         ensures later { Later (counts_in self.old) (counts_in self.new) }
         ensures cause { result ≡ began.Failed → Rose self.old.sockets.faults self.new.sockets.faults }
         ensures accept { result ≡ began.Done → self.new.sockets.accept ≡ accept }

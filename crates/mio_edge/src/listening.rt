@@ -1,7 +1,7 @@
 //! The sessions of a server that listens, and its wait for what comes of them.
 ghost use Rattle.std.specs.Prelude.{◌≡◌, ◌≢◌, [], ℕ, true, false};
 ghost use Rattle.mio_edge.specs.Wire.{Stays, new_wire};
-ghost use Rattle.mio_edge.specs.Tables.{TableTells, IsPrepared, IsClosedAt, Announces};
+ghost use Rattle.mio_edge.specs.Tables.{TableTells, IsPrepared, IsClosedAt, KeepsClosed, Announces};
 
 use crate::Stream;
 use crate::network::{Accepted, Network, Waited};
@@ -139,7 +139,7 @@ impl<S: Stream> Listening<S> {
     // first write to each. It says whether the client has one.
     fn link<W: Network<Stream = S>>(&mut self, network: &mut W, place: usize, client: S) -> bool
         ensures prepared { (k : ℕ) → W.is_telling → S.tells client new_wire → IsPrepared S.tells self.old.table place k → IsPrepared S.tells self.new.table place k }
-        ensures keeps { IsClosedAt self.old.table.sessions place → IsClosedAt self.new.table.sessions place × Stays (TableTells S.tells self.old.table) (TableTells S.tells self.new.table) }
+        ensures keeps { KeepsClosed S.tells place self.old.table self.new.table }
         ensures connecting { self.new.connecting ≡ self.old.connecting }
     {
         if self.connecting == Connecting::OnDemand {
@@ -164,7 +164,7 @@ impl<S: Stream> Listening<S> {
     ) -> bool
         requires { sending ≢ Sending.Lost }
         ensures prepared { (k : ℕ) → S.tells stream new_wire → IsPrepared S.tells self.old.table place k → IsPrepared S.tells self.new.table place k }
-        ensures keeps { IsClosedAt self.old.table.sessions place → IsClosedAt self.new.table.sessions place × Stays (TableTells S.tells self.old.table) (TableTells S.tells self.new.table) }
+        ensures keeps { KeepsClosed S.tells place self.old.table self.new.table }
         ensures connecting { self.new.connecting ≡ self.old.connecting }
     {
         let token = self.table.token(place, port);
@@ -174,7 +174,7 @@ impl<S: Stream> Listening<S> {
     // Begins a connection to each target. A port whose connection can't be begun stays without one.
     fn connect_all<W: Network<Stream = S>>(&mut self, network: &mut W, place: usize)
         ensures prepared { (k : ℕ) → W.is_telling → IsPrepared S.tells self.old.table place k → IsPrepared S.tells self.new.table place k }
-        ensures keeps { IsClosedAt self.old.table.sessions place → IsClosedAt self.new.table.sessions place × Stays (TableTells S.tells self.old.table) (TableTells S.tells self.new.table) }
+        ensures keeps { KeepsClosed S.tells place self.old.table self.new.table }
         ensures connecting { self.new.connecting ≡ self.old.connecting }
     {
         for at in 0..self.targets.len() {
@@ -190,7 +190,7 @@ impl<S: Stream> Listening<S> {
         port: usize,
     ) -> bool
         ensures prepared { (k : ℕ) → W.is_telling → IsPrepared S.tells self.old.table place k → IsPrepared S.tells self.new.table place k }
-        ensures keeps { IsClosedAt self.old.table.sessions place → IsClosedAt self.new.table.sessions place × Stays (TableTells S.tells self.old.table) (TableTells S.tells self.new.table) }
+        ensures keeps { KeepsClosed S.tells place self.old.table self.new.table }
         ensures connecting { self.new.connecting ≡ self.old.connecting }
     {
         let Some(target) = self.targets.get(port.wrapping_sub(1)) else {

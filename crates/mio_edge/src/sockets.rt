@@ -8,7 +8,7 @@ ghost use Rattle.gate_hub.specs.Hubs.{LinkReads, LinkWrites};
 ghost use Rattle.mio_edge.specs.Numbers.{Numbers, NumbersIfAny};
 ghost use Rattle.mio_edge.specs.Wire.{Moves, Stays};
 ghost use Rattle.mio_edge.specs.Tables.{World, AtSession, Shuts, Opens, MovesAt, empty_world};
-ghost use Rattle.mio_edge.specs.Worlds.{SocketsTell, EventMoves, EventMovesIfAny, HasStopped};
+ghost use Rattle.mio_edge.specs.Worlds.{SocketsTell, OpensNext, EventMoves, EventMovesIfAny, HasStopped};
 
 use crate::listening::{Connecting, Listening};
 use crate::mio_network::MioNetwork;
@@ -317,7 +317,7 @@ impl<W: Network> Sockets<W> {
 
     // Accepts the next connection, if there is one, as the session of the next number.
     fn accept_next(&mut self) -> bool
-        ensures opens { result ≡ true → Moves (SocketsTell W.is_telling W.Stream.tells self.old) (SocketsTell W.is_telling W.Stream.tells (record self.new { announced = self.new.announced + 1 })) (Opens self.old.announced) }
+        ensures opens { result ≡ true → OpensNext W.is_telling W.Stream.tells self.old self.new }
         ensures keeps { result ≡ false → Stays (SocketsTell W.is_telling W.Stream.tells self.old) (SocketsTell W.is_telling W.Stream.tells self.new) }
         ensures announced { self.new.announced ≡ self.old.announced }
         ensures accept { self.new.accept ≡ self.old.accept }

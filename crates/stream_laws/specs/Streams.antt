@@ -12,6 +12,7 @@ use Rattle.verdict_laws.specs.Bars.{HoldsAll}
 use Rattle.verdict_laws.specs.Rounds.{plain_in}
 use Rattle.verdict_laws.specs.Spellings.{SpellsBy, IsShort}
 use Rattle.gate_run.specs.Terms.{Terms}
+use Rattle.gate_run.specs.declared.task.Doing.TheVariants.{Convert}
 
 -- the frame spells this message of depth at most 256, of which its body is one level, and the other protocol holds all of it
 pub record Carries (k : Terms) (from to : Proto) (frame : List ℕ) (m : Message) : Type 0 where
@@ -47,3 +48,7 @@ pub record IsCutBack (k : Terms) (from : Proto) (frames : List (List ℕ)) (out 
   pub plains : List (List ℕ)
   pub carried : AreCarried k from protocols.Json frames plains
   pub cut : (limit : ℕ) → All (λ line. length line ≤ limit) plains → CutsAll Lines limit out plains
+
+-- messages of this protocol are converted to JSON, and written on lines
+abbrev pub WritesLines : Terms → Proto → Type 0
+WritesLines k p = (k.doing ≡ Convert p protocols.Json) × (k.output ≡ Lines)

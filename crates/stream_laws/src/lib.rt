@@ -11,7 +11,6 @@ ghost use Rattle.type_tables.specs.Declarations.{Declarations};
 ghost use Rattle.translate_core.specs.declared.route.Route.{Route};
 ghost use Rattle.verdict_laws.specs.Rounds.{plain_in};
 ghost use Rattle.line_transport.specs.Cuts.{IsMessage};
-ghost use Rattle.line_transport.specs.declared.transport.Transport.TheVariants.{Lines};
 ghost use Rattle.gate_words.specs.declared.peers.Sides.{Sides};
 ghost use Rattle.gate_run.specs.Handling.{outputs};
 ghost use Rattle.gate_run.specs.Outcome.{Streams, Streamed};
@@ -22,7 +21,7 @@ ghost use Rattle.gate_run.specs.declared.task.Doing.TheVariants.{Convert};
 ghost use Rattle.stream_laws.specs.Covering.{Converts, Shows, Conforms, TellsInput, GivesConverted, GivesListed, GivesConformed};
 ghost use Rattle.stream_laws.specs.Posts.{IsOverPosts, IsServedByPosts};
 ghost use Rattle.stream_laws.specs.Sessions.{IsCommanded, IsOverFrames, IsUnframed, IsServed, IsServedOver};
-ghost use Rattle.stream_laws.specs.Streams.{GiveAll, AreFrames, IsCutBack};
+ghost use Rattle.stream_laws.specs.Streams.{GiveAll, AreFrames, IsCutBack, WritesLines};
 
 use conform_laws::a_frame_is_checked_by_its_grammar;
 use framed_transport::{a_stream_is_split, frame_stands_at_the_front};
@@ -43,7 +42,7 @@ pub fn frames_are_converted_by_their_grammar()
 /// the plain spellings of the messages that the frames carry, in order, where the limit is as long as each.
 pub fn written_lines_are_cut_back()
     ensures unbroken { (d : Declarations) (route : Route) (m : Message) → IsMessage (length (plain_in Json d route m)) (plain_in Json d route m) }
-    ensures cut { (k : Terms) (p : Proto) (n : ℕ) (frames : List (List ℕ)) → AreFrames p frames → k.doing ≡ Convert p Json → k.output ≡ Lines → IsCutBack k p frames (outputs k n frames) }
+    ensures cut { (k : Terms) (p : Proto) (n : ℕ) (frames : List (List ℕ)) → AreFrames p frames → WritesLines k p → IsCutBack k p frames (outputs k n frames) }
 {}
 
 /// What is written and reported of a stream that is converted between two protocols, or from one to itself: of each frame, or line, in order, the frame or line of

@@ -5,4 +5,4 @@ pub returns-clause-bad_byte : goal.returns-clause-bad_byte
 returns-clause-bad_byte c = bad_byte_so
 
 pub returns-clause-big_number : goal.returns-clause-big_number
-returns-clause-big_number c = big_number_so
+returns-clause-big_number c text other bytes at x = big_number_so text other bytes x.rest x.tokens at x.number x.cut x.stands x.big

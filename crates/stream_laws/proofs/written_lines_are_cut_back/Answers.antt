@@ -8,4 +8,4 @@ pub returns-clause-unbroken : goal.returns-clause-unbroken
 returns-clause-unbroken c = λ d route m. (record { within = omega arith; unbroken = plain_unbroken d route m }, plain_counts d route m)
 
 pub returns-clause-cut : goal.returns-clause-cut
-returns-clause-cut c = λ k p n frames are doing lines. lines_cut_back k p frames _ lines (all_given k p protocols.Json n frames are doing)
+returns-clause-cut c = λ k p n frames are (doing, lines). lines_cut_back k p frames _ lines (all_given k p protocols.Json n frames are doing)
