@@ -18,7 +18,7 @@ use stream_laws::a_session_carries_messages;
 /// What a server carries whose hub is the one over sockets, over a network whose streams tell: in each session, the messages of the law
 /// `a_session_carries_messages` of the crate stream_laws.
 pub fn a_session_over_sockets_carries_messages<W: Network>()
-    ensures { (x : ServerRun (MioHub W W.Stream)) → IsCommanded x → IsRunOf ⟦<MioHub<W> as Hub>⟧ x → IsOverFrames x.serving → IsServed (HubTells W.is_telling W.Stream.tells) x }
+    ensures { (x : ServerRun _) → IsCommanded x → IsRunOf ⟦<MioHub<W> as Hub>⟧ x → IsOverFrames x.serving → IsServed (HubTells W.is_telling W.Stream.tells) x }
 {
     a_session_carries_messages::<MioHub<W>>();
 }

@@ -103,10 +103,10 @@ impl<'s> Work<'s> {
         ensures start { IfOk result (λ work. IsStart work) }
     {
         Ok(Work {
-            handler: Handler::open(alloc, task)?,
             inbox: MessageBuf::open(alloc, task.input(), task.limit())?,
             page: Page::open(alloc, framed_room(task.limit()))?,
             lines: Out::open(alloc, LINES_ROOM)?,
+            handler: Handler::open(alloc, task)?,
             taken: 0,
             number: 0,
             refused: false,

@@ -24,6 +24,16 @@ is_counted line = not (is_blank line)
 abbrev pub IsMessage : ℕ → List ℕ → Type 0
 IsMessage limit line = IsLine limit line × (is_blank line ≡ false)
 
+abbrev pub Messages : Type 0
+Messages = List (List ℕ)
+
+abbrev pub AreMessages : ℕ → Messages → Type 0
+AreMessages limit lines = All (IsMessage limit) lines
+
+-- each on a line of its own
+abbrev pub on_lines : Messages → List ℕ
+on_lines lines = flat_map (sent Lines) lines
+
 -- each frame is a message, and each line that isn't blank
 abbrev pub messages_of : Transport → List (List ℕ) → List (List ℕ)
 messages_of Frames pieces = pieces

@@ -1,9 +1,8 @@
 //! Laws of streams of messages. Each is the contract of a function that does nothing.
-ghost use Rattle.std.specs.Prelude.{◌≡◌, ◌<◌, ◌≤◌, ◌^◌, ◌+◌, ◌++◌, ◌↔◌, [], ◌∷◌, false, ℕ, List, length};
-ghost use Rattle.std.specs.List.{All, flat_map};
+ghost use Rattle.std.specs.Prelude.{◌≡◌, ◌<◌, ◌≤◌, ◌^◌, ◌+◌, ◌++◌, ◌↔◌, [], ◌∷◌, ℕ, List, length};
 ghost use Rattle.framed_transport.specs.Frames.{Splits};
 ghost use Rattle.gate_base.specs.Bytes.{AreBytes};
-ghost use Rattle.line_transport.specs.Cuts.{sent, IsPiece, IsMessage, IsCut, Cuts, CutsAll, Cutting};
+ghost use Rattle.line_transport.specs.Cuts.{Messages, AreMessages, on_lines, IsCut, Cuts, CutsAll, Cutting};
 ghost use Rattle.line_transport.specs.Front.{front, Whole, Exceeds};
 ghost use Rattle.line_transport.specs.declared.transport.Excess.{Excess};
 ghost use Rattle.line_transport.specs.declared.transport.Transport.{Transport};
@@ -37,7 +36,7 @@ pub fn frames_are_cut()
 /// Lines that are written are cut into the same messages again, where none of them is blank: as they were written, and where the last LF is
 /// missing.
 pub fn lines_are_cut_back()
-    ensures whole { (limit : ℕ) (messages : List (List ℕ)) → All (IsMessage limit) messages → CutsAll Lines limit (flat_map (sent Lines) messages) messages }
-    ensures last { (limit : ℕ) (messages : List (List ℕ)) (last : List ℕ) → All (IsMessage limit) messages → IsMessage limit last
-        → CutsAll Lines limit (flat_map (sent Lines) messages ++ last) (messages ++ last ∷ []) }
+    ensures whole { (limit : ℕ) (lines : Messages) → AreMessages limit lines → CutsAll Lines limit (on_lines lines) lines }
+    ensures last { (limit : ℕ) (lines : Messages) (last : List ℕ) → AreMessages limit (last ∷ lines)
+        → CutsAll Lines limit (on_lines lines ++ last) (lines ++ last ∷ []) }
 {}

@@ -1,3 +1,5 @@
+use Rattle.std.proofs.lemmas.List.Elements.{All-head, All-tail}
+use Rattle.line_transport.specs.Cuts.{IsMessage}
 use Rattle.line_transport.proofs.Spanning.{cut_back, last_cut_back}
 use Rattle.line_transport.proofs.laws.lines_are_cut_back.Goals as goal
 
@@ -5,4 +7,4 @@ pub returns-clause-whole : goal.returns-clause-whole
 returns-clause-whole c = cut_back
 
 pub returns-clause-last : goal.returns-clause-last
-returns-clause-last c = last_cut_back
+returns-clause-last c = λ limit lines last all. last_cut_back limit lines last (All-tail (IsMessage limit) last lines all) (All-head (IsMessage limit) last lines all)
