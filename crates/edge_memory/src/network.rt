@@ -1,5 +1,5 @@
 //! A network in memory.
-ghost use Rattle.std.specs.Prelude.{⊤, IfOk, IfSome};
+ghost use Rattle.std.specs.Prelude.{◌≡◌, ⊤, [], false, IfOk, IfSome};
 ghost use Rattle.mio_edge.specs.Wire.{Stays, IfCame, new_wire};
 ghost use Rattle.edge_memory.specs.Streams.{TellsStream};
 
@@ -38,7 +38,10 @@ impl MemNetwork {
         clients: Vec<Vec<u8>>,
         targets: Vec<Vec<u8>>,
         room: usize,
-    ) -> MemNetwork {
+    ) -> MemNetwork
+        ensures peers { (result.clients ≡ clients) × (result.targets ≡ targets) × (result.room ≡ room) }
+        ensures quiet { (result.tokens.items ≡ []) × (result.is_listening ≡ false) }
+    {
         MemNetwork {
             alloc,
             clients,
