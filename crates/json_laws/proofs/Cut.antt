@@ -76,7 +76,7 @@ run_most p (x ∷ xs) = by_first (p x) (run_most p xs)
     by_first true h = omega (arith, h)
     by_first false h = omega arith
 
-gap_within : (n : ℕ) (bytes : List ℕ) → n ≤ length bytes → n + gap (drop n bytes) ≤ length bytes
+pub gap_within : (n : ℕ) (bytes : List ℕ) → n ≤ length bytes → n + gap (drop n bytes) ≤ length bytes
 gap_within n bytes most = omega (arith, most, run_most is_white (drop n bytes), length-drop n bytes)
 
 further_cuts : {X : Type 0} → (n : ℕ) (scan : List ℕ → Scan X) (bytes : List ℕ) → n ≤ length bytes → ((r : List ℕ) → Cuts (length r) (scan r)) → Cuts (length bytes) (further n scan bytes)
@@ -85,7 +85,7 @@ further_cuts n scan bytes most h =
     let within = gap_within n bytes most in
     shifted_cuts (length bytes) at (length (drop at bytes)) (scan (drop at bytes)) (omega (arith, within, length-drop at bytes)) (h (drop at bytes))
 
-mark_cuts : (m : ℕ) (bytes : List ℕ) → Cuts (length bytes) (mark_at m bytes)
+pub mark_cuts : (m : ℕ) (bytes : List ℕ) → Cuts (length bytes) (mark_at m bytes)
 unfolding mark_at
 mark_cuts m bytes =
     by_test (length bytes) (nat_lt (length bytes) 1) _ _ (λ t u. grind (arith, nat_tests))
@@ -118,7 +118,7 @@ wide_cuts bytes =
     (λ t. by_test n (begins_three bytes 105 54 52) _ _ (λ t. word_cuts bytes 5 kinds.I64)
     (λ t. by_test n (begins_three bytes 100 98 108) _ _ (λ t. word_cuts bytes 5 kinds.Double) (λ t. large_cuts bytes))))
 
-kind_cuts : (bytes : List ℕ) → Cuts (length bytes) (kind_at bytes)
+pub kind_cuts : (bytes : List ℕ) → Cuts (length bytes) (kind_at bytes)
 unfolding kind_at
 kind_cuts bytes =
     let n = length bytes in
@@ -153,7 +153,7 @@ quoted_int_cuts : (reason : Reason) (low high : ℤ) → IsOther reason → (byt
 unfolding quoted_int_in
 quoted_int_cuts reason low high other bytes = quoted_cuts reason bytes (int_at low high (drop 1 bytes)) other
 
-whole_cuts : (key : Bool) (reason : Reason) (low high : ℤ) → IsOther reason → IsRange low high → (bytes : List ℕ) → Cuts (length bytes) (whole_in key reason low high bytes)
+pub whole_cuts : (key : Bool) (reason : Reason) (low high : ℤ) → IsOther reason → IsRange low high → (bytes : List ℕ) → Cuts (length bytes) (whole_in key reason low high bytes)
 whole_cuts true reason low high other range bytes = quoted_int_cuts reason low high other bytes
 whole_cuts false reason low high other range bytes = int_cuts reason low high other range bytes
 
@@ -169,7 +169,7 @@ spelled_cuts : (from : ℕ) (bytes : List ℕ) (scan : Scan ℕ) → Cuts (lengt
 spelled_cuts from bytes (Ok x) h = h
 spelled_cuts from bytes (Err f) h = h
 
-double_cuts : (key : Bool) (bytes : List ℕ) → Cuts (length bytes) (double_in key bytes)
+pub double_cuts : (key : Bool) (bytes : List ℕ) → Cuts (length bytes) (double_in key bytes)
 unfolding double_in
 double_cuts key bytes =
     let n = length bytes in
@@ -178,13 +178,13 @@ double_cuts key bytes =
     (λ t. by_test n (byte_fits bytes 0 34 && byte_fits bytes 1 45 && infinity_fits bytes 2) _ _ (λ t. spelled_cuts 1 bytes _ (word_cuts bytes 11 9))
     (λ t. by_test n key _ _ (λ t. spelled_cuts 1 bytes _ (quoted_number_cuts bytes)) (λ t. spelled_cuts 0 bytes _ (number_cuts bytes)))))
 
-text_cuts : (bytes : List ℕ) → Cuts (length bytes) (text_in bytes)
+pub text_cuts : (bytes : List ℕ) → Cuts (length bytes) (text_in bytes)
 unfolding text_in
 text_cuts bytes =
     item_cuts reasons.BadString bytes (text_at bytes) (λ e. absurd (cc))
     (λ m n e. let g = ((text_judged bytes).0 m n).0 e in omega (arith, g.3, ap length g.2, length-append g.0 g.1))
 
-blob_cuts : (bytes : List ℕ) → Cuts (length bytes) (blob_in bytes)
+pub blob_cuts : (bytes : List ℕ) → Cuts (length bytes) (blob_in bytes)
 unfolding blob_in
 blob_cuts bytes =
     item_cuts reasons.BadBase64 bytes (blob_at bytes) (λ e. absurd (cc))

@@ -25,7 +25,7 @@ use Rattle.json_laws.proofs.Words.{IsIn, whole_word, quoted_word, text_word, tex
 -- ---- numbers that are no integers
 
 -- the first bytes of a number: a digit, or a minus and a digit
-abbrev Begins : List ℕ → Type 0
+abbrev pub Begins : List ℕ → Type 0
 Begins digits = ((x : ℕ) × (xs : List ℕ) × (digits ≡ x ∷ xs) × IsDigit x) ⊎ ((y : ℕ) × (ys : List ℕ) × (digits ≡ 45 ∷ y ∷ ys) × IsDigit y)
 
 whole_first : (whole : List ℕ) → IsWhole whole → (x : ℕ) × (xs : List ℕ) × (whole ≡ x ∷ xs) × IsDigit x
@@ -33,7 +33,7 @@ whole_first whole (inl e) = (48, [], e, (omega arith, omega arith))
 whole_first [] (inr h) = absurd h
 whole_first (x ∷ xs) (inr h) = (x, xs, refl, (omega (arith, h.0), h.1))
 
-number_first : (digits : List ℕ) → IsNumber digits → Begins digits
+pub number_first : (digits : List ℕ) → IsNumber digits → Begins digits
 number_first digits (minus, whole, fraction, exponent, is, inl none, w, f, e) =
     let x = whole_first whole w in
     inl (x.0, x.1 ++ (fraction ++ exponent), is ∙ ap (λ m. m ++ (whole ++ (fraction ++ exponent))) none ∙ ap (λ v. v ++ (fraction ++ exponent)) x.2, x.3)
@@ -42,12 +42,12 @@ number_first digits (minus, whole, fraction, exponent, is, inr one, w, f, e) =
     inr (x.0, x.1 ++ (fraction ++ exponent), is ∙ ap (λ m. m ++ (whole ++ (fraction ++ exponent))) one ∙ ap (λ v. 45 ∷ (v ++ (fraction ++ exponent))) x.2, x.3)
 
 -- none of the three words begins so
-record IsPlain (bytes : List ℕ) : Type 0 where
+pub record IsPlain (bytes : List ℕ) : Type 0 where
   not_nan : begins_three bytes 78 97 78 ≡ false
   not_above : (byte_fits bytes 0 34 && infinity_fits bytes 1) ≡ false
   not_below : (byte_fits bytes 0 34 && byte_fits bytes 1 45 && infinity_fits bytes 2) ≡ false
 
-by_plain : (key : Bool) (bytes : List ℕ) → IsPlain bytes → double_in key bytes ≡ cond key (spelled 1 bytes (quoted_number_in bytes)) (spelled 0 bytes (number_in bytes))
+pub by_plain : (key : Bool) (bytes : List ℕ) → IsPlain bytes → double_in key bytes ≡ cond key (spelled 1 bytes (quoted_number_in bytes)) (spelled 0 bytes (number_in bytes))
 unfolding double_in
 by_plain key bytes p = rw (p.not_nan, p.not_above, p.not_below) refl
 
@@ -66,7 +66,7 @@ quoted_minus y ys d =
     let low = d.0 in let high = d.1 in
     record { not_nan = grind (arith, nat_tests); not_above = grind (arith, nat_tests); not_below = grind (arith, nat_tests) }
 
-number_plain : (digits rest : List ℕ) → Begins digits → IsPlain (digits ++ rest)
+pub number_plain : (digits rest : List ℕ) → Begins digits → IsPlain (digits ++ rest)
 number_plain digits rest (inl (x, xs, is, d)) = subst (λ l. IsPlain (l ++ rest)) (sym is) (unquoted_plain x (xs ++ rest) (let low = d.0 in grind (arith, nat_tests)))
 number_plain digits rest (inr (y, ys, is, d)) = subst (λ l. IsPlain (l ++ rest)) (sym is) (unquoted_plain 45 (y ∷ (ys ++ rest)) refl)
 
@@ -75,9 +75,9 @@ quoted_plain digits rest (inl (x, xs, is, d)) = subst (λ l. IsPlain (34 ∷ (l 
 quoted_plain digits rest (inr (y, ys, is, d)) = subst (λ l. IsPlain (34 ∷ (l ++ rest))) (sym is) (quoted_minus y (ys ++ rest) d)
 
 -- a number
-number_double : (key : Bool) (digits rest : List ℕ) → IsNumber digits → Apart is_number_byte rest → double_in key (number key digits ++ rest) ≡ Ok (digits, length (number key digits))
+pub number_double : (key : Bool) (digits rest : List ℕ) → IsNumber digits → (key ≡ false → Apart is_number_byte rest) → double_in key (number key digits ++ rest) ≡ Ok (digits, length (number key digits))
 number_double false digits rest is apart =
-    by_plain false (digits ++ rest) (number_plain digits rest (number_first digits is)) ∙ ap (spelled 0 (digits ++ rest)) (number_read digits rest is apart) ∙ ap (λ l. Ok (l, length digits)) (take_front digits rest)
+    by_plain false (digits ++ rest) (number_plain digits rest (number_first digits is)) ∙ ap (spelled 0 (digits ++ rest)) (number_read digits rest is (apart refl)) ∙ ap (λ l. Ok (l, length digits)) (take_front digits rest)
 number_double true digits rest is apart =
     let bytes = 34 ∷ (digits ++ 34 ∷ rest) in
     ap (double_in true) (quoted_append digits rest) ∙ by_plain true bytes (quoted_plain digits (34 ∷ rest) (number_first digits is)) ∙ ap (spelled 1 bytes) (quoted_number_read digits rest is)
@@ -120,16 +120,16 @@ below_double key rest =
     let is : (byte_fits bytes 0 34 && byte_fits bytes 1 45 && infinity_fits bytes 2) ≡ true = grind (arith, nat_tests) in
     rw (not, nor, is, word_there bytes 11 9 (omega arith)) refl
 
-word_double : (key : Bool) (word rest : List ℕ) → IsSpecial word → double_in key (quoted word ++ rest) ≡ Ok (word, length (quoted word))
+pub word_double : (key : Bool) (word rest : List ℕ) → IsSpecial word → double_in key (quoted word ++ rest) ≡ Ok (word, length (quoted word))
 word_double key word rest (inl e) = subst (λ w. double_in key (quoted w ++ rest) ≡ Ok (w, length (quoted w))) (sym e) (nan_double key rest)
 word_double key word rest (inr (inl e)) = subst (λ w. double_in key (quoted w ++ rest) ≡ Ok (w, length (quoted w))) (sym e) (above_double key rest)
 word_double key word rest (inr (inr e)) = subst (λ w. double_in key (quoted w ++ rest) ≡ Ok (w, length (quoted w))) (sym e) (below_double key rest)
 
-one_same : (a b : List ℕ) → a ∷ [] ≡ b ∷ [] → a ≡ b
+pub one_same : (a b : List ℕ) → a ∷ [] ≡ b ∷ [] → a ≡ b
 one_same a b e = cc
 
 double_read : (key : Bool) (digits token rest : List ℕ) → IsDoubleToken key digits (token ∷ []) → Apart is_number_byte rest → double_in key (token ++ rest) ≡ Ok (digits, length token)
-double_read key digits token rest (inl (is, e)) apart = subst (λ t. double_in key (t ++ rest) ≡ Ok (digits, length t)) (sym (one_same token (number key digits) e)) (number_double key digits rest is apart)
+double_read key digits token rest (inl (is, e)) apart = subst (λ t. double_in key (t ++ rest) ≡ Ok (digits, length t)) (sym (one_same token (number key digits) e)) (number_double key digits rest is (λ _. apart))
 double_read key digits token rest (inr (is, e)) apart = subst (λ t. double_in key (t ++ rest) ≡ Ok (digits, length t)) (sym (one_same token (quoted digits) e)) (word_double key digits rest is)
 
 pub double_solid : (key : Bool) (digits token : List ℕ) → IsDoubleToken key digits (token ∷ []) → IsSolid token

@@ -235,7 +235,7 @@ text_stable bytes more = item_stays true reasons.BadString bytes more (text_at b
     of_scan Short e = tt
     of_scan (Bad q) e = text_refuses bytes more q e
 
-blob_stable : IsStable true blob_in
+pub blob_stable : IsStable true blob_in
 unfolding blob_in
 blob_stable bytes more = item_stays true reasons.BadBase64 bytes more (blob_at bytes) (blob_at (bytes ++ more)) (of_scan (blob_at bytes) refl)
   where

@@ -43,3 +43,9 @@ pub mod Trailing
 pub mod Standing
 pub mod Told
 pub mod Depth
+pub mod PartScans
+pub mod PartFaults
+pub mod Extents
+pub mod PlanRuns
+pub mod PlanReads
+pub mod FirstFaults

@@ -46,7 +46,7 @@ counting_digits : (xs : List ℕ) → IsCounting xs → AreDigits xs
 counting_digits [] h = absurd h
 counting_digits (x ∷ xs) h = ((omega (arith, h.0), h.1), h.2)
 
-int_passes : (z : ℤ) (digits : List ℕ) → SpellsInt z digits → All is_int_byte digits
+pub int_passes : (z : ℤ) (digits : List ℕ) → SpellsInt z digits → All is_int_byte digits
 int_passes z digits (inl e) = subst (All is_int_byte) (sym e.0) (refl, tt)
 int_passes z digits (inr (inl e)) = (digits_pass digits (counting_digits digits e.0)).0
 int_passes z digits (inr (inr (xs, is, counting, value))) = subst (All is_int_byte) (sym is) (refl, (digits_pass xs (counting_digits xs counting)).0)
@@ -88,7 +88,7 @@ int_scan low high z digits rest i apart =
     ∙ ap (λ v. run_scan low digits (digits ++ rest) (within low high v)) (int_found z digits i.spells i.fits)
     ∙ ap (run_scan low digits (digits ++ rest)) (within_found low high z digits i)
 
-none_more : {X : Type 0} → (reason : Reason) (bytes : List ℕ) (scan : Text X) (x : X) (n : ℕ) → scan ≡ Whole x n → item reason bytes (moved 0 scan) ≡ Ok (x, n)
+pub none_more : {X : Type 0} → (reason : Reason) (bytes : List ℕ) (scan : Text X) (x : X) (n : ℕ) → scan ≡ Whole x n → item reason bytes (moved 0 scan) ≡ Ok (x, n)
 none_more reason bytes scan x n e = ap (λ s. item reason bytes (moved 0 s)) e ∙ ap (λ k. Ok (x, k)) (omega arith)
 
 pub int_read : (reason : Reason) (low high z : ℤ) (digits rest : List ℕ) → IsIn low high z digits → Apart is_int_byte rest → int_in reason low high (digits ++ rest) ≡ Ok (z, length digits)
@@ -153,7 +153,7 @@ exponent_passes bytes (inl e) = subst (All is_number_byte) (sym e) tt
 exponent_passes bytes (inr (x, sign, digits, is, which, s, are, some)) =
     subst (All is_number_byte) (sym is) (mark_passes x which, all_append is_number_byte sign digits (sign_passes sign s) (digits_pass digits are).1)
 
-number_passes : (bytes : List ℕ) → IsNumber bytes → All is_number_byte bytes
+pub number_passes : (bytes : List ℕ) → IsNumber bytes → All is_number_byte bytes
 number_passes bytes (minus, whole, fraction, exponent, is, m, w, f, e) =
     subst (All is_number_byte) (sym is) (all_append is_number_byte minus (whole ++ (fraction ++ exponent)) (minus_passes minus m)
     (all_append is_number_byte whole (fraction ++ exponent) (whole_passes whole w) (all_append is_number_byte fraction exponent (fraction_passes fraction f) (exponent_passes exponent e))))

@@ -32,7 +32,7 @@ use Rattle.json_laws.proofs.Inverse.{is_read, same_read, no_fault, either, past_
 abbrev is_whole : {X : Type 0} → X → ℕ → Text X
 is_whole x n = Whole x n
 
-item_back : {X : Type 0} → (reason : Reason) (bytes : List ℕ) (scan : Text X) (x : X) (n : ℕ) → item reason bytes (moved 0 scan) ≡ is_read (x, n) → scan ≡ Whole x n
+pub item_back : {X : Type 0} → (reason : Reason) (bytes : List ℕ) (scan : Text X) (x : X) (n : ℕ) → item reason bytes (moved 0 scan) ≡ is_read (x, n) → scan ≡ Whole x n
 item_back {X} reason bytes (Whole y m) x n e = let same = same_read y x (0 + m) n e in let long : m ≡ n = omega (arith, same.1) in ap (λ z. is_whole z m) same.0 ∙ ap (is_whole x) long
 item_back reason bytes Short x n e = absurd (no_fault _ (x, n) e)
 item_back reason bytes (Bad place) x n e = absurd (no_fault _ (x, n) e)
@@ -176,7 +176,7 @@ quoted_number_back (y ∷ all) x n e =
 abbrev pub IsDouble : Bool → List ℕ → List ℕ → Type 0
 IsDouble key digits token = IsDoubleToken key digits (token ∷ [])
 
-spelled_back : (from : ℕ) (bytes : List ℕ) (scan : Scan ℕ) (digits : List ℕ) (n : ℕ) → spelled from bytes scan ≡ is_read (digits, n) → (x : ℕ) × (scan ≡ is_read (x, n)) × (take x (drop from bytes) ≡ digits)
+pub spelled_back : (from : ℕ) (bytes : List ℕ) (scan : Scan ℕ) (digits : List ℕ) (n : ℕ) → spelled from bytes scan ≡ is_read (digits, n) → (x : ℕ) × (scan ≡ is_read (x, n)) × (take x (drop from bytes) ≡ digits)
 spelled_back from bytes (Ok x) digits n e = let same = same_read (take x.0 (drop from bytes)) digits x.1 n e in (x.0, ap (λ k. is_read (x.0, k)) same.1, same.0)
 spelled_back from bytes (Err f) digits n e = absurd (no_fault f (digits, n) e)
 

@@ -38,7 +38,7 @@ use Rattle.json_laws.proofs.Completing.{Goes, Struck, no_read, same_fault, bad_h
 -- ---- words of json_text
 
 -- a scan is short, or bad at a place
-item_fault : {X : Type 0} → (reason : Reason) (bytes : List ℕ) (scan : Text X) (f : Fault) → item reason bytes (moved 0 scan) ≡ is_fault f
+pub item_fault : {X : Type 0} → (reason : Reason) (bytes : List ℕ) (scan : Text X) (f : Fault) → item reason bytes (moved 0 scan) ≡ is_fault f
     → ((scan ≡ Short) × (fault {X = X} (length bytes) reasons.Truncated ≡ is_fault f)) ⊎ ((place : ℕ) × (scan ≡ Bad place) × (fault {X = X} (0 + place) reason ≡ is_fault f))
 item_fault reason bytes (Whole x n) f e = absurd (no_read _ f e)
 item_fault reason bytes Short f e = inl (refl, e)

@@ -6,3 +6,5 @@ pub mod Refused
 pub mod Stated
 pub mod Written
 pub mod Faults
+pub mod Plans
+pub mod Firsts

@@ -5,14 +5,16 @@
 
 ghost use Rattle.std.specs.Prelude.{◌≡◌, ◌≢◌, ◌<◌, ◌≤◌, ◌^◌, ◌⊎◌, ◌++◌, length, List, ℕ};
 ghost use Rattle.thrift_value.specs.Items.{Item};
-ghost use Rattle.thrift_value.specs.Trees.{Message, depth_of_members};
+ghost use Rattle.thrift_value.specs.Trees.{Message, depth_of_members, items_of_members};
 ghost use Rattle.protocol_traits.specs.Heads.{Header};
 ghost use Rattle.protocol_traits.specs.declared.fault.Fault.{Fault};
 ghost use Rattle.protocol_traits.specs.declared.fault.Reason.TheVariants as reasons;
 ghost use Rattle.json_text.specs.Grammar.{AreWhite};
+ghost use Rattle.binary_laws.specs.Reads.{header_of_message};
 ghost use Rattle.binary_laws.specs.Written.{IsMessage};
 ghost use Rattle.json_laws.specs.Stated.{Known, JsonSpells, IsRead, IsReadWhole, IsReadAs, IsRefused, IsSpelled, SpellsItems, NoMessage, IsTooDeep, IsBad, StaysBad, Begins, IsViable, IsCutShort, IsFirstBad, FirstTells};
 ghost use Rattle.json_laws.specs.Faults.{FaultStands};
+ghost use Rattle.json_laws.specs.Firsts.{FirstFault, IsWhole, FramePasses};
 ghost use Rattle.json_laws.specs.Written.{IsWritten};
 
 /// What the grammar spells is read: the header of the message, the items of its body and the end, for every message of depth
@@ -107,4 +109,28 @@ pub fn the_first_byte_tells()
 /// that sort, but for a number, whose range hangs on what is announced; nor the bracket, brace, comma or colon.
 pub fn the_fault_that_stands_there()
     ensures { (k : Known) (bytes : List ℕ) (f : Fault) → length bytes < 2 ^ 31 → IsRefused k bytes f → FaultStands k bytes f }
+{}
+
+/// What is called for in a frame, part by part, is what the grammar spells: a frame of less than 2^31 bytes in which each part that is called
+/// for stands, up to the end, spells the message of that header and those items, and each spelling of a message of depth at most 256 is such
+/// a frame.
+pub fn what_is_called_for_is_the_grammar()
+    ensures spells { (k : Known) (bytes : List ℕ) (h : Header) (xs : List Item) → length bytes < 2 ^ 31 → FramePasses k bytes h xs → IsSpelled k bytes h xs }
+    ensures passes { (k : Known) (m : Message) (bytes : List ℕ) → JsonSpells k m bytes → depth_of_members m.body < 256
+        → FramePasses k bytes (header_of_message m) (items_of_members m.body) }
+{}
+
+/// No other part of a bad frame is at fault. The fault that refuses a frame is the first part that is called for and doesn't stand, with its
+/// place and its reason: each part before it stands, by what those before it announce, and with the bytes of the part, as far as the frame has
+/// them, none begins there, whatever follows; or the frame ends inside it; or a value is called for that lies too deep; or something follows the
+/// message. There is one such part at most, and a frame is refused with the fault that stands there and no other. Each frame of less than 2^31
+/// bytes spells a message of depth at most 256 or has one such fault, never both, and that fault stands there by what messages begin with the
+/// frame.
+pub fn no_other_part_is_at_fault()
+    ensures told { (k : Known) (bytes : List ℕ) (f : Fault) → IsRefused k bytes f → FirstFault k bytes f }
+    ensures refuses { (k : Known) (bytes : List ℕ) (f : Fault) → FirstFault k bytes f → IsRefused k bytes f }
+    ensures one { (k : Known) (bytes : List ℕ) (f g : Fault) → FirstFault k bytes f → FirstFault k bytes g → f ≡ g }
+    ensures judged { (k : Known) (bytes : List ℕ) → length bytes < 2 ^ 31 → IsWhole k bytes ⊎ ((f : Fault) × FirstFault k bytes f) }
+    ensures apart { (k : Known) (bytes : List ℕ) (f : Fault) → FirstFault k bytes f → IsWhole k bytes → ⊥ }
+    ensures stands { (k : Known) (bytes : List ℕ) (f : Fault) → length bytes < 2 ^ 31 → FirstFault k bytes f → FaultStands k bytes f }
 {}

@@ -39,6 +39,7 @@ use Rattle.json_laws.specs.Stated.{Known, JsonSpells}
 use Rattle.json_laws.proofs.Either.{read_or_refused}
 use Rattle.json_laws.proofs.Fronting.{header_again, name_stands, value_stands}
 use Rattle.json_laws.proofs.Standing.{fault_stands}
+use Rattle.json_laws.proofs.FirstFaults.{refused_first}
 use Rattle.json_laws.proofs.Sound.{same_step, read_spelled}
 use Rattle.json_laws.proofs.Spelled.{spelled_read}
 use Rattle.verdict_laws.specs.Bars.{the_name, behind_items, name_bar_in, bar_in, OfName, OfItem, JsonPlace}
@@ -151,7 +152,7 @@ message_read d route frame header items small read =
 
 -- the fault of one that is refused
 fault_of : (d : Declarations) (route : Route) (frame : List ℕ) (f : Fault) (k : Known) → length frame < 2 ^ 31 → IsKnownOf d route frame k → IsRefused (start k.declared k.body) frame f → JsonFault d route frame f
-fault_of d route frame f k small known refused = (k, known, fault_stands k frame f small refused, refused)
+fault_of d route frame f k small known refused = (k, known, fault_stands k frame f small refused, refused_first k frame f refused)
 
 pub fault_behind : (d : Declarations) (route : Route) (frame : List ℕ) (f : Fault) (header : Header) (items : List Item) (first last : State) → length frame < 2 ^ 31 → reads_head (begun frame) ≡ Ok (header, first)
     → Reads (start d (body_of d route header)) first items last → Refuses (refusing.behind (start d (body_of d route header)) items) last f → JsonFault d route frame f

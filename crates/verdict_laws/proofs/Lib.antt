@@ -10,6 +10,7 @@ pub mod Binary
 pub mod Compact
 pub mod Json
 pub mod Faulted
+pub mod OneFault
 pub mod Strings
 pub mod Held
 pub mod Round

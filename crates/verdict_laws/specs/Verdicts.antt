@@ -21,8 +21,9 @@ use Rattle.binary_laws.specs.Reads.{header_of_message}
 use Rattle.binary_laws.specs.Faults as binary_faults
 use Rattle.compact_laws.specs.Faults as compact_faults
 use Rattle.json_laws.specs.Fronts.{SpellsHeader as JsonHead}
-use Rattle.json_laws.specs.Stated.{Known, IsRefused}
+use Rattle.json_laws.specs.Stated.{Known}
 use Rattle.json_laws.specs.Faults.{FaultStands}
+use Rattle.json_laws.specs.Firsts.{FirstFault}
 use Rattle.verdict_laws.specs.Bars.{Spot, HoldsAll, IsFirstBar, BinaryPlace, CompactPlace, JsonPlace}
 use Rattle.verdict_laws.specs.Spellings.{plain_of, known_by, SpellsBy}
 
@@ -69,10 +70,10 @@ IsCompactVerdict d route to frame =
 abbrev pub IsKnownOf : Declarations → Route → List ℕ → Known → Type 0
 IsKnownOf d route frame k = (header : Header) (front rest : List ℕ) → frame ≡ front ++ rest → JsonHead header front → k ≡ known_by d route header
 
--- the fault of a frame of JSON, where this is known of its body: it stands there by the grammar, and is the one with which the reader refuses
--- the frame
+-- the fault of a frame of JSON, where this is known of its body: it stands there by the messages that begin with the frame, and in the first
+-- part that is called for and doesn't stand
 abbrev pub JsonFault : Declarations → Route → List ℕ → Fault → Type 0
-JsonFault d route frame f = (k : Known) × IsKnownOf d route frame k × FaultStands k frame f × IsRefused k frame f
+JsonFault d route frame f = (k : Known) × IsKnownOf d route frame k × FaultStands k frame f × FirstFault k frame f
 
 -- the verdict on a frame of JSON, for any protocol
 abbrev pub IsJsonVerdict : Declarations → Route → Proto → List ℕ → Type 0
