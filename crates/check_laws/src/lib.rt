@@ -2,10 +2,12 @@
 //! of a function that does nothing. No code rests on them.
 #![tactic(auto)]
 
-ghost use Rattle.std.specs.Prelude.{◌≡◌, ℕ, List, Option, Some};
+ghost use Rattle.std.specs.Prelude.{◌≡◌, ℕ, List, Option, Some, Err};
 ghost use Rattle.idl_names.specs.Files.{FileTree};
+ghost use Rattle.idl_files.specs.declared.fault.LoadError.TheVariants.{NoTables};
 ghost use Rattle.idl_files.specs.Answers.{WhereTold};
 ghost use Rattle.idl_files.specs.Walk.{walked};
+ghost use Rattle.idl_resolve.specs.Loads.{Loads};
 ghost use Rattle.idl_laws.specs.LookUps.{AreDotless};
 ghost use Rattle.gate_idl.specs.Opening.{IsOpened, Opened};
 ghost use Rattle.gate_run.specs.Running.{Obeys, Outside};
@@ -35,4 +37,10 @@ pub fn an_opened_idl_is_its_texts()
 pub fn a_check_says_what_the_texts_are()
     ensures { (file : List ℕ) (x y : Outside) (ending : Ending) → Obeys (Check file) x y ending
         → WhereTold x.holds (λ holds. SaysWhatIs holds x.streams y.streams ending) }
+{}
+
+/// So files that keep all rules have a schema, unless memory is wanting: loading never comes to declarations that tables can't
+/// have.
+pub fn lawful_texts_have_a_schema()
+    ensures { (holds : List ℕ → Option (List ℕ)) (root : List ℕ) → Loads holds root (Err NoTables) → ⊥ }
 {}

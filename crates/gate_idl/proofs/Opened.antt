@@ -35,11 +35,13 @@ pub opens_stopped : (holds : List ℕ → Option (List ℕ)) (root : List ℕ) (
 opens_stopped holds root (errors.Idl fault) h = refuses holds root fault h
 opens_stopped holds root errors.FileFault h = tt
 opens_stopped holds root errors.OutOfMemory h = tt
+opens_stopped holds root errors.NoTables h = tt
 
 pub cause_of : (error : LoadError) (before now : ℕ) → load_cause {X = Loaded} (Err error) before now → HasCause {X = Declarations} (Err (stop_by error)) before now
 cause_of (errors.Idl fault) before now h = h
 cause_of errors.FileFault before now h = h
 cause_of errors.OutOfMemory before now h = h
+cause_of errors.NoTables before now h = h
 
 -- values are checked without a look at the files
 pub cause_behind : (files : List FileTree) (schema : Declarations) (r : Result Declarations Stop) (before now : ℕ) → now ≡ before → Checks files schema r → HasCause r before now

@@ -22,11 +22,12 @@ Opened = Result Declarations Refusal
 abbrev pub refused : IdlFault → Refusal
 refused f = record { file = f.file; offset = f.offset; row = rows.Declared f.row }
 
--- why files that are not loaded stop a command
+-- why files that are not loaded stop a command; what tables can't have never comes, so it has no word of its own
 abbrev pub stop_by : LoadError → Stop
 stop_by (errors.Idl fault) = Refused (refused fault)
 stop_by errors.FileFault = FileFault
 stop_by errors.OutOfMemory = OutOfMemory
+stop_by errors.NoTables = OutOfMemory
 
 abbrev pub misfit : ConstFault → Refusal
 misfit f = record { file = f.file; offset = f.offset; row = rows.Value f.row }

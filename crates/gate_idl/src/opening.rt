@@ -50,6 +50,7 @@ fn stop_by(error: LoadError) -> Stop
         }),
         LoadError::FileFault => Stop::FileFault,
         LoadError::OutOfMemory => Stop::OutOfMemory,
+        LoadError::NoTables => Stop::OutOfMemory,
     }
 }
 

@@ -1,7 +1,6 @@
 -- Lemmas.
 pub mod Complete
 pub mod Draining
-pub mod Ending
 pub mod Faults
 pub mod Finishing
 pub mod Outcome

@@ -20,6 +20,7 @@ pub refuses : {X Y : Type 0} (view : X → Y) (error : LoadError) (meant : IdlFa
 refuses view (errors.Idl fault) meant given r e = e ∙ ap (λ (f : IdlFault). Err f) (sym r)
 refuses view errors.FileFault meant given r e = absurd r
 refuses view errors.OutOfMemory meant given r e = tt
+refuses view errors.NoTables meant given r e = absurd r
 
 module _ (holds : List ℕ → Option (List ℕ)) where
   -- a file is loaded without a case on the levels
@@ -50,6 +51,7 @@ module _ (holds : List ℕ → Option (List ℕ)) where
   read_err view other levels files file at name (errors.Idl fault) f d = read levels files file at name f ∙ ap (open_by (loaded holds (levels - 1)) files name) d
   read_err view other levels files file at name errors.FileFault f d = tt
   read_err view other levels files file at name errors.OutOfMemory f d = tt
+  read_err view other levels files file at name errors.NoTables f d = absurd d
 
 -- the loop over a file's includes
 module _ (load : Load) (file : List ℕ) (ms : List Mention) (k : ℕ) (m : Mention) (within : k < length ms) (is : m ≡ get_or ms k m) where
@@ -75,6 +77,7 @@ module _ (load : Load) (file : List ℕ) (ms : List Mention) (k : ℕ) (m : Ment
       ∙ ap (λ r. go_on r λ files place. included load file (drop (k + 1) ms) files (places ++ place ∷ [])) e
   included_err view other files places errors.FileFault whole e i = tt
   included_err view other files places errors.OutOfMemory whole e i = tt
+  included_err view other files places errors.NoTables whole e i = absurd e
 
 pub trees_length : (files : List FileDoc) → length (file_trees files) ≡ length files
 trees_length [] = refl

@@ -13,6 +13,7 @@ Gives view (Ok x) given = given ≡ Ok (view x)
 Gives view (Err (errors.Idl fault)) given = given ≡ Err fault
 Gives view (Err errors.FileFault) given = ⊤
 Gives view (Err errors.OutOfMemory) given = ⊤
+Gives view (Err errors.NoTables) given = ⊥
 
 -- what files hold under each name
 abbrev pub Contents : Type 0
@@ -42,6 +43,7 @@ abbrev pub Refuses : LoadError → IdlFault → Type 0
 Refuses (errors.Idl fault) meant = fault ≡ meant
 Refuses errors.FileFault meant = ⊥
 Refuses errors.OutOfMemory meant = ⊤
+Refuses errors.NoTables meant = ⊥
 
 -- the count of faults rose where a fetch failed, and stands as it was where none did
 abbrev pub HasCause : {X : Type 0} → Result X LoadError → ℕ → ℕ → Type 0
@@ -49,12 +51,14 @@ HasCause (Ok x) before now = now ≡ before
 HasCause (Err (errors.Idl fault)) before now = now ≡ before
 HasCause (Err errors.FileFault) before now = Rose before now
 HasCause (Err errors.OutOfMemory) before now = now ≡ before
+HasCause (Err errors.NoTables) before now = now ≡ before
 
 abbrev pub IsNoFileFault : {X : Type 0} → Result X LoadError → Type 0
 IsNoFileFault (Ok x) = ⊤
 IsNoFileFault (Err (errors.Idl fault)) = ⊤
 IsNoFileFault (Err errors.FileFault) = ⊥
 IsNoFileFault (Err errors.OutOfMemory) = ⊤
+IsNoFileFault (Err errors.NoTables) = ⊤
 
 abbrev pub AllBelow : ℕ → List ℕ → Type 0
 AllBelow bound [] = ⊤

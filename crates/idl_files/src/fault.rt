@@ -20,6 +20,9 @@ pub enum LoadError {
     FileFault,
     #[error("no memory")]
     OutOfMemory,
+    /// Tables can't have what the files declare. Reading files never answers this.
+    #[error("no tables")]
+    NoTables,
 }
 
 impl Debug for LoadError {
@@ -32,6 +35,7 @@ impl Debug for LoadError {
                 .finish(),
             LoadError::FileFault => f.write_str("FileFault"),
             LoadError::OutOfMemory => f.write_str("OutOfMemory"),
+            LoadError::NoTables => f.write_str("NoTables"),
         }
     }
 }

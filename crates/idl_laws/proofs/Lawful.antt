@@ -17,25 +17,9 @@ use Rattle.idl_names.specs.Files.{FileTree}
 use Rattle.idl_names.specs.Meaning.{meaning, spot_at}
 use Rattle.idl_names.specs.Refusals.{base_refusals, functions_refusals, cycle_refusals, definition_refusals, definitions_refusals, file_refusals as named_refusals, name_refusals, type_refusals, word_refusals}
 use Rattle.idl_names.specs.Targets.{definition_at}
-use Rattle.idl_resolve.specs.Refused.{file_refusals, first_by, first_from, first_refusal}
+use Rattle.idl_resolve.specs.Refused.{file_refusals, first_from, first_refusal}
+use Rattle.idl_resolve.proofs.Kept.{none_first, none_least}
 use Rattle.idl_laws.proofs.Runs.{none_of_both}
-
-some_lesser : (a : Refusal) (o : Option Refusal) → lesser (Some a) o ≡ None → ⊥
-unfolding lesser
-some_lesser a None e = cc
-some_lesser a (Some b) e = by (is_before b a) e
-  where
-    by : (t : Bool) → cond {A = Option Refusal} t (Some b) (Some a) ≡ None → ⊥
-    by true h = cc
-    by false h = cc
-
-none_least : (xs : List Refusal) → least_of xs ≡ None → xs ≡ []
-none_least [] e = refl
-none_least (x ∷ xs) e = absurd (some_lesser x (least_of xs) e)
-
-none_first : (name : List ℕ) (o : Option Refusal) (next : Option IdlFault) → first_by name o next ≡ None → (o ≡ None) × (next ≡ None)
-none_first name None next e = (refl, e)
-none_first name (Some r) next e = absurd (cc)
 
 pub none_when : (t : Bool) (at : ℕ) (row : IdlRow) → when t at row ≡ [] → t ≡ false
 none_when true at row e = absurd (cc)

@@ -1,4 +1,7 @@
 -- Lemmas on what declarations mean.
+pub mod Apart
+pub mod Closed
+pub mod Everywhere
 pub mod Firsts
 pub mod Found
 pub mod Lawful
@@ -12,5 +15,6 @@ pub mod PartsMeant
 pub mod Placed
 pub mod Runs
 pub mod Sized
+pub mod Standable
 pub mod Standing
 pub mod Tables

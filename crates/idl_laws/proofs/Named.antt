@@ -40,17 +40,17 @@ split word (e ∷ xs) ys id h = split_by word e xs ys id (split word xs ys id) (
 -- ---- in one file
 
 module _ (files : List FileTree) (file : ℕ) (word p : List ℕ) (prefix : prefix_of files file ≡ Some p) (id : ServiceId) where
-  record FoundIn (n : First) (ds : List DefinitionTree) : Type 0 where
-    place : ℕ
-    name : Name
-    base : Option Name
-    functions : List FunctionTree
-    m : First
-    stands : slice_get ds place ≡ Some (service_of name base functions)
-    numbers : slice_get (numbers_in n ds) place ≡ Some m
-    is : id ≡ number m.services
-    spelled : word ≡ p ++ name.text
-    first : position (declares scopes.Services name.text) ds ≡ Some place
+  pub record FoundIn (n : First) (ds : List DefinitionTree) : Type 0 where
+    pub place : ℕ
+    pub name : Name
+    pub base : Option Name
+    pub functions : List FunctionTree
+    pub m : First
+    pub stands : slice_get ds place ≡ Some (service_of name base functions)
+    pub numbers : slice_get (numbers_in n ds) place ≡ Some m
+    pub is : id ≡ number m.services
+    pub spelled : word ≡ p ++ name.text
+    pub first : position (declares scopes.Services name.text) ds ≡ Some place
 
   shifted : (n : First) (d : DefinitionTree) (ds : List DefinitionTree) (f : FoundIn (after n d) ds) → declares scopes.Services f.name.text d ≡ false → FoundIn n (d ∷ ds)
   shifted n d ds f other = record {
@@ -101,7 +101,7 @@ module _ (files : List FileTree) (file : ℕ) (word p : List ℕ) (prefix : pref
       apart : (f : FoundIn (after n (service_of name base functions)) ds) → pointwise nat_eq f.name.text name.text ≡ false
       apart f = differs f (pointwise nat_eq f.name.text name.text) refl
 
-  in_file : (n : First) (ds : List DefinitionTree) → value_of word (shares files file n ds).names ≡ Some id → FoundIn n ds
+  pub in_file : (n : First) (ds : List DefinitionTree) → value_of word (shares files file n ds).names ≡ Some id → FoundIn n ds
   in_file n [] h = absurd (cc)
   in_file n (const_of name ty value ∷ ds) h = shifted n (const_of name ty value) ds (in_file (after n (const_of name ty value)) ds h) refl
   in_file n (typedef_of name ty ∷ ds) h = shifted n (typedef_of name ty) ds (in_file (after n (typedef_of name ty)) ds h) refl
@@ -126,17 +126,17 @@ module _ (files : List FileTree) (file : ℕ) (none : prefix_of files file ≡ N
 -- ---- in all files
 
 module _ (files : List FileTree) (word : List ℕ) (id : ServiceId) where
-  record FoundAt (file : ℕ) (n : First) (fs : List FileTree) : Type 0 where
-    index : ℕ
-    at : ℕ
-    tree : FileTree
-    p : List ℕ
-    m : First
-    is_at : at ≡ file + index
-    stands : slice_get fs index ≡ Some tree
-    prefix : prefix_of files at ≡ Some p
-    numbers : slice_get (files_numbers n fs) index ≡ Some (numbers_in m tree.document.definitions)
-    found : FoundIn files at word p prefix id m tree.document.definitions
+  pub record FoundAt (file : ℕ) (n : First) (fs : List FileTree) : Type 0 where
+    pub index : ℕ
+    pub at : ℕ
+    pub tree : FileTree
+    pub p : List ℕ
+    pub m : First
+    pub is_at : at ≡ file + index
+    pub stands : slice_get fs index ≡ Some tree
+    pub prefix : prefix_of files at ≡ Some p
+    pub numbers : slice_get (files_numbers n fs) index ≡ Some (numbers_in m tree.document.definitions)
+    pub found : FoundIn files at word p prefix id m tree.document.definitions
 
   first_file : (file : ℕ) (n : First) (f : FileTree) (fs : List FileTree) (o : Option (List ℕ)) → prefix_of files file ≡ o → value_of word (shares files file n f.document.definitions).names ≡ Some id → FoundAt file n (f ∷ fs)
   first_file file n f fs None e h =
@@ -155,7 +155,7 @@ module _ (files : List FileTree) (word : List ℕ) (id : ServiceId) where
     found = in_file files file word p e id n f.document.definitions h;
   }
 
-  in_files : (file : ℕ) (n : First) (fs : List FileTree) → value_of word (files_shares files file n fs).names ≡ Some id → FoundAt file n fs
+  pub in_files : (file : ℕ) (n : First) (fs : List FileTree) → value_of word (files_shares files file n fs).names ≡ Some id → FoundAt file n fs
   in_files file n [] h = absurd (cc)
   in_files file n (f ∷ fs) h = by (in_files (suc file) (after_all n f.document.definitions) fs) (split word (shares files file n f.document.definitions).names (files_shares files (suc file) (after_all n f.document.definitions) fs).names id h)
     where
@@ -172,11 +172,11 @@ module _ (files : List FileTree) (word : List ℕ) (id : ServiceId) where
 
 -- ---- what the name means
 
-last_at : (base name : List ℕ) → last_place 46 name ≡ None → last_place 46 ((base ++ 46 ∷ []) ++ name) ≡ Some (length base)
+pub last_at : (base name : List ℕ) → last_place 46 name ≡ None → last_place 46 ((base ++ 46 ∷ []) ++ name) ≡ Some (length base)
 last_at [] name e = ap (last_by true) e
 last_at (b ∷ base) name e = ap (last_by (b == 46)) (last_at base name e)
 
-front_of : (base name : List ℕ) → take (length base) ((base ++ 46 ∷ []) ++ name) ≡ base
+pub front_of : (base name : List ℕ) → take (length base) ((base ++ 46 ∷ []) ++ name) ≡ base
 front_of [] name = refl
 front_of (b ∷ base) name = ap (λ (w : List ℕ). b ∷ w) (front_of base name)
 

@@ -22,50 +22,12 @@ use Rattle.idl_resolve.specs.Loads.{Resolved}
 use Rattle.idl_resolve.specs.Refused.{first_refusal}
 use Rattle.idl_laws.specs.Declared.{ArePartsMeant}
 use Rattle.idl_laws.specs.Denoted.{IsTypeOf}
+use Rattle.idl_laws.proofs.Everywhere.{Each, each_none, each_more, each_both, files_each}
 use Rattle.idl_laws.proofs.Firsts.{First}
 use Rattle.idl_laws.proofs.Lawful.{none_refused, typedef_ends}
 use Rattle.idl_laws.proofs.Runs.{IsRun, none_of_both, run_at, run_left, run_rest, run_right}
 use Rattle.idl_laws.proofs.Standing.{all_shares, types_stand}
 use Rattle.idl_laws.proofs.Tables.{a_type, all_types, both_length, clear_throws}
-
-module _ {X : Type 0} (P : X → Type 0) where
-  abbrev Each : List X → Type 0
-  Each xs = (i : ℕ) (x : X) → slice_get xs i ≡ Some x → P x
-
-  each_none : Each []
-  each_none i x e = absurd (cc)
-
-  each_more : (x : X) (xs : List X) → P x → Each xs → Each (x ∷ xs)
-  each_more x xs p all zero y e =
-      let same : x ≡ y = cc in
-      subst P same p
-  each_more x xs p all (suc i) y e = all i y e
-
-  each_both : (xs ys : List X) → Each xs → Each ys → Each (xs ++ ys)
-  each_both [] ys all others = others
-  each_both (x ∷ xs) ys all others = each_more x (xs ++ ys) (all 0 x refl) (each_both xs ys (λ i y e. all (suc i) y e) others)
-
-module _ (files : List FileTree) (P : Ty → Type 0) where
-  shares_each : (file : ℕ) (n : First) (ds : List DefinitionTree) →
-      ((j : ℕ) (x : DefinitionTree) (m : First) → slice_get ds j ≡ Some x → slice_get (numbers_in n ds) j ≡ Some m → Each P (share files file m x).types) → Each P (shares files file n ds).types
-  shares_each file n [] all = each_none P
-  shares_each file n (x ∷ ds) all =
-      each_both P (share files file n x).types (shares files file (after n x) ds).types (all 0 x n refl refl)
-      (shares_each file (after n x) ds (λ j y m e f. all (suc j) y m e f))
-
-  files_each : (file : ℕ) (n : First) (fs : List FileTree) →
-      ((k j : ℕ) (x : DefinitionTree) (m : First) → option_and_then (λ tree. slice_get tree.document.definitions j) (slice_get fs k) ≡ Some x →
-      option_and_then (λ ns. slice_get ns j) (slice_get (files_numbers n fs) k) ≡ Some m → Each P (share files (file + k) m x).types) → Each P (files_shares files file n fs).types
-  files_each file n [] all = each_none P
-  files_each file n (f ∷ fs) all =
-      let ds = f.document.definitions in
-      let here : file + 0 ≡ file = omega arith in
-      each_both P (shares files file n ds).types (files_shares files (suc file) (after_all n ds) fs).types
-      (shares_each file n ds (λ j x m e g. subst (λ (p : ℕ). Each P (share files p m x).types) here (all 0 j x m e g)))
-      (files_each (suc file) (after_all n ds) fs (λ k j x m e g. subst (λ (p : ℕ). Each P (share files p m x).types) (next file k) (all (suc k) j x m e g)))
-    where
-      next : (file k : ℕ) → file + suc k ≡ suc file + k
-      next file k = omega arith
 
 module _ (files : List FileTree) (told : List (List Cycle)) (cycles_are : TellsCycles files told) (clean : first_refusal files told ≡ None) (d : Declarations) (whole : d ≡ declarations_of files) where
   abbrev IsMeant : Ty → Type 0
@@ -156,12 +118,13 @@ module _ (files : List FileTree) (told : List (List Cycle)) (cycles_are : TellsC
 
   all_meant : Each IsMeant (all_shares files).types
   unfolding numbers_of
-  all_meant = files_each files IsMeant 0 start files (λ k j x m e f. subst (λ (p : ℕ). Each IsMeant (share files p m x).types) (here k) (definition_meant (spot_at k j) x m e f))
+  all_meant = files_each (λ s. s.types) (λ s t. refl) refl files IsMeant 0 start files (λ k j x m e f. subst (λ (p : ℕ). Each IsMeant (share files p m x).types) (here k) (definition_meant (spot_at k j) x m e f))
     where
       here : (k : ℕ) → k ≡ 0 + k
       here k = omega arith
 
+  pub types_meant : Each IsMeant d.types
+  types_meant place ty e = all_meant place ty (subst (λ (w : List Ty). slice_get w place ≡ Some ty) (all_types files told cycles_are clean d whole) e)
+
 pub parts_are_meant : (files : List FileTree) (schema : Declarations) → Resolved files schema → ArePartsMeant files schema
-parts_are_meant files schema r place ty e =
-    all_meant files r.lawful.0 r.lawful.1.0 r.lawful.1.1 schema r.means place ty
-    (subst (λ (w : List Ty). slice_get w place ≡ Some ty) (all_types files r.lawful.0 r.lawful.1.0 r.lawful.1.1 schema r.means) e)
+parts_are_meant files schema r = types_meant files r.lawful.0 r.lawful.1.0 r.lawful.1.1 schema r.means

@@ -47,7 +47,7 @@ module _ (files : List FileTree) (told : List (List Cycle)) (cycles_are : TellsC
   unfolding declarations_of
   all_types = ap (λ (x : Declarations). x.types) whole
 
-  all_structs : d.structs ≡ failure_struct ∷ (all_shares files).structs
+  pub all_structs : d.structs ≡ failure_struct ∷ (all_shares files).structs
   unfolding declarations_of
   all_structs = ap (λ (x : Declarations). x.structs) whole
 
@@ -55,7 +55,7 @@ module _ (files : List FileTree) (told : List (List Cycle)) (cycles_are : TellsC
   unfolding declarations_of
   all_enums = ap (λ (x : Declarations). x.enums) whole
 
-  all_services : d.services ≡ (all_shares files).services
+  pub all_services : d.services ≡ (all_shares files).services
   unfolding declarations_of
   all_services = ap (λ (x : Declarations). x.services) whole
 
@@ -81,7 +81,7 @@ module _ (files : List FileTree) (told : List (List Cycle)) (cycles_are : TellsC
       let here = none_of_both (type_refusals files file f.ty) (thrown_refusals files told file f.ty) rest.0 in
       ap (λ xs. xs ++ fields_refusals files file fs) here.0 ∙ clear_throws file fs rest.1
 
-  are_results : (file base : ℕ) (returns : Option TypeTree) (throws : List FieldTree) → returned_refusals files file returns ≡ [] → throws_refusals files told file throws ≡ [] →
+  pub are_results : (file base : ℕ) (returns : Option TypeTree) (throws : List FieldTree) → returned_refusals files file returns ≡ [] → throws_refusals files told file throws ≡ [] →
       IsRun d.types base (returns_types (ty_in files file) base returns ++ fields_types (ty_in files file) (base + returns_parts returns) throws) →
       AreResults files d.types file returns throws (success (ty_in files file) base returns ++ fields_from (ty_in files file) 0 (base + returns_parts returns) throws)
   are_results file base None throws named thrown run =
@@ -199,7 +199,7 @@ module _ (files : List FileTree) (told : List (List Cycle)) (cycles_are : TellsC
         methods = are_methods spot.file n.structs n.types functions named.1 types structs;
       }
 
-  definition_declared : (spot : Spot) (x : DefinitionTree) → definition_at files spot ≡ Some x → HasDefinition files d spot x
+  pub definition_declared : (spot : Spot) (x : DefinitionTree) → definition_at files spot ≡ Some x → HasDefinition files d spot x
   definition_declared spot (const_of name ty value) e = tt
   definition_declared spot (typedef_of name ty) e = tt
   definition_declared spot (enum_of name members) e = enum_declared spot name members e

@@ -1,8 +1,11 @@
 //! What the declarations of an IDL mean, and that its tables say so.
-ghost use Rattle.std.specs.Prelude.{List};
+ghost use Rattle.std.specs.Prelude.{List, None};
 ghost use Rattle.idl_names.specs.Files.{FileTree};
 ghost use Rattle.type_tables.specs.Declarations.{Declarations};
+ghost use Rattle.idl_schema.specs.Schema.{declarations_of};
+ghost use Rattle.idl_schema.specs.Stands.{CanStand};
 ghost use Rattle.idl_resolve.specs.Loads.{Resolved};
+ghost use Rattle.idl_resolve.specs.Refused.{IsFirst};
 ghost use Rattle.idl_laws.specs.Declared.{ArePartsMeant, HasAll};
 ghost use Rattle.idl_laws.specs.LookUps.{AnswersIds, AnswersMethods, AnswersOnly, AnswersServices, AreDotless, FindsMethods, FindsServices};
 ghost use Rattle.idl_laws.specs.Sizes.{HasNoMore};
@@ -23,6 +26,12 @@ pub fn tables_have_all_that_is_declared()
 /// They have nothing besides: as many enums, structs and services as the files declare, and the built-in exception.
 pub fn tables_have_nothing_more()
     ensures { (files : List FileTree) (schema : Declarations) → Resolved files schema → HasNoMore files schema }
+{}
+
+/// Where nothing that files declare is refused, tables can have it: each name means something that is declared, and no two
+/// services have one name in the root file. So such files have a schema unless memory is wanting.
+pub fn tables_can_have_lawful_files()
+    ensures { (files : List FileTree) → IsFirst files None → AreDotless files → CanStand (declarations_of files) }
 {}
 
 /// Each part of a type in these tables denotes what a type of the text means.

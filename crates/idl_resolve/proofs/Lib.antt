@@ -1,2 +1,3 @@
 -- Lemmas.
 pub mod Asking
+pub mod Kept

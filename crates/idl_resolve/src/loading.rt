@@ -20,7 +20,8 @@ pub struct Loaded {
 /// Loads an IDL: the root file, what it leads to, and the schema of what these files declare.
 ///
 /// `Idl`: the first refusal, told under the name of its file. Reading goes depth first, and its refusals go before those of
-/// what is declared. `FileFault`: a fetch failed. `OutOfMemory`: memory was not found.
+/// what is declared. `FileFault`: a fetch failed. `OutOfMemory`: memory was not found, or more things of a kind are declared
+/// than 32 bits count. `NoTables`: tables can't have what is declared; texts that keep the rules never come to that.
 pub fn load<F: Files>(alloc: Global, files: &mut F, root: &[u8]) -> Result<Loaded, LoadError>
     ensures exact { (holds : List ℕ → Option (List ℕ)) → F.holds files.old ≡ Some holds → Loads holds root.now result }
     ensures resolved { IfOk result IsResolved }

@@ -10,7 +10,7 @@ use gate_base::{OutOfMemory, Text};
 use idl_files::LoadError;
 use idl_names::{Cycles, Documents, FileDoc, Names, check_names};
 use idl_rules::{IdlFault, IdlRow, Least, check_rules};
-use idl_schema::schema_by;
+use idl_schema::{NoSchema, schema_by};
 use std::alloc::Global;
 use type_tables::Schema;
 
@@ -24,7 +24,11 @@ pub(crate) fn resolve(alloc: Global, documents: &Documents) -> Result<Schema, Lo
     let cycles = Cycles::find(alloc, &names)?;
     match first_refusal(alloc, &names, &cycles)? {
         Some(fault) => Err(LoadError::Idl(fault)),
-        None => Ok(schema_by(alloc, &names)?),
+        None => match schema_by(alloc, &names) {
+            Ok(schema) => Ok(schema),
+            Err(NoSchema::OutOfMemory) => Err(LoadError::OutOfMemory),
+            Err(NoSchema::NoTables) => Err(LoadError::NoTables),
+        },
     }
 }
 

@@ -14,7 +14,7 @@ replaced [] s ms ns = refl
 replaced (t ∷ ts) zero ms ns = refl
 replaced (t ∷ ts) (suc s) ms ns = ap (λ (rest : List ServiceDecl). t ∷ rest) (replaced ts s ms ns)
 
-methods_are : (ts : List ServiceDecl) (s : ℕ) (ms : Methods) → s < length ts → methods_of (services_with ts s ms) s ≡ ms
+pub methods_are : (ts : List ServiceDecl) (s : ℕ) (ms : Methods) → s < length ts → methods_of (services_with ts s ms) s ≡ ms
 methods_are [] s ms h = absurd (omega arith)
 methods_are (t ∷ ts) zero ms h = refl
 methods_are (t ∷ ts) (suc s) ms h = methods_are ts s ms (omega arith)
@@ -50,3 +50,10 @@ pub last_methods : (ts : List ServiceDecl) (t : ServiceDecl) (ms : Methods) → 
     services_with (ts ++ t ∷ []) (length ts) (methods_of (ts ++ t ∷ []) (length ts) ++ ms) ≡ ts ++ record { base = t.base; methods = ms } ∷ []
 last_methods [] t ms e = ap (λ (l : Methods). let r : ServiceDecl = record { base = t.base; methods = l ++ ms } in r ∷ []) e
 last_methods (u ∷ us) t ms e = ap (λ (rest : List ServiceDecl). u ∷ rest) (last_methods us t ms e)
+
+-- it has no methods yet
+pub none_yet : (ts : List ServiceDecl) (t : ServiceDecl) (s : ℕ) → s ≡ length ts → t.methods ≡ [] → methods_of (ts ++ t ∷ []) s ≡ []
+none_yet [] t zero e h = h
+none_yet [] t (suc s) e h = absurd (omega (arith, e))
+none_yet (u ∷ us) t zero e h = absurd (omega (arith, e))
+none_yet (u ∷ us) t (suc s) e h = none_yet us t s (omega (arith, e)) h

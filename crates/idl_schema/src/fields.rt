@@ -1,7 +1,10 @@
 //! The fields of a struct, of the arguments of a method or of what it throws.
-ghost use Rattle.std.specs.Prelude.{◌≡◌, ◌++◌, ◌∷◌, [], ◌<◌, ◌^◌, IfOk, OnOk, SomeIff, FitsSigned, length, pos, codes};
+ghost use Rattle.std.specs.Prelude.{◌≡◌, ◌++◌, ◌∷◌, [], ◌<◌, ◌^◌, IfOk, OnOk, FitsSigned, None, true, length, pos, codes};
 ghost use Rattle.std.specs.Int.{w16};
 ghost use Rattle.idl_document.specs.Trees.{field_tree, field_trees, type_tree};
+ghost use Rattle.idl_rules.specs.Ids.{id_of};
+ghost use Rattle.type_tables.specs.Fields.{place_of};
+ghost use Rattle.idl_schema.specs.Kept.{AreFree};
 ghost use Rattle.idl_schema.specs.Fields.{field_of, need_of, fields_from, success, with_fields_types, with_returns_types};
 ghost use Rattle.idl_schema.specs.Numbers.{option_tree};
 ghost use Rattle.idl_schema.specs.Indexes.{files_of};
@@ -13,7 +16,7 @@ use gate_base::{OutOfMemory, Text};
 use idl_document::{Asked, FieldDecl, TypeExpr};
 use idl_rules::{count_on, field_id};
 use std::alloc::Global;
-use type_tables::{FieldInfo, FieldList, Need, SchemaBuilder, Ty};
+use type_tables::{AddFault, FieldInfo, FieldList, Need, SchemaBuilder, Ty};
 
 /// Adds the parts of the types of these fields, and puts the fields behind those of a list.
 pub(crate) fn add_fields(
@@ -24,6 +27,7 @@ pub(crate) fn add_fields(
     list: FieldList,
     fields: &[FieldDecl],
 ) -> Result<FieldList, OutOfMemory>
+    requires { AreFree list 0 (field_trees fields.now) }
     ensures list { IfOk result (λ l. l ≡ list ++ fields_from (ty_in (files_of index.now) file) 0 (length builder.old.types) (field_trees fields.now)) }
     ensures types { OnOk result (builder.new ≡ with_fields_types (ty_in (files_of index.now) file) builder.old (field_trees fields.now)) }
 {
@@ -46,7 +50,9 @@ fn push_field(
     field: &FieldDecl,
     ty: Ty,
 ) -> Result<(), OutOfMemory>
-    requires { before < 2 ^ 63 }
+    requires before { before < 2 ^ 63 }
+    requires fits { (id_of before (field_tree field.now)).fits ≡ true }
+    requires free { place_of (id_of before (field_tree field.now)).id list.old ≡ None }
     ensures { OnOk result (list.new ≡ list.old ++ field_of before (field_tree field.now) ty ∷ []) }
 {
     let id = field_id(before, field).id;
@@ -54,30 +60,27 @@ fn push_field(
     push(list, id, name, ty, need_of(field.asked))
 }
 
-// A field whose id has no 16 bits, or whose id is there, is none that the rules allow.
 fn push(list: &mut FieldList, id: i64, name: Text, ty: Ty, need: Need) -> Result<(), OutOfMemory>
+    requires short { FitsSigned w16 id }
+    requires free { place_of id list.old ≡ None }
     ensures { OnOk result (list.new ≡ list.old ++ record { id = id; name = name; ty = ty; need = need } ∷ []) }
 {
     if !list.has_room() {
         return Err(OutOfMemory);
     }
-    let Some(id) = short_id(id) else {
-        return Err(OutOfMemory);
-    };
+    let id = short_id(id);
     match list.push(FieldInfo { id, name, ty, need }) {
         Ok(()) => Ok(()),
-        Err(_) => Err(OutOfMemory),
+        Err(AddFault::OutOfMemory) => Err(OutOfMemory),
+        Err(AddFault::Duplicate(_)) => unreachable!(),
     }
 }
 
-// An id that has 16 bits.
-fn short_id(id: i64) -> Option<i16>
-    ensures { SomeIff result (FitsSigned w16 id) id }
+fn short_id(id: i64) -> i16
+    requires { FitsSigned w16 id }
+    ensures { result ≡ id }
 {
-    match i16::try_from(id) {
-        Ok(short) => Some(short),
-        Err(_) => None,
-    }
+    id as i16
 }
 
 /// The field of a result, where there is one. The parts of its type are added.

@@ -5,6 +5,7 @@
 //! what a typedef leads to is entered once, however often it is named.
 #![tactic(auto)]
 
+mod fault;
 mod fields;
 mod index;
 mod laws;
@@ -14,5 +15,6 @@ mod numbers;
 mod parts;
 mod types;
 
+pub use fault::NoSchema;
 pub use laws::typedefs_are_followed;
-pub use making::{schema_by, schema_of};
+pub use making::schema_by;

@@ -1,17 +1,20 @@
 //! The schema of the files of an IDL.
-ghost use Rattle.std.specs.Prelude.{◌≡◌, ◌<◌, ◌^◌, IfOk, OnOk, SomeIff, FitsSigned, length, map};
-ghost use Rattle.std.specs.Int.{w32};
+ghost use Rattle.std.specs.Prelude.{◌≡◌, [], IfOk, IsOk, OnOk, IsOkUnless, false, map};
 ghost use Rattle.idl_document.specs.Trees.{definition_tree, definition_trees, function_trees};
-ghost use Rattle.idl_rules.specs.Values.{member_values};
+ghost use Rattle.idl_rules.specs.Rules.{all_inner, inner_refusals, methods_refusals};
+ghost use Rattle.idl_rules.specs.Values.{is_outside, member_values, value_refusals};
 ghost use Rattle.idl_names.specs.Files.{file_trees};
-ghost use Rattle.idl_names.specs.Meaning.{HasFewDefinitions};
 ghost use Rattle.type_tables.specs.Declarations.{with_enum, with_files};
+ghost use Rattle.type_tables.specs.Known.{IsClosed};
 ghost use Rattle.idl_schema.specs.Adding.{firsts};
 ghost use Rattle.idl_schema.specs.Fields.{form_of};
+ghost use Rattle.idl_schema.specs.Kept.{AreNew, KeepRules};
 ghost use Rattle.idl_schema.specs.Schema.{declarations_of};
-ghost use Rattle.idl_schema.specs.Shares.{share, shares, files_shares, with_share, prefix_of, root_name, with_service};
+ghost use Rattle.idl_schema.specs.Shares.{share, shares, files_shares, with_share, prefix_of, root_name, service_share, with_service};
+ghost use Rattle.idl_schema.specs.Stands.{CanStand, IsUnless};
 ghost use Rattle.idl_schema.specs.Indexes.{files_of};
 
+use crate::fault::NoSchema;
 use crate::fields::add_fields;
 use crate::index::SchemaIndex;
 use crate::methods::{add_methods, add_struct, add_structs};
@@ -19,33 +22,22 @@ use crate::numbers::small;
 use crate::parts::add_parts;
 use gate_base::{OutOfMemory, Text};
 use idl_document::{Definition, Function, Kin, Member, Name};
-use idl_names::{Documents, FileDoc, Names};
+use idl_names::{FileDoc, Names};
 use idl_rules::{member_value, number_after};
 use std::alloc::Global;
-use type_tables::{FieldList, Form, Schema, SchemaBuilder};
+use type_tables::{AddFault, FieldList, Form, Schema, SchemaBuilder};
 
 /// The schema of the files of an IDL. Files count in their order, and their definitions in the order of the text. Struct 0
 /// is the built-in TApplicationException; then each struct, union and exception takes one number of a struct, and each
 /// method two, for its arguments and its result.
 ///
-/// The files are to keep the rules of an IDL: where one is broken there may be no schema.
-///
-/// `OutOfMemory`: the memory for it was not found.
-pub fn schema_of(alloc: Global, documents: &Documents) -> Result<Schema, OutOfMemory>
-    requires few { HasFewDefinitions (file_trees documents.now) }
-    requires few_files { length documents.now < 2 ^ 32 }
-    ensures { IfOk result (λ s. s ≡ declarations_of (file_trees documents.now)) }
-{
-    let names = Names::build(alloc, documents)?;
-    schema_by(alloc, &names)
-}
-
-/// The schema of files whose names are entered already.
-///
-/// `OutOfMemory`: the memory for it was not found.
+/// `OutOfMemory`: the memory for it was not found, or more things of a kind are declared than 32 bits count. `NoTables`: a
+/// name means nothing, or two services have one name in the root file; no files that keep the rules are so.
 #[tactic(auto, unfolding(crate::specs::Schema::declarations_of))]
-pub fn schema_by(alloc: Global, names: &Names<'_>) -> Result<Schema, OutOfMemory>
-    ensures { IfOk result (λ s. s ≡ declarations_of (file_trees names.now.files.now)) }
+pub fn schema_by(alloc: Global, names: &Names<'_>) -> Result<Schema, NoSchema>
+    requires { KeepRules (file_trees names.now.files.now) }
+    ensures exact { IfOk result (λ s. s ≡ declarations_of (file_trees names.now.files.now)) }
+    ensures unless { CanStand (declarations_of (file_trees names.now.files.now)) → IsOkUnless result NoSchema.OutOfMemory }
 {
     let index = SchemaIndex::new(alloc, names)?;
     let mut builder = SchemaBuilder::new(alloc)?;
@@ -53,15 +45,13 @@ pub fn schema_by(alloc: Global, names: &Names<'_>) -> Result<Schema, OutOfMemory
     finished(builder, names.files.len())
 }
 
-// Files that keep the rules of an IDL have names for all that is meant, and no service that extends itself.
-fn finished(builder: SchemaBuilder, files: usize) -> Result<Schema, OutOfMemory>
-    ensures { IfOk result (λ s. s ≡ with_files builder files) }
+// Files that keep the rules of an IDL have names for all that is meant.
+fn finished(builder: SchemaBuilder, files: usize) -> Result<Schema, NoSchema>
+    ensures exact { IfOk result (λ s. s ≡ with_files builder files) }
+    ensures closed { IsClosed builder → IsOk result }
 {
     if !builder.is_closed() {
-        return Err(OutOfMemory);
-    }
-    if !builder.is_acyclic()? {
-        return Err(OutOfMemory);
+        return Err(NoSchema::NoTables);
     }
     Ok(builder.finish(files as u64))
 }
@@ -71,8 +61,10 @@ fn add_files(
     builder: &mut SchemaBuilder,
     index: &SchemaIndex<'_, '_>,
     files: &[FileDoc],
-) -> Result<(), OutOfMemory>
-    ensures { OnOk result (builder.new ≡ with_share builder.old (files_shares (files_of index.now) 0 (firsts builder.old) (file_trees files.now))) }
+) -> Result<(), NoSchema>
+    requires { KeepRules (file_trees files.now) }
+    ensures exact { OnOk result (builder.new ≡ with_share builder.old (files_shares (files_of index.now) 0 (firsts builder.old) (file_trees files.now))) }
+    ensures unless { IsUnless builder.old (files_shares (files_of index.now) 0 (firsts builder.old) (file_trees files.now)) result }
 {
     for (at, file) in files.iter().enumerate() {
         let place = small(at)?;
@@ -96,9 +88,11 @@ fn add_definitions(
     file: u32,
     prefix: &Option<Text>,
     definitions: &[Definition],
-) -> Result<(), OutOfMemory>
-    requires { prefix.now ≡ prefix_of (files_of index.now) file }
-    ensures { OnOk result (builder.new ≡ with_share builder.old (shares (files_of index.now) file (firsts builder.old) (definition_trees definitions.now))) }
+) -> Result<(), NoSchema>
+    requires prefix { prefix.now ≡ prefix_of (files_of index.now) file }
+    requires kept { all_inner (definition_trees definitions.now) ≡ [] }
+    ensures exact { OnOk result (builder.new ≡ with_share builder.old (shares (files_of index.now) file (firsts builder.old) (definition_trees definitions.now))) }
+    ensures unless { IsUnless builder.old (shares (files_of index.now) file (firsts builder.old) (definition_trees definitions.now)) result }
 {
     for definition in definitions {
         add_definition(alloc, builder, index, file, prefix, definition)?;
@@ -113,18 +107,20 @@ fn add_definition(
     file: u32,
     prefix: &Option<Text>,
     definition: &Definition,
-) -> Result<(), OutOfMemory>
-    requires { prefix.now ≡ prefix_of (files_of index.now) file }
-    ensures { OnOk result (builder.new ≡ with_share builder.old (share (files_of index.now) file (firsts builder.old) (definition_tree definition.now))) }
+) -> Result<(), NoSchema>
+    requires prefix { prefix.now ≡ prefix_of (files_of index.now) file }
+    requires kept { inner_refusals (definition_tree definition.now) ≡ [] }
+    ensures exact { OnOk result (builder.new ≡ with_share builder.old (share (files_of index.now) file (firsts builder.old) (definition_tree definition.now))) }
+    ensures unless { IsUnless builder.old (share (files_of index.now) file (firsts builder.old) (definition_tree definition.now)) result }
 {
     match definition {
         Definition::Const(_, _, _) => Ok(()),
-        Definition::Typedef(_, ty) => add_parts(builder, index, file, ty),
-        Definition::Enum(_, members) => add_enum(alloc, builder, members.as_slice()),
+        Definition::Typedef(_, ty) => Ok(add_parts(builder, index, file, ty)?),
+        Definition::Enum(_, members) => Ok(add_enum(alloc, builder, members.as_slice())?),
         Definition::Struct(kin, _, fields) => {
             let none = FieldList::new(alloc);
             let list = add_fields(alloc, builder, index, file, none, fields.as_slice())?;
-            add_struct(builder, form_of(*kin), list)
+            Ok(add_struct(builder, form_of(*kin), list)?)
         }
         Definition::Service(name, base, functions) => {
             let name = root_name(alloc, prefix, name.text.as_slice())?;
@@ -156,6 +152,7 @@ fn add_enum(
     builder: &mut SchemaBuilder,
     members: &[Member],
 ) -> Result<(), OutOfMemory>
+    requires { value_refusals members.now ≡ [] }
     ensures { OnOk result (builder.new ≡ with_enum builder.old (map (λ v. v.1) (member_values members.now))) }
 {
     let values = values(alloc, members)?;
@@ -167,30 +164,24 @@ fn add_enum(
 }
 
 fn values(alloc: Global, members: &[Member]) -> Result<Vec<i32>, OutOfMemory>
+    requires { value_refusals members.now ≡ [] }
     ensures { IfOk result (λ values. values.items ≡ map (λ v. v.1) (member_values members.now)) }
 {
     let mut values = Vec::new(alloc);
     let mut next = 0i64;
     for member in members {
         let value = member_value(next, member);
-        // A number with more than 32 bits is none that the rules allow.
-        let Some(short) = short_value(value) else {
-            return Err(OutOfMemory);
-        };
-        values.push(short)?;
+        values.push(short_value(value))?;
         next = number_after(value);
     }
     Ok(values)
 }
 
-// The number of an enum's member that has 32 bits.
-fn short_value(value: i64) -> Option<i32>
-    ensures { SomeIff result (FitsSigned w32 value) value }
+fn short_value(value: i64) -> i32
+    requires { is_outside value ≡ false }
+    ensures { result ≡ value }
 {
-    match i32::try_from(value) {
-        Ok(short) => Some(short),
-        Err(_) => None,
-    }
+    value as i32
 }
 
 // The name of a service in the root file, where it has one.
@@ -215,16 +206,21 @@ fn add_service(
     name: Option<Text>,
     base: &Option<Name>,
     functions: &[Function],
-) -> Result<(), OutOfMemory>
-    ensures { OnOk result (builder.new ≡ with_service builder.old (files_of index.now) file name base.now (function_trees functions.now)) }
+) -> Result<(), NoSchema>
+    requires new { AreNew [] (function_trees functions.now) }
+    requires kept { methods_refusals (function_trees functions.now) ≡ [] }
+    ensures exact { OnOk result (builder.new ≡ with_service builder.old (files_of index.now) file name base.now (function_trees functions.now)) }
+    ensures unless { IsUnless builder.old (service_share (files_of index.now) file (firsts builder.old) name base.now (function_trees functions.now)) result }
 {
     let first = small(builder.struct_count())?;
     if !builder.has_room() {
-        return Err(OutOfMemory);
+        return Err(NoSchema::OutOfMemory);
     }
-    let Ok(service) = builder.add_service(name, index.base_of(file, base)) else {
-        return Err(OutOfMemory);
+    let service = match builder.add_service(name, index.base_of(file, base)) {
+        Ok(service) => service,
+        Err(AddFault::OutOfMemory) => return Err(NoSchema::OutOfMemory),
+        Err(AddFault::Duplicate(_)) => return Err(NoSchema::NoTables),
     };
     add_structs(alloc, builder, index, file, functions)?;
-    add_methods(alloc, builder, service, first, functions)
+    Ok(add_methods(alloc, builder, service, first, functions)?)
 }

@@ -1,5 +1,4 @@
 pub mod Adding
-pub mod Ending
 pub mod Kept
 pub mod Looked
 pub mod Methods

@@ -1,5 +1,5 @@
--- What a finished schema keeps: each number in it is one of its own, and the bases of services end.
-use Rattle.std.specs.Prelude.{◌≡◌, ◌≢◌, ◌<◌, ℕ, zero, suc, List, [], ◌∷◌, length, take, Option, Some, None, All, codes, pos}
+-- What a finished schema keeps: each number in it is one of its own.
+use Rattle.std.specs.Prelude.{◌≡◌, ◌<◌, ℕ, List, [], ◌∷◌, length, take, Option, Some, None, All, codes, pos}
 use Rattle.type_tables.specs.declared.declared.FieldInfo.{FieldInfo}
 use Rattle.type_tables.specs.declared.declared.Form.TheVariants as forms
 use Rattle.type_tables.specs.declared.declared.MethodInfo.{MethodInfo}
@@ -7,10 +7,8 @@ use Rattle.type_tables.specs.declared.declared.Need.TheVariants as needs
 use Rattle.type_tables.specs.declared.declared.ServiceId.{ServiceId}
 use Rattle.type_tables.specs.declared.declared.Ty.{Ty}
 use Rattle.type_tables.specs.declared.declared.Ty.TheVariants as types
-use Rattle.type_tables.specs.declared.services.ServiceDecl.{ServiceDecl}
 use Rattle.type_tables.specs.declared.tables.StructDecl.{StructDecl}
 use Rattle.type_tables.specs.Declarations.{Declarations}
-use Rattle.type_tables.specs.Services.{base_of}
 
 -- TApplicationException of Apache Thrift: what went wrong, and its kind
 abbrev pub failure_fields : List FieldInfo
@@ -51,16 +49,6 @@ pub record IsClosed (d : Declarations) : Type 0 where
   pub methods : All (λ s. KnowsMethods d s.methods) d.services
   pub bases : All (λ s. IsKnownBase d s.base) d.services
 
--- so many bases up from a service
-abbrev pub up : ℕ → List ServiceDecl → Option ServiceId → Option ServiceId
-up zero services s = s
-up (suc n) services None = None
-up (suc n) services (Some s) = up n services (base_of services s.0)
-
--- no service leads back to itself
-abbrev pub IsAcyclic : List ServiceDecl → Type 0
-IsAcyclic services = (s : ServiceId) (n : ℕ) → up (suc n) services (Some s) ≢ Some s
-
 -- struct 0 is the built-in one, and each name is that of a service
 pub record IsBuilt (d : Declarations) : Type 0 where
   pub failure : take 1 d.structs ≡ failure_struct ∷ []
@@ -69,4 +57,3 @@ pub record IsBuilt (d : Declarations) : Type 0 where
 pub record IsFinished (d : Declarations) : Type 0 where
   pub built : IsBuilt d
   pub closed : IsClosed d
-  pub ending : IsAcyclic d.services

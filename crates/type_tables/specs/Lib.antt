@@ -6,7 +6,6 @@ pub mod Kinds
 pub mod Known
 pub mod Members
 pub mod Names
-pub mod Ranked
 pub mod RootCount
 pub mod Roots
 pub mod Services

@@ -3,7 +3,7 @@ ghost use Rattle.std.specs.Prelude.{◌≡◌, ◌↔◌, IsTrue, ◌<◌, ◌+�
 ghost use Rattle.type_tables.specs.Adding.{Adds};
 ghost use Rattle.type_tables.specs.Declarations.{HasRoom, nothing, with_type, with_enum, with_struct, with_fields, with_field, with_service, with_method, with_files};
 ghost use Rattle.type_tables.specs.Fields.{place_of};
-ghost use Rattle.type_tables.specs.Known.{built_in, IsClosed, IsAcyclic};
+ghost use Rattle.type_tables.specs.Known.{built_in, IsClosed};
 ghost use Rattle.type_tables.specs.Names.{name_place};
 ghost use Rattle.type_tables.specs.Roots.{named_place};
 ghost use Rattle.type_tables.specs.Services.{methods_of};
@@ -155,21 +155,9 @@ impl SchemaBuilder {
         closing::is_closed(&self.tables)
     }
 
-    /// Whether no service leads back to itself.
-    ///
-    /// `OutOfMemory`: the memory for a number of each service was not found.
-    pub fn is_acyclic(&self) -> Result<bool, OutOfMemory>
-        ensures { IfOk result (λ acyclic. IsTrue acyclic → IsAcyclic self.now.services) }
-    {
-        let services = self.tables.services.as_slice();
-        let ranks = closing::ranks(self.alloc, services)?;
-        Ok(closing::is_ranked(services, ranks.as_slice()))
-    }
-
     /// The schema of so many files. Takes no memory.
     pub fn finish(self, files: u64) -> Schema
-        requires closed { IsClosed self }
-        requires ending { IsAcyclic self.services }
+        requires { IsClosed self }
         ensures { result ≡ with_files self files }
     {
         Schema::of(self.tables, files)

@@ -1,16 +1,13 @@
-//! Whether each number in the tables is one of their own, and whether the bases of services end.
-ghost use Rattle.std.specs.Prelude.{◌≡◌, ◌↔◌, ◌<◌, IsTrue, length, slice_get, option_map};
+//! Whether each number in the tables is one of their own.
+ghost use Rattle.std.specs.Prelude.{◌↔◌, ◌<◌, IsTrue, length};
 ghost use Rattle.std.specs.List.{All};
-ghost use Rattle.type_tables.specs.Known.{IsKnown, IsKnownMethod, IsKnownBase, IsClosed, IsAcyclic, KnowsMethods};
-ghost use Rattle.type_tables.specs.Ranked.{IsRanked, RanksBase};
+ghost use Rattle.type_tables.specs.Known.{IsKnown, IsKnownMethod, IsKnownBase, IsClosed, KnowsMethods};
 
 use crate::declared::{FieldInfo, MethodInfo, ServiceId, Ty};
 use crate::fields::FieldList;
 use crate::names::NameTable;
 use crate::services::ServiceDecl;
 use crate::tables::{StructDecl, Tables};
-use gate_base::OutOfMemory;
-use std::alloc::Global;
 
 /// Whether each number that was handed in is one of these tables.
 pub(crate) fn is_closed(tables: &Tables) -> bool
@@ -129,80 +126,4 @@ fn knows_method(tables: &Tables, method: MethodInfo) -> bool
 {
     let structs = tables.structs.len();
     (method.args.0 as usize) < structs && (method.result.0 as usize) < structs
-}
-
-/// Whether each service that extends another has a greater rank than that one.
-pub(crate) fn is_ranked(services: &[ServiceDecl], ranks: &[u32]) -> bool
-    ensures { IsTrue result → IsRanked services.now ranks.now }
-{
-    for (at, decl) in services.iter().enumerate() {
-        if !ranks_base(ranks, at, decl.base) {
-            return false;
-        }
-    }
-    true
-}
-
-fn ranks_base(ranks: &[u32], at: usize, base: Option<ServiceId>) -> bool
-    ensures { IsTrue result → RanksBase ranks.now at base }
-{
-    let Some(base) = base else {
-        return true;
-    };
-    match (ranks.get(at), ranks.get(base.0 as usize)) {
-        (Some(own), Some(other)) => *other < *own,
-        _ => false,
-    }
-}
-
-/// The rank of each service: how many services stand from it up to the end of its bases, where they end.
-///
-/// `OutOfMemory`: the memory for the ranks was not found.
-pub(crate) fn ranks(alloc: Global, services: &[ServiceDecl]) -> Result<Vec<u32>, OutOfMemory> {
-    let mut ranks = Vec::new(alloc);
-    for _ in 0..services.len() {
-        ranks.push(0)?;
-    }
-    let mut path = Vec::new(alloc);
-    for at in 0..services.len() {
-        climb(services, at, ranks.as_mut_slice(), &mut path)?;
-    }
-    Ok(ranks)
-}
-
-// Goes up from a service to one that has a rank, or to the end, and gives ranks on the way back.
-fn climb(
-    services: &[ServiceDecl],
-    from: usize,
-    ranks: &mut [u32],
-    path: &mut Vec<usize>,
-) -> Result<(), OutOfMemory> {
-    let mut above = 0;
-    let mut at = from;
-    'up: for _ in 0..services.len() {
-        above = rank_at(ranks, at);
-        if above != 0 {
-            break;
-        }
-        path.push(at)?;
-        match base_at(services, at) {
-            Some(base) => at = base,
-            None => break,
-        }
-    }
-    'down: while let Some(service) = path.pop() {
-        above = above.saturating_add(1);
-        if let Some(rank) = ranks.get_mut(service) {
-            *rank = above;
-        }
-    }
-    Ok(())
-}
-
-fn rank_at(ranks: &[u32], at: usize) -> u32 {
-    ranks.get(at).copied().unwrap_or(0)
-}
-
-fn base_at(services: &[ServiceDecl], at: usize) -> Option<usize> {
-    Some(services.get(at)?.base?.0 as usize)
 }

@@ -2,7 +2,7 @@
 ghost use Rattle.std.specs.Prelude.{◌≡◌, ◌↔◌, ◌<◌, IsTrue, IfSome, Contains, count_by, length, option_copied, slice_get, nat_lt, Some};
 ghost use Rattle.type_tables.specs.Declarations.{with_files};
 ghost use Rattle.type_tables.specs.Fields.{field_in};
-ghost use Rattle.type_tables.specs.Known.{IsBuilt, IsClosed, IsAcyclic, IsKnown, IsKnownMethod, failure_struct};
+ghost use Rattle.type_tables.specs.Known.{IsBuilt, IsClosed, IsKnown, IsKnownMethod, failure_struct};
 ghost use Rattle.type_tables.specs.Names.{value_of};
 ghost use Rattle.type_tables.specs.Roots.{only, rooted};
 ghost use Rattle.type_tables.specs.Services.{method_in};
@@ -33,7 +33,6 @@ impl Schema {
     pub(crate) fn of(tables: Tables, files: u64) -> Schema
         requires built { IsBuilt tables }
         requires closed { IsClosed tables }
-        requires ending { IsAcyclic tables.services }
         ensures { result ≡ with_files tables files }
     {
         let mut tables = tables;

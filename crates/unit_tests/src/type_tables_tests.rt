@@ -24,7 +24,7 @@ fn schema(alloc: Global) -> Option<(Schema, StructId)> {
         return None;
     }
     let s = builder.add_struct(Form::Struct, fields).ok()?;
-    if !builder.is_closed() || !builder.is_acyclic().ok()? {
+    if !builder.is_closed() {
         return None;
     }
     Some((builder.finish(1), s))

@@ -1,13 +1,14 @@
-use Rattle.std.proofs.Common.{◌≡◌, ◌≤◌, ◌+◌, [], ◌∷◌, ◌++◌, ◌∙◌, ap, sym, arith, drop, length, List, ℕ, ℤ, Option, Some, None}
+use Rattle.std.proofs.Common.{◌≡◌, ◌≤◌, ◌+◌, [], ◌∷◌, ◌++◌, ◌∙◌, ap, sym, arith, drop, length, map, refl, List, ℕ, ℤ, Option, Some, None}
 use Rattle.idl_document.specs.declared.document.FieldDecl.{FieldDecl}
 use Rattle.idl_document.specs.Trees.{field_tree, field_trees}
-use Rattle.idl_rules.specs.Ids.{id_of, counted}
+use Rattle.idl_rules.specs.Ids.{id_of, ids_from, counted, refused_ids}
 use Rattle.type_tables.specs.declared.declared.FieldInfo.{FieldInfo}
 use Rattle.type_tables.specs.declared.declared.Ty.{Ty}
 use Rattle.idl_schema.specs.Adding.{with_types}
 use Rattle.idl_schema.specs.Fields.{need_of, fields_from, fields_types}
 use Rattle.idl_schema.specs.Indexes.{files_of}
 use Rattle.idl_schema.specs.Types.{ty_in}
+use Rattle.idl_schema.proofs.Kept.{absent, first_free, free_on}
 use Rattle.idl_schema.proofs.Listing.{next, field_listed, field_typed}
 use Rattle.idl_schema.proofs.fields.add_fields.Goals as goal
 
@@ -35,6 +36,30 @@ loop-field-preserved c =
       few = within_counted before i f.id c.count_on-before.result c.loop-field.invariant.few c.count_on-before.ensures;
       list = field_listed ty b c.add_parts.new.builder (field_tree f) rest c.in_ok-add_parts.ensures before c.count_on-before.result list c.push_field.new.list whole c.count_on-before.ensures pushed
           (ap (λ (l : List FieldDecl). list ++ fields_from ty before (length b.types) (field_trees l)) (sym open_list) ∙ c.loop-field.invariant.list);
+      free = free_on list c.push_field.new.list _ before c.count_on-before.result (field_tree f) rest c.in_ok-push_field.ensures refl c.count_on-before.ensures
+          (ap (λ (l : List FieldDecl). refused_ids (map (λ (r : FieldInfo). r.id) list) (ids_from before (field_trees l))) (sym open_list) ∙ c.loop-field.invariant.free);
       types = field_typed ty b c.add_parts.new.builder (field_tree f) rest c.in_ok-add_parts.ensures all
           (ap (λ (l : List FieldDecl). with_types b (fields_types ty (length b.types) (field_trees l))) (sym open_list) ∙ c.loop-field.invariant.types);
     }
+
+pub push_field-requires-clause-fits : goal.push_field-requires-clause-fits
+push_field-requires-clause-fits c =
+    let fs = c.args.fields.now in
+    let i = c.loop-field.field-index in
+    let f = c.field-item.result in
+    let before = c.loop-field.before in
+    let ids = map (λ (r : FieldInfo). r.id) c.loop-field.list in
+    let open_list = next fs i f c.loop-field-test.true c.field-item.is in
+    let free = ap (λ (l : List FieldDecl). refused_ids ids (ids_from before (field_trees l))) (sym open_list) ∙ c.loop-field.invariant.free in
+    (first_free ids (id_of before (field_tree f)) (ids_from (counted before f.id) (field_trees (drop (i + 1) fs))) free).1
+
+pub push_field-requires-clause-free : goal.push_field-requires-clause-free
+push_field-requires-clause-free c =
+    let fs = c.args.fields.now in
+    let i = c.loop-field.field-index in
+    let f = c.field-item.result in
+    let before = c.loop-field.before in
+    let ids = map (λ (r : FieldInfo). r.id) c.loop-field.list in
+    let open_list = next fs i f c.loop-field-test.true c.field-item.is in
+    let free = ap (λ (l : List FieldDecl). refused_ids ids (ids_from before (field_trees l))) (sym open_list) ∙ c.loop-field.invariant.free in
+    absent (id_of before (field_tree f)).id c.loop-field.list (first_free ids (id_of before (field_tree f)) (ids_from (counted before f.id) (field_trees (drop (i + 1) fs))) free).0
