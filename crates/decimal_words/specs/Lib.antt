@@ -1,4 +1,3 @@
--- Decimal numbers and addresses, as words spell them.
+-- Decimal numbers, as words spell them.
 pub mod Same
 pub mod Numbers
-pub mod Addresses

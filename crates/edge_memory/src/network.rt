@@ -8,7 +8,7 @@ use gate_base::OutOfMemory;
 use gate_hub::Began;
 use mio_edge::{Accepted, Network, Readiness, Reports, Waited};
 use std::alloc::Global;
-use std::net::SocketAddr;
+use std::net::{IpAddr, Ipv4Addr, SocketAddr};
 use std::time::Duration;
 
 /// What each connection is reported to be: a read or a write finds whether it is.
@@ -57,6 +57,11 @@ impl Network for MemNetwork {
     type Stream = MemStream;
 
     ghost is_telling = { ⊤ };
+
+    // Each name is known: a connection is to the next target whatever its address.
+    fn look_up(&mut self, _name: &[u8], port: u16) -> Option<SocketAddr> {
+        Some(SocketAddr::new(IpAddr::V4(Ipv4Addr::LOCALHOST), port))
+    }
 
     fn listen(&mut self, _alloc: Global, _address: SocketAddr) -> Began {
         self.is_listening = true;

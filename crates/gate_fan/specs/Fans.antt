@@ -106,4 +106,5 @@ started_with listen targets accept sessions = record { listen = listen; targets 
 abbrev pub StartLeads : Started → Began → Meaning → Meaning → Type 0
 StartLeads started began.Done a b = b ≡ record a { started = Some started }
 StartLeads started began.Failed a b = b ≡ a
+StartLeads started (began.NotFound at) a b = b ≡ a
 StartLeads started began.OutOfMemory a b = b ≡ a

@@ -39,7 +39,7 @@ pub trait Fan {
     /// Begins to listen at an address, for at most `sessions` sessions at a time and `accept`
     /// connections in all (0: as many as come), each of which is led to all targets.
     ///
-    /// `Failed`: the count of `start` and `next` rose.
+    /// `Failed` and `NotFound`: the count of `start` and `next` rose.
     fn start(
         &mut self,
         alloc: Global,
@@ -51,7 +51,9 @@ pub trait Fan {
         ensures leads { Leads (tells self.old) (tells self.new) NotStarted (StartLeads (started_with listen.now targets.now accept sessions) result) }
         ensures targets { result ≡ Began.Done → target_count self.new ≡ length targets.now }
         ensures later { Later (counts self.old) (counts self.new) }
-        ensures cause { result ≡ Began.Failed → Rose (counts self.old).faults (counts self.new).faults };
+        ensures cause { result ≡ Began.Failed → Rose (counts self.old).faults (counts self.new).faults }
+        ensures unfound { (at : ℕ) → result ≡ Began.NotFound at → Rose (counts self.old).faults (counts self.new).faults }
+        ensures place { (at : ℕ) → result ≡ Began.NotFound at → at < length targets.now };
 
     /// The next event.
     ///

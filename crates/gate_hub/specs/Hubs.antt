@@ -112,6 +112,7 @@ started_with listen upstream accept sessions = record { listen = listen; upstrea
 abbrev pub StartLeads : Started → Began → Meaning → Meaning → Type 0
 StartLeads started began.Done a b = b ≡ record a { started = Some started }
 StartLeads started began.Failed a b = b ≡ a
+StartLeads started (began.NotFound at) a b = b ≡ a
 StartLeads started began.OutOfMemory a b = b ≡ a
 
 -- at least one byte and no more than the slice holds

@@ -15,11 +15,13 @@ pub enum Side {
     Upstream,
 }
 
-/// What `start` answers.
+/// What `start` answers: that it listens, that it failed, that for the name of the target at this place, counted from 0, no
+/// address is known, or that there was no memory.
 #[derive(Clone, Copy, Debug, PartialEq, Eq)]
 pub enum Began {
     Done,
     Failed,
+    NotFound(usize),
     OutOfMemory,
 }
 
@@ -86,7 +88,7 @@ pub trait Hub {
     /// Begins to listen at an address, for at most `sessions` sessions at a time and `accept`
     /// connections in all (0: as many as come), each of which is led to `upstream`.
     ///
-    /// `Failed`: the count of `start` and `next` rose.
+    /// `Failed` and `NotFound`: the count of `start` and `next` rose.
     fn start(
         &mut self,
         alloc: Global,
@@ -98,7 +100,8 @@ pub trait Hub {
         ensures leads { Leads (tells self.old) (tells self.new) NotStarted (StartLeads (started_with listen.now upstream.now accept sessions) result) }
         ensures later { Later (counts self.old) (counts self.new) }
         ensures kept { Self.kept self.new ≡ Self.kept self.old }
-        ensures cause { result ≡ Began.Failed → Rose (counts self.old).faults (counts self.new).faults };
+        ensures cause { result ≡ Began.Failed → Rose (counts self.old).faults (counts self.new).faults }
+        ensures unfound { (at : ℕ) → result ≡ Began.NotFound at → Rose (counts self.old).faults (counts self.new).faults };
 
     /// The next event.
     ///

@@ -212,6 +212,7 @@ pub record IsUnused (fan : FanState) : Type 0 where
 abbrev pub StartDoes : Started → Began → FanState → FanState → Type 0
 StartDoes started began.Done a b = IsUnused a × (b ≡ record a { started = Some started })
 StartDoes started began.Failed a b = (IsUnused a → ⊥) × (b ≡ record a { faults = one_more a.faults })
+StartDoes started (began.NotFound at) a b = ⊥
 StartDoes started began.OutOfMemory a b = b ≡ a
 
 -- session k has changed so, and nothing else but what was counted of growths

@@ -234,6 +234,7 @@ StepsBy a b (stepped.Event answer) =
 abbrev pub StartDoes : Started → Began → HubState → HubState → Type 0
 StartDoes started began.Done a b = b ≡ record a { started = Some started }
 StartDoes started began.Failed a b = ⊥
+StartDoes started (began.NotFound at) a b = ⊥
 StartDoes started began.OutOfMemory a b = b ≡ a
 
 -- the side of the session has changed so, and nothing else of it

@@ -305,6 +305,8 @@ impl Fan for MemFan {
         ensures targets { result ≡ Began.Done → targets_of self.new ≡ length targets.now }
         ensures later { Later (fan_counts self.old) (fan_counts self.new) }
         ensures cause { result ≡ Began.Failed → Rose (fan_counts self.old).faults (fan_counts self.new).faults }
+        ensures unfound { (at : ℕ) → result ≡ Began.NotFound at → Rose (fan_counts self.old).faults (fan_counts self.new).faults }
+        ensures place { (at : ℕ) → result ≡ Began.NotFound at → at < length targets.now }
         ensures exact { StartDoes (started_with listen.now targets.now accept sessions) result self.old self.new }
     {
         if self.started.is_some() || self.last_event.is_some() || !self.sessions.is_empty() {

@@ -320,6 +320,7 @@ impl Hub for MemHub {
         ensures leads { Leads (TellsHub self.old) (TellsHub self.new) NotStarted (StartLeads (started_with listen.now upstream.now accept sessions) result) }
         ensures later { Later (hub_counts self.old) (hub_counts self.new) }
         ensures cause { result ≡ Began.Failed → Rose (hub_counts self.old).faults (hub_counts self.new).faults }
+        ensures unfound { (at : ℕ) → result ≡ Began.NotFound at → Rose (hub_counts self.old).faults (hub_counts self.new).faults }
         ensures exact { StartDoes (started_with listen.now upstream.now accept sessions) result self.old self.new }
     {
         let (Ok(listen), Ok(upstream)) = (Text::new(alloc, listen), Text::new(alloc, upstream))

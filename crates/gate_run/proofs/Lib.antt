@@ -11,4 +11,5 @@ pub mod Served
 pub mod Started
 pub mod Starts
 pub mod Treating
+pub mod Unfound
 pub mod Wrapped

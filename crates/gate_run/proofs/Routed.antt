@@ -18,7 +18,7 @@ use Rattle.gate_words.specs.declared.options.Declared.{Declared}
 use Rattle.gate_words.specs.declared.routing.Routing.{Routing}
 use Rattle.gate_run.specs.Outcome.{Streams, WriteFailed}
 use Rattle.gate_run.specs.Serving.{EndsBy}
-use Rattle.gate_run.specs.Routes.{RoutesAll, Began, NotBegun, NoMemory, EndsOrRests, HasRouted, RoutesOn, routed_setting, routed_by, routed_from}
+use Rattle.gate_run.specs.Routes.{RoutesAll, Began, NotBegun, Unfound, NoMemory, EndsOrRests, HasRouted, RoutesOn, routed_setting, routed_by, routed_from}
 use Rattle.gate_run.specs.Routed.{RunsRouter, RouterRun, RoutesFrom, IsFanUndisturbed, HasStoppedFan}
 use Rattle.gate_run.specs.Running.{Outside}
 use Rattle.gate_run.specs.Starting.{Holds, Halts, Stops}
@@ -65,6 +65,7 @@ routed_well fans r start h h' a b ending m (Began mid result left later leads se
     let begun = leads m known before in
     by_result fans mid h' r start begun.0 begun.1 (fresh r m begun.0 before none begun.2) (fans.counts h).faults (fans.counts mid).faults (fans.counts h').faults a b ending result later.faults serves ends no_fan no_write
 routed_well fans r start h h' a b ending m (NotBegun leads rose says) known before none no_fan no_write = absurd (no_fan rose)
+routed_well fans r start h h' a b ending m (Unfound at target is leads rose says) known before none no_fan no_write = absurd (no_fan rose)
 routed_well fans r start h h' a b ending m (NoMemory leads says) known before none no_fan no_write = inr (inr says.is)
 
 pub fan_stopped : {M : Type 0} (fans : Fan M) (x : RouterRun M) (start : Start) → RoutesFrom fans start x → IsFanUndisturbed fans x → HasStoppedFan (fans.tells x.fan_behind) start x

@@ -18,7 +18,7 @@ use Rattle.proxy_server.specs.Turning.{IsSettled}
 use Rattle.proxy_server.proofs.Calls.{served_writes}
 use Rattle.gate_words.specs.declared.serving.Serving.{Serving}
 use Rattle.gate_run.specs.Outcome.{Streams, WriteFailed}
-use Rattle.gate_run.specs.Serving.{ServesAll, Began, NotBegun, NoMemory, EndsBy, HasServed, GoesOn, settings, started_by, served_from}
+use Rattle.gate_run.specs.Serving.{ServesAll, Began, NotBegun, Unfound, NoMemory, EndsBy, HasServed, GoesOn, settings, started_by, served_from}
 use Rattle.gate_run.specs.Undisturbed.{ServerRun, RunsHub, IsUndisturbed, HasStopped}
 use Rattle.gate_run.specs.declared.start.Start.{Start}
 use Rattle.gate_run.specs.declared.status.Ending.{Ending}
@@ -62,6 +62,7 @@ served_well tells counts s start h h' a b ending m (Began mid result left later 
     let begun = leads m known before in
     by_result (tells mid) (tells h') (counts mid) (counts h') s start begun.0 begun.1 (fresh s m begun.0 before none begun.2) (counts h).faults (counts mid).faults (counts h').faults a b ending result later.faults serves ends no_hub no_write
 served_well tells counts s start h h' a b ending m (NotBegun leads rose says) known before none no_hub no_write = absurd (no_hub rose)
+served_well tells counts s start h h' a b ending m (Unfound at leads rose says) known before none no_hub no_write = absurd (no_hub rose)
 served_well tells counts s start h h' a b ending m (NoMemory leads says) known before none no_hub no_write = inr (inr says.is)
 
 pub hub_stopped : {H : Type 0} (hubs : Hub H) (x : ServerRun H) (start : Start) → RunsHub hubs start x → IsUndisturbed hubs x → HasStopped (hubs.tells x.hub_behind) start x

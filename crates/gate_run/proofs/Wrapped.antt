@@ -13,7 +13,7 @@ use Rattle.gate_words.specs.declared.peers.Sides.{Sides}
 use Rattle.gate_words.specs.declared.serving.Serving.{Serving}
 use Rattle.gate_run.specs.Outcome.{Streams, WriteFailed}
 use Rattle.gate_run.specs.Peers.{Unframed, unframed, unframed_tells, unframed_counts, seen, wire_if, wrapping_by, ServesUnframed, ServesBySides, ServesPeers}
-use Rattle.gate_run.specs.Serving.{ServesAll, Began, NotBegun, NoMemory, HasServed, GoesOn}
+use Rattle.gate_run.specs.Serving.{ServesAll, Began, NotBegun, Unfound, NoMemory, HasServed, GoesOn}
 use Rattle.gate_run.specs.Undisturbed.{ServerRun, RunsSides, IsUndisturbed, HasStoppedOver}
 use Rattle.gate_run.specs.declared.start.Start.{Start}
 use Rattle.gate_run.specs.declared.status.Ending.{Ending}
@@ -23,6 +23,7 @@ use Rattle.gate_run.proofs.Served.{served_well}
 pub serves_as : {X Y : Type 0} (f : X → Y) (tells : Y → Meaning → Type 0) (counts : Y → Counts) (s : Serving) (start : Start) (x x' : X) (a b : Streams) (ending : Ending) → ServesAll (λ z. tells (f z)) (λ z. counts (f z)) s start x x' a b ending → ServesAll tells counts s start (f x) (f x') a b ending
 serves_as f tells counts s start x x' a b ending (Began mid result left later leads serves ends) = Began (f mid) result left later leads serves ends
 serves_as f tells counts s start x x' a b ending (NotBegun leads rose says) = NotBegun leads rose says
+serves_as f tells counts s start x x' a b ending (Unfound at leads rose says) = Unfound at leads rose says
 serves_as f tells counts s start x x' a b ending (NoMemory leads says) = NoMemory leads says
 
 -- before the start the wrapping hub tells what the hub below tells

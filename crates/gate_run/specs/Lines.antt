@@ -54,6 +54,10 @@ path_text (step ∷ steps) = step_text step ++ flat_map next_text steps
 unfoldable pub breach_line : ℕ → Broken → List ℕ
 breach_line number b = codes "frame " ++ decimal number ++ codes ": at " ++ path_text b.path ++ codes ": " ++ breach_text b.breach ++ codes "\n"
 
+-- target not found: NAME, before the last line of a hub that failed
+unfoldable pub unfound_text : List ℕ → List ℕ
+unfound_text name = codes "target not found: " ++ name ++ codes "\n"
+
 unfoldable pub usage_text : List ℕ
 usage_text = codes "usage: thrift_gate check|convert|show|serve|drill|help\n"
 

@@ -1,9 +1,10 @@
 -- What a router does, from its start to its last line.
-use Rattle.std.specs.Prelude.{◌≡◌, ◌⊎◌, ℕ, length, true, false, Some}
+use Rattle.std.specs.Prelude.{◌≡◌, ◌⊎◌, ℕ, length, true, false, Some, slice_get}
 use Rattle.gate_base.specs.Causes.{Rose}
 use Rattle.gate_fan.specs.Meaning.{Meaning, Started}
 use Rattle.gate_fan.specs.Fans.{Later, Leads, NotStarted, StartLeads}
 use Rattle.gate_fan.specs.declared.fan.Fan.{Ghosts as Fan}
+use Rattle.gate_fan.specs.declared.fan.Target.{Target}
 use Rattle.gate_io.specs.declared.byte_streams.Sink.{Ghosts as Sink}
 use Rattle.gate_hub.specs.declared.hub.Began.TheVariants as began
 use Rattle.gate_hub.specs.declared.hub.HubNext.TheVariants as event
@@ -18,7 +19,8 @@ use Rattle.route_server.specs.Turning.{IsSettled}
 use Rattle.gate_words.specs.declared.routing.Routing.{Routing}
 use Rattle.gate_run.specs.Outcome.{Streams}
 use Rattle.gate_run.specs.Serving.{EndsBy}
-use Rattle.gate_run.specs.Starting.{SaysLast}
+use Rattle.peer_addresses.specs.Names.{name_in}
+use Rattle.gate_run.specs.Starting.{SaysLast, SaysUnfound}
 use Rattle.gate_run.specs.declared.start.Start.{Start}
 use Rattle.gate_run.specs.declared.status.Ending.{Ending}
 use Rattle.gate_run.specs.declared.status.Ending.TheVariants as endings
@@ -56,6 +58,9 @@ pub data RoutesAll {M : Type 0} (fans : Fan M) (r : Routing) (start : Start) (h 
       → EndsBy result (fans.counts mid).faults (fans.counts h').faults a b ending → RoutesAll fans r start h h' a b ending
   NotBegun : Leads (fans.tells h) (fans.tells h') NotStarted (StartLeads (routed_by r) began.Failed)
       → Rose (fans.counts h).faults (fans.counts h').faults → SaysLast endings.HubFault a b ending → RoutesAll fans r start h h' a b ending
+  Unfound : (at : ℕ) (target : Target) → slice_get r.targets at ≡ Some target
+      → Leads (fans.tells h) (fans.tells h') NotStarted (StartLeads (routed_by r) (began.NotFound at))
+      → Rose (fans.counts h).faults (fans.counts h').faults → SaysUnfound (name_in target.address) a b ending → RoutesAll fans r start h h' a b ending
   NoMemory : Leads (fans.tells h) (fans.tells h') NotStarted (StartLeads (routed_by r) began.OutOfMemory)
       → SaysLast endings.OutOfMemory a b ending → RoutesAll fans r start h h' a b ending
 

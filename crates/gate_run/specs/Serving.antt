@@ -23,7 +23,8 @@ use Rattle.gate_io.specs.Fronts.{AppendsFront}
 use Rattle.gate_io.specs.declared.byte_streams.Sink.{Ghosts as Sink}
 use Rattle.gate_run.specs.Endings.{last_line}
 use Rattle.gate_run.specs.Outcome.{Streams, streams}
-use Rattle.gate_run.specs.Starting.{SaysLast}
+use Rattle.peer_addresses.specs.Names.{name_in}
+use Rattle.gate_run.specs.Starting.{SaysLast, SaysUnfound}
 use Rattle.gate_run.specs.declared.start.Start.{Start}
 use Rattle.gate_run.specs.declared.status.Ending.{Ending}
 use Rattle.gate_run.specs.declared.status.Ending.TheVariants as endings
@@ -80,6 +81,8 @@ pub data ServesAll {H : Type 0} (tells : H → Meaning → Type 0) (counts : H �
       → EndsBy result (counts mid).faults (counts h').faults a b ending → ServesAll tells counts s start h h' a b ending
   NotBegun : Leads (tells h) (tells h') NotStarted (StartLeads (started_by s) began.Failed) → Rose (counts h).faults (counts h').faults → SaysLast endings.HubFault a b ending
       → ServesAll tells counts s start h h' a b ending
+  Unfound : (at : ℕ) → Leads (tells h) (tells h') NotStarted (StartLeads (started_by s) (began.NotFound at)) → Rose (counts h).faults (counts h').faults
+      → SaysUnfound (name_in s.target) a b ending → ServesAll tells counts s start h h' a b ending
   NoMemory : Leads (tells h) (tells h') NotStarted (StartLeads (started_by s) began.OutOfMemory) → SaysLast endings.OutOfMemory a b ending
       → ServesAll tells counts s start h h' a b ending
 

@@ -1,5 +1,5 @@
 -- What a command starts from, and how it ends where it doesn't start.
-use Rattle.std.specs.Prelude.{◌≡◌, ◌⊎◌, ℕ, List, Option, Some, None, Result, Ok, Err, ⊤}
+use Rattle.std.specs.Prelude.{◌≡◌, ◌⊎◌, ℕ, List, ◌++◌, Option, Some, None, Result, Ok, Err, ⊤}
 use Rattle.std.specs.Io.KnownBytes.{Appends}
 use Rattle.gate_base.specs.Causes.{Rose}
 use Rattle.type_tables.specs.declared.declared.ServiceId.{ServiceId}
@@ -12,7 +12,7 @@ use Rattle.gate_idl.specs.Refusals.{refusal_text}
 use Rattle.gate_idl.specs.Opening.{IsOpened}
 use Rattle.gate_io.specs.Fronts.{AppendsFront}
 use Rattle.gate_run.specs.Endings.{last_line, EndsWith}
-use Rattle.gate_run.specs.Lines.{usage_text}
+use Rattle.gate_run.specs.Lines.{usage_text, unfound_text}
 use Rattle.gate_run.specs.Outcome.{Streams}
 use Rattle.gate_run.specs.declared.start.Start.{Start}
 use Rattle.gate_run.specs.declared.start.NoStart.{NoStart}
@@ -92,6 +92,18 @@ pub record SaysLast (wanted : Ending) (a b : Streams) (ending : Ending) : Type 0
   pub front : AppendsFront a.reported b.reported (last_line wanted)
   pub whole : Appends a.reported b.reported (last_line wanted) ⊎ Rose a.report_faults b.report_faults
   pub is : ending ≡ wanted
+
+-- the lines of a hub that knows no address for this name
+abbrev pub unfound_lines : List ℕ → List ℕ
+unfound_lines name = unfound_text name ++ last_line endings.HubFault
+
+-- the same with these lines, where a hub knows no address for the name of a target
+pub record SaysUnfound (name : List ℕ) (a b : Streams) (ending : Ending) : Type 0 where
+  pub left : b.left ≡ a.left
+  pub written : b.written ≡ a.written
+  pub front : AppendsFront a.reported b.reported (unfound_lines name)
+  pub whole : Appends a.reported b.reported (unfound_lines name) ⊎ Rose a.report_faults b.report_faults
+  pub is : ending ≡ endings.HubFault
 
 -- how a command ends that doesn't start; the line of a refusal may want memory
 abbrev pub Halts : NoStart → Streams → Streams → Ending → Type 0

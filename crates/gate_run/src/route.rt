@@ -8,11 +8,12 @@ ghost use Rattle.gate_run.specs.Routes.{RoutesAll, RoutesSessions};
 
 use crate::serve::end;
 use crate::start::{Start, halt, prepare};
-use crate::status::{Ending, end_with};
+use crate::status::{Ending, end_unfound, end_with};
 use gate_fan::Fan;
 use gate_hub::{Began, Served};
 use gate_io::{Files, Sink};
 use gate_words::{Declared, GREATEST_LIMIT, MOST_CALLS, Routing};
+use peer_addresses::name_in;
 use route_server::route_serve;
 use session_judge::Setup;
 use std::alloc::Global;
@@ -79,6 +80,7 @@ fn route_all<O: Sink, E: Sink, G: Fan>(
             end(served, report)
         }
         Began::Failed => end_with(report, Ending::HubFault),
+        Began::NotFound(at) => end_unfound(report, name_in(targets[at].address.as_slice())),
         Began::OutOfMemory => end_with(report, Ending::OutOfMemory),
     }
 }

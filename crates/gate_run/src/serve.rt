@@ -10,11 +10,12 @@ ghost use Rattle.gate_run.specs.Serving.{CanServe, ServesHub, ServesSessions, En
 
 use crate::judges::PairJudges;
 use crate::start::Start;
-use crate::status::{Ending, end_with};
+use crate::status::{Ending, end_unfound, end_with};
 use gate_hub::{Began, Hub, Served};
 use gate_io::Sink;
 use gate_words::{Front, Serving, Sides};
 use http_front::HttpHub;
+use peer_addresses::name_in;
 use protocol_traits::Proto;
 use proxy_server::{Limits, serve};
 use session_judge::Setup;
@@ -206,6 +207,7 @@ fn serve_hub<O: Sink, E: Sink, H: Hub>(
             end(served, report)
         }
         Began::Failed => end_with(report, Ending::HubFault),
+        Began::NotFound(_) => end_unfound(report, name_in(target)),
         Began::OutOfMemory => end_with(report, Ending::OutOfMemory),
     }
 }

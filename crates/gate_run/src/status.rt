@@ -1,10 +1,11 @@
 //! How a command ends: its exit code, and the last line of its report.
-ghost use Rattle.std.specs.Prelude.{◌≡◌, ◌⊎◌, ◌≤◌};
+ghost use Rattle.std.specs.Prelude.{◌≡◌, ◌⊎◌, ◌≤◌, ◌++◌};
 ghost use Rattle.std.specs.Io.KnownBytes.{Appends};
 ghost use Rattle.gate_base.specs.Causes.{Rose};
 ghost use Rattle.gate_io.specs.Fronts.{AppendsFront};
 ghost use Rattle.gate_run.specs.Endings.{code_of, last_line, SaysOn};
-ghost use Rattle.gate_run.specs.Lines.{usage_text};
+ghost use Rattle.gate_run.specs.Lines.{unfound_text, usage_text};
+ghost use Rattle.gate_run.specs.Starting.{unfound_lines};
 
 use gate_io::{Sink, Wrote, write_all};
 
@@ -78,6 +79,46 @@ pub fn end_with<E: Sink>(report: &mut E, ending: Ending) -> Ending
 {
     let _ = write_all(report, ending.last_line());
     ending
+}
+
+/// Reports that no address is known for the name of a target, and the last line of a hub that failed.
+pub fn end_unfound<E: Sink>(report: &mut E, name: &[u8]) -> Ending
+    ensures ending { result ≡ Ending.HubFault }
+    ensures front { AppendsFront (E.written report.old) (E.written report.new) (unfound_lines name.now) }
+    ensures whole { Appends (E.written report.old) (E.written report.new) (unfound_lines name.now) ⊎ Rose (E.faults report.old) (E.faults report.new) }
+    ensures later { E.faults report.old ≤ E.faults report.new }
+{
+    match tell_unfound(report, name) {
+        Wrote::All => end_with(report, Ending::HubFault),
+        Wrote::Failed => Ending::HubFault,
+    }
+}
+
+// Writes that no address is known for this name.
+#[tactic(auto, unfolding(crate::specs::Lines::unfound_text))]
+fn tell_unfound<E: Sink>(report: &mut E, name: &[u8]) -> Wrote
+    ensures all { result ≡ Wrote.All → Appends (E.written report.old) (E.written report.new) (unfound_text name.now) }
+    ensures front { AppendsFront (E.written report.old) (E.written report.new) (unfound_text name.now) }
+    ensures later { E.faults report.old ≤ E.faults report.new }
+    ensures cause { result ≡ Wrote.Failed → Rose (E.faults report.old) (E.faults report.new) }
+{
+    match write_both(report, b"target not found: ", name) {
+        Wrote::All => write_all(report, b"\n"),
+        Wrote::Failed => Wrote::Failed,
+    }
+}
+
+// Writes two texts, the second behind the first.
+fn write_both<S: Sink>(sink: &mut S, first: &[u8], second: &[u8]) -> Wrote
+    ensures all { result ≡ Wrote.All → Appends (S.written sink.old) (S.written sink.new) (first.now ++ second.now) }
+    ensures front { AppendsFront (S.written sink.old) (S.written sink.new) (first.now ++ second.now) }
+    ensures later { S.faults sink.old ≤ S.faults sink.new }
+    ensures cause { result ≡ Wrote.Failed → Rose (S.faults sink.old) (S.faults sink.new) }
+{
+    match write_all(sink, first) {
+        Wrote::All => write_all(sink, second),
+        Wrote::Failed => Wrote::Failed,
+    }
 }
 
 /// Writes a line, and gives this ending, or that of a write fault where it wasn't written.

@@ -1,5 +1,5 @@
 //! The command `serve` over real sockets, in one process with its client and its upstream.
-use crate::outside::{Outside, with_input, words_of};
+use crate::outside::{Ending, Outside, was_written, with_input, words_of};
 use crate::serving::{ANSWERS, CALLS, REPLIES};
 use gate_base::{OutOfMemory, Word};
 use gate_run::run;
@@ -15,6 +15,17 @@ const MOST_TRIES: u32 = 100_000;
 
 /// The client reads so often in all, without waiting.
 const MOST_READS: u32 = 5_000_000;
+
+/// A server whose upstream has a name that nobody knows: no label of one has over 63 letters, so the system asks no one.
+const NOBODY: &[u8] =
+    b"serve compact json 127.0.0.2:9 aaaaaaaaaaaaaaaaaaaaaaaaaaaaaaaaaaaaaaaaaaaaaaaaaaaaaaaaaaaaaaaa:9";
+
+/// How it ends.
+const UNFOUND: Ending<'static> = Ending {
+    code: 7,
+    output: b"",
+    report: b"target not found: aaaaaaaaaaaaaaaaaaaaaaaaaaaaaaaaaaaaaaaaaaaaaaaaaaaaaaaaaaaaaaaa\nhub fault\n",
+};
 
 /// Calls 1 and 2 of three.
 const FIRST_CALLS: usize = 35;
@@ -136,5 +147,15 @@ fn loopback(rt: HostRuntime) -> Result<(), Fail> {
     let mut answers = [0; 52];
     assert!(rt; ask(&mut stream, &mut answers)?);
     assert_eq!(rt; answers, ANSWERS);
+    Ok(())
+}
+
+#[test]
+fn a_name_that_nobody_knows_is_told(rt: HostRuntime) -> Result<(), Fail> {
+    let words = words_of(rt.alloc(), NOBODY)?;
+    let mut outside = with_input(rt.alloc(), b"")?;
+    let code = serve_over(&rt, rt.alloc(), &words, &mut outside);
+    assert_eq!(rt; code, UNFOUND.code);
+    assert!(rt; was_written(&outside, &UNFOUND));
     Ok(())
 }

@@ -69,9 +69,10 @@ const IN_PLACE: Case = Case {
     },
 };
 
-/// Calls by the names of services, a oneway one among them, and an answer too many.
+/// Calls by the names of services, a oneway one among them, and an answer too many. The upstream is named, and the server listens
+/// at an address of version 6.
 const BY_NAME: Case = Case {
-    line: b"serve binary json 127.0.0.1:1 127.0.0.1:2 --idl m.thrift",
+    line: b"serve binary json [::1]:1 orders:2 --idl m.thrift",
     acts: &[
         Act::Connects,
         Act::Sends(Side::Client, &NAMED),

@@ -2,7 +2,7 @@
 use Rattle.std.proofs.Common.{◌≡◌, ℕ, zero, suc, ◌+◌, ◌-◌, ◌<◌, ◌≤◌, List, [], ◌∷◌, ◌++◌, length, take, drop, Option, Some, None, Bool, true, false, true≢false, if◌then◌else◌, nat_lt, sym, ◌∙◌, ap, refl, arith, append_assoc}
 use Rattle.std.proofs.lemmas.Bool.Decides.{nat_tests}
 use Rattle.gate_fan.specs.declared.fan.Target.{Target}
-use Rattle.decimal_words.specs.Addresses.{place}
+use Rattle.peer_addresses.specs.Places.{place}
 use Rattle.gate_words.specs.Targets.{Adds, AddsOne, AreFew, alone, and_more, are_distinct, if_distinct, target_of, targets_within}
 use Rattle.gate_words.specs.declared.limits.TheConstants.{MOST_TARGETS}
 

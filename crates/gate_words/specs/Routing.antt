@@ -4,7 +4,7 @@ use Rattle.gate_fan.specs.declared.fan.Target.{Target}
 use Rattle.protocol_traits.specs.declared.proto.Proto.{Proto}
 use Rattle.gate_words.specs.Same.{or_else}
 use Rattle.gate_words.specs.Protos.{proto_of}
-use Rattle.decimal_words.specs.Addresses.{is_address}
+use Rattle.peer_addresses.specs.Addresses.{can_listen_at}
 use Rattle.gate_words.specs.Options.{no_options, options_of, is_for_one_upstream}
 use Rattle.gate_words.specs.Targets.{targets_of}
 use Rattle.gate_words.specs.declared.command.Command.{Command}
@@ -58,7 +58,7 @@ route_to client upstream listen (Some targets) words = route_with (record { clie
 abbrev pub route_at : Proto → Proto → List (List ℕ) → Option Command
 route_at client upstream [] = None
 route_at client upstream (listen ∷ []) = None
-route_at client upstream (listen ∷ targets ∷ rest) = if is_address listen then route_to client upstream listen (targets_of targets) rest else None
+route_at client upstream (listen ∷ targets ∷ rest) = if can_listen_at listen then route_to client upstream listen (targets_of targets) rest else None
 
 abbrev pub route_between : Option Proto → Option Proto → List (List ℕ) → Option Command
 route_between (Some client) (Some upstream) words = route_at client upstream words

@@ -5,7 +5,7 @@ use Rattle.gate_words.specs.Same.{or_else}
 use Rattle.gate_words.specs.Lines.{is_json}
 use Rattle.gate_words.specs.Protos.{proto_of}
 use Rattle.gate_words.specs.Peers.{has_client, has_upstream, is_http, front_or_framed}
-use Rattle.decimal_words.specs.Addresses.{is_address}
+use Rattle.peer_addresses.specs.Addresses.{can_listen_at, can_connect_to}
 use Rattle.gate_words.specs.Options.{no_options, options_of}
 use Rattle.gate_words.specs.declared.command.Command.{Command}
 use Rattle.gate_words.specs.declared.command.Command.TheVariants as commands
@@ -93,7 +93,7 @@ abbrev pub serve_at : Proto → Proto → List (List ℕ) → Option Command
 serve_at client upstream [] = None
 serve_at client upstream (listen ∷ []) = None
 serve_at client upstream (listen ∷ target ∷ rest) =
-    if is_address listen && is_address target then
+    if can_listen_at listen && can_connect_to target then
     serve_with (record { client = client; upstream = upstream; listen = listen; target = target }) rest
     else None
 

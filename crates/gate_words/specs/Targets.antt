@@ -3,7 +3,8 @@ use Rattle.std.specs.Prelude.{◌≡◌, ℕ, zero, suc, ◌+◌, ◌-◌, ◌<�
 use Rattle.gate_fan.specs.declared.fan.Target.{Target}
 use Rattle.decimal_words.specs.Same.{is}
 use Rattle.gate_words.specs.Same.{is_empty}
-use Rattle.decimal_words.specs.Addresses.{is_address, place}
+use Rattle.peer_addresses.specs.Addresses.{can_connect_to}
+use Rattle.peer_addresses.specs.Places.{place}
 use Rattle.gate_words.specs.declared.limits.TheConstants.{MOST_TARGETS}
 
 -- a service's name isn't empty, and has neither a colon (58) nor a comma (44)
@@ -14,7 +15,7 @@ is_name word = not (is_empty word) && (nat_le (length word) (place 58 word) && n
 abbrev pub target_of : List ℕ → Option Target
 target_of word =
     let at = place 61 word in
-    if nat_lt at (length word) && (is_name (take at word) && is_address (drop (at + 1) word)) then
+    if nat_lt at (length word) && (is_name (take at word) && can_connect_to (drop (at + 1) word)) then
     Some (record { service = take at word; address = drop (at + 1) word }) else None
 
 abbrev pub alone : Option Target → Option (List Target)

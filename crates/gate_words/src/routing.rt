@@ -11,8 +11,8 @@ use crate::limits::{
 };
 use crate::options::{Declared, Options, read_options};
 use crate::targets::{Targets, read_targets};
-use decimal_words::read_address;
 use gate_base::{OutOfMemory, Text, Word};
+use peer_addresses::can_listen_at;
 use protocol_traits::Proto;
 use std::alloc::Global;
 
@@ -81,7 +81,7 @@ fn route_at(
     let Some((word, words)) = words.split_first() else {
         return Ok(None);
     };
-    if read_address(listen.as_slice()).is_none() {
+    if !can_listen_at(listen.as_slice()) {
         return Ok(None);
     }
     let Some(targets) = read_targets(alloc, word.as_slice())? else {

@@ -12,8 +12,8 @@ use crate::limits::{
 use crate::lines::is_json;
 use crate::options::{Declared, Options, read_options};
 use crate::peers::{Front, Sides};
-use decimal_words::read_address;
 use gate_base::{OutOfMemory, Text, Word};
+use peer_addresses::{can_connect_to, can_listen_at};
 use protocol_traits::Proto;
 use std::alloc::Global;
 
@@ -86,7 +86,7 @@ fn serve_at(
     let Some((target, words)) = words.split_first() else {
         return Ok(None);
     };
-    if read_address(listen.as_slice()).is_none() || read_address(target.as_slice()).is_none() {
+    if !can_listen_at(listen.as_slice()) || !can_connect_to(target.as_slice()) {
         return Ok(None);
     }
     let ends = Ends {

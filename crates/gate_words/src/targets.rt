@@ -4,9 +4,9 @@ ghost use Rattle.gate_fan.specs.declared.fan.Target.{Target};
 ghost use Rattle.gate_words.specs.Targets.{Adds, AddsOne, AreFew, are_distinct, has_service, is_name, target_of, targets_of, targets_within};
 
 use crate::limits::MOST_TARGETS;
-use decimal_words::{place, read_address};
 use gate_base::{OutOfMemory, Text};
 use gate_fan::Target;
+use peer_addresses::{can_connect_to, place};
 use std::alloc::Global;
 use std::marker::Model;
 
@@ -86,7 +86,7 @@ fn push_target(alloc: Global, word: &[u8], targets: &mut Vec<Target>) -> Result<
         return Ok(false);
     }
     let (name, address) = (&word[..at], &word[at + 1..]);
-    if !is_name(name) || read_address(address).is_none() {
+    if !is_name(name) || !can_connect_to(address) {
         return Ok(false);
     }
     targets.push(Target {

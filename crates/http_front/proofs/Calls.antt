@@ -62,6 +62,12 @@ failed_over told told' r slots stopped s leads = λ m tells can.
     let led = leads tells.0 tells.1 (sym tells.2.started ∙ can.0, tells.2.asked can.1) in
     (m, (tells.0, subst told' led.2 led.1, tells.2), refl)
 
+pub unfound_over : (told told' : Meaning → Type 0) (r : Reading) (slots : Option Open) (stopped : Bool) (s : Started) (at : ℕ) → Leads told told' NotStarted (StartLeads s (began.NotFound at))
+    → Leads (TellsOver told r slots stopped) (TellsOver told' r slots stopped) NotStarted (StartLeads s (began.NotFound at))
+unfound_over told told' r slots stopped s at leads = λ m tells can.
+    let led = leads tells.0 tells.1 (sym tells.2.started ∙ can.0, tells.2.asked can.1) in
+    (m, (tells.0, subst told' led.2 led.1, tells.2), refl)
+
 pub refused_over : (told told' : Meaning → Type 0) (r : Reading) (slots : Option Open) (stopped : Bool) (s : Started) → Leads told told' NotStarted (StartLeads s began.OutOfMemory)
     → Leads (TellsOver told r slots stopped) (TellsOver told' r slots stopped) NotStarted (StartLeads s began.OutOfMemory)
 refused_over told told' r slots stopped s leads = λ m tells can.

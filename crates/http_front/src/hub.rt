@@ -105,6 +105,7 @@ impl<H: Hub> Hub for HttpHub<'_, H> {
                 Began::Done
             }
             Began::Failed => Began::Failed,
+            Began::NotFound(at) => Began::NotFound(at),
             Began::OutOfMemory => Began::OutOfMemory,
         }
     }

@@ -309,6 +309,7 @@ module _ {W S : Type 0} (Is : Type 0) (tells : S → Wire → Type 0) where
             refl,
           )
       by began.Failed begins keeps = (m, kept (keeps (λ e. absurd (cc))), refl)
+      by (began.NotFound at) begins keeps = (m, kept (keeps (λ e. absurd (cc))), refl)
       by began.OutOfMemory begins keeps = (m, kept (keeps (λ e. absurd (cc))), refl)
 
   -- ---- an event

@@ -1,6 +1,6 @@
 //! The fan over real sockets: sessions with several targets. It tells no content, and counts what
 //! failed and what wasn't ready.
-ghost use Rattle.std.specs.Prelude.{◌≡◌, ◌<◌, ◌≤◌, length};
+ghost use Rattle.std.specs.Prelude.{◌≡◌, ◌<◌, ◌≤◌, ℕ, length, IfOk};
 ghost use Rattle.gate_base.specs.Causes.{Rose};
 ghost use Rattle.gate_fan.specs.Fans.{HasStarted, Later, Leads, NextLeads, NotStarted, StartLeads, started_with};
 ghost use Rattle.gate_hub.specs.declared.hub.Began.TheVariants as began;
@@ -86,6 +86,8 @@ impl<N: Net> Fan for MioFan<'_, N> {
         ensures targets { result ≡ began.Done → self.new.targets ≡ length targets.now }
         ensures later { Later (fan_counts self.old.sockets.faults self.old.links) (fan_counts self.new.sockets.faults self.new.links) }
         ensures cause { result ≡ began.Failed → Rose self.old.sockets.faults self.new.sockets.faults }
+        ensures unfound { (at : ℕ) → result ≡ began.NotFound at → Rose self.old.sockets.faults self.new.sockets.faults }
+        ensures place { (at : ℕ) → result ≡ began.NotFound at → at < length targets.now }
         ensures accept { result ≡ began.Done → self.new.sockets.accept ≡ accept }
     {
         let Ok(addresses) = addresses_of(alloc, targets) else {
@@ -137,7 +139,9 @@ impl<N: Net> Fan for MioFan<'_, N> {
 }
 
 // Copies of the targets' addresses.
-fn addresses_of(alloc: Global, targets: &[Target]) -> Result<Vec<Text>, OutOfMemory> {
+fn addresses_of(alloc: Global, targets: &[Target]) -> Result<Vec<Text>, OutOfMemory>
+    ensures { IfOk result (λ addresses. length addresses.items ≡ length targets.now) }
+{
     let mut addresses = Vec::with_capacity(alloc, targets.len())?;
     for target in targets {
         addresses.push(Text::new(alloc, target.address.as_slice())?)?;

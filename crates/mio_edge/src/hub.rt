@@ -1,6 +1,6 @@
 //! The hub of sessions with one upstream. It tells what its network's streams tell, and counts what
 //! failed and what wasn't ready.
-ghost use Rattle.std.specs.Prelude.{◌≡◌, ◌<◌, ◌-◌, ◌^◌, ◌≤◌};
+ghost use Rattle.std.specs.Prelude.{◌≡◌, ◌<◌, ◌-◌, ◌^◌, ◌≤◌, ℕ};
 ghost use Rattle.gate_base.specs.Causes.{Rose};
 ghost use Rattle.gate_hub.specs.Hubs.{HasStarted, Later, Leads, NextLeads, NotStarted, StartLeads, started_with};
 ghost use Rattle.gate_hub.specs.declared.hub.Began.TheVariants as began;
@@ -136,6 +136,7 @@ impl<W: Network> Hub for MioHub<W> {
         ensures leads { HubLeads W.is_telling W.Stream.tells NotStarted (StartLeads (started_with listen.now upstream.now accept sessions) result) self.old self.new }
         ensures later { Later (counts_in self.old) (counts_in self.new) }
         ensures cause { result ≡ began.Failed → Rose self.old.sockets.faults self.new.sockets.faults }
+        ensures unfound { (at : ℕ) → result ≡ began.NotFound at → Rose self.old.sockets.faults self.new.sockets.faults }
         ensures accept { result ≡ began.Done → self.new.sockets.accept ≡ accept }
     {
         match Text::new(alloc, upstream) {

@@ -8,7 +8,7 @@ use mio::net::{TcpListener, TcpStream};
 use mio::{Events, Interest, Poll, Token};
 use std::alloc::Global;
 use std::io::ErrorKind;
-use std::net::{Net, SocketAddr};
+use std::net::{Net, SocketAddr, ToSocketAddrs};
 use std::time::Duration;
 
 const LISTENER: Token = Token(usize::MAX);
@@ -45,6 +45,11 @@ impl<N: Net> Network for MioNetwork<'_, N> {
     type Stream = TcpStream;
 
     ghost is_telling = { ⊥ };
+
+    fn look_up(&mut self, name: &[u8], port: u16) -> Option<SocketAddr> {
+        let name = str::from_utf8(name).ok()?;
+        (name, port).to_socket_addrs(self.net).ok()?.next()
+    }
 
     fn listen(&mut self, alloc: Global, address: SocketAddr) -> Began {
         let Ok(events) = Events::with_capacity(alloc, MOST_EVENTS) else {

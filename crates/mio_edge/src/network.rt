@@ -61,6 +61,9 @@ pub trait Network: Drop {
     /// Its streams tell what goes over them.
     ghost is_telling: { Type 0 };
 
+    /// The first address that is known for a host's name, with this port: none where none is known.
+    fn look_up(&mut self, name: &[u8], port: u16) -> Option<SocketAddr>;
+
     /// Begins to listen at an address.
     ///
     /// `Failed`: the system refused.

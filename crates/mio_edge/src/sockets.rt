@@ -14,11 +14,11 @@ use crate::listening::{Connecting, Listening};
 use crate::mio_network::MioNetwork;
 use crate::network::Network;
 use crate::table::Table;
-use decimal_words::read_address;
 use gate_base::{OutOfMemory, Text};
 use gate_hub::{Began, HubNext, LinkGot, LinkPut};
+use peer_addresses::{Address, name_in, read_address};
 use std::alloc::Global;
-use std::net::{IpAddr, Ipv4Addr, Net, SocketAddr};
+use std::net::{IpAddr, Ipv4Addr, Ipv6Addr, Net, SocketAddr};
 
 /// Real sockets: a listener, and for each session a port 0 to the client that connected and a port
 /// to each upstream.
@@ -93,10 +93,12 @@ impl<W: Network> Sockets<W> {
 
     /// Begins to listen at an address, for at most `sessions` sessions at a time and `accept`
     /// connections in all (0: as many as come), each of which is led to every upstream. Addresses
-    /// are written `A.B.C.D:PORT`.
+    /// are written `A.B.C.D:PORT` or `[IPV6]:PORT`, those of upstreams `NAME:PORT` too: each name is looked
+    /// up once, here, in the order of the upstreams and before the listener is bound.
     ///
     /// One place more than `sessions` is reserved, so that a connection beyond them can be announced.
     /// `Failed`: the count of `start` and `next` rose; an address isn't one, or the system refused.
+    /// `NotFound`: that count rose; the network knows no address for the name of this upstream.
     pub fn start(
         &mut self,
         alloc: Global,
@@ -112,6 +114,8 @@ impl<W: Network> Sockets<W> {
         ensures kept { result ≢ began.Done → self.new.accept ≡ self.old.accept }
         ensures later { self.old.faults ≤ self.new.faults }
         ensures cause { result ≡ began.Failed → Rose self.old.faults self.new.faults }
+        ensures unfound { (at : ℕ) → result ≡ began.NotFound at → Rose self.old.faults self.new.faults }
+        ensures place { (at : ℕ) → result ≡ began.NotFound at → at < length upstreams.now }
     {
         match self.open(alloc, listen, upstreams, sessions) {
             Ok(Began::Done) => {
@@ -120,13 +124,17 @@ impl<W: Network> Sockets<W> {
             }
             Ok(Began::OutOfMemory) | Err(_) => Began::OutOfMemory,
             Ok(Began::Failed) => {
-                self.faults = self.faults.saturating_add(1);
+                self.count_fault();
                 Began::Failed
+            }
+            Ok(Began::NotFound(at)) => {
+                self.count_fault();
+                Began::NotFound(at)
             }
         }
     }
 
-    // Takes all memory, and listens.
+    // Takes all memory, finds the upstreams, and listens.
     fn open(
         &mut self,
         alloc: Global,
@@ -139,17 +147,19 @@ impl<W: Network> Sockets<W> {
         ensures announced { self.new.announced ≡ self.old.announced }
         ensures accept { self.new.accept ≡ self.old.accept }
         ensures faults { self.new.faults ≡ self.old.faults }
+        ensures place { (at : ℕ) → result ≡ Ok (began.NotFound at) → at < length upstreams.now }
     {
-        let Some(listen) = socket_address(listen) else {
+        let Some(listen) = listener_address(listen) else {
             return Ok(Began::Failed);
         };
         let mut targets = Vec::with_capacity(alloc, upstreams.len())?;
-        if !parse_targets(upstreams, &mut targets)? {
-            return Ok(Began::Failed);
+        let found = find_targets(&mut self.network, upstreams, &mut targets)?;
+        if found != Began::Done {
+            return Ok(found);
         }
         let width = targets.len().saturating_add(1);
         let table = Table::open(alloc, sessions.saturating_add(1), width)?;
-        let began = self.network.listen(alloc, listen);
+        let began = without_place(self.network.listen(alloc, listen));
         if began != Began::Done {
             return Ok(began);
         }
@@ -389,7 +399,7 @@ impl<W: Network> Sockets<W> {
         None
     }
 
-    // Counts a fault of `start` or `next`.
+    // Fails, and counts that.
     fn fails(&mut self) -> HubNext
         ensures keeps { Stays (SocketsTell W.is_telling W.Stream.tells self.old) (SocketsTell W.is_telling W.Stream.tells self.new) }
         ensures result { result ≡ event.Failed }
@@ -398,25 +408,83 @@ impl<W: Network> Sockets<W> {
         ensures later { self.old.faults ≤ self.new.faults }
         ensures cause { Rose self.old.faults self.new.faults }
     {
-        self.faults = self.faults.saturating_add(1);
+        self.count_fault();
         HubNext::Failed
+    }
+
+    // Counts a fault of `start` or `next`.
+    fn count_fault(&mut self)
+        ensures keeps { Stays (SocketsTell W.is_telling W.Stream.tells self.old) (SocketsTell W.is_telling W.Stream.tells self.new) }
+        ensures announced { self.new.announced ≡ self.old.announced }
+        ensures accept { self.new.accept ≡ self.old.accept }
+        ensures later { self.old.faults ≤ self.new.faults }
+        ensures cause { Rose self.old.faults self.new.faults }
+    {
+        self.faults = self.faults.saturating_add(1);
     }
 }
 
-// The addresses of the upstreams. It says whether each is one.
-fn parse_targets(upstreams: &[Text], targets: &mut Vec<SocketAddr>) -> Result<bool, OutOfMemory> {
-    for upstream in upstreams {
-        let Some(target) = socket_address(upstream.as_slice()) else {
-            return Ok(false);
+// The addresses of the upstreams, in their order. It says whether all are found.
+fn find_targets<W: Network>(
+    network: &mut W,
+    upstreams: &[Text],
+    targets: &mut Vec<SocketAddr>,
+) -> Result<Began, OutOfMemory>
+    ensures place { (at : ℕ) → result ≡ Ok (began.NotFound at) → at < length upstreams.now }
+{
+    for (at, upstream) in upstreams.iter().enumerate() {
+        let word = upstream.as_slice();
+        let Some(address) = read_address(word) else {
+            return Ok(Began::Failed);
+        };
+        let Some(target) = target_address(network, word, address) else {
+            return Ok(Began::NotFound(at));
         };
         targets.push(target)?;
     }
-    Ok(true)
+    Ok(Began::Done)
 }
 
-// The address that a word spells, for the system.
-fn socket_address(word: &[u8]) -> Option<SocketAddr> {
-    let address = read_address(word)?;
-    let octets = Ipv4Addr::from_octets(address.octets);
-    Some(SocketAddr::new(IpAddr::V4(octets), address.port))
+// The address of a target for the system: none where the network knows none for its name.
+fn target_address<W: Network>(
+    network: &mut W,
+    word: &[u8],
+    address: Address,
+) -> Option<SocketAddr> {
+    match address {
+        Address::Name { port } => network.look_up(name_in(word), port),
+        _ => socket_address(address),
+    }
+}
+
+// The address that a listener's word spells, for the system.
+fn listener_address(word: &[u8]) -> Option<SocketAddr> {
+    socket_address(read_address(word)?)
+}
+
+// An address of the Internet Protocol, for the system.
+fn socket_address(address: Address) -> Option<SocketAddr> {
+    match address {
+        Address::V4 { octets, port } => {
+            let ip = Ipv4Addr::from_octets(octets);
+            Some(SocketAddr::new(IpAddr::V4(ip), port))
+        }
+        Address::V6 { segments, port } => {
+            let ip = Ipv6Addr::from_segments(segments);
+            Some(SocketAddr::new(IpAddr::V6(ip), port))
+        }
+        Address::Name { .. } => None,
+    }
+}
+
+// A network that doesn't listen names no upstream.
+fn without_place(answer: Began) -> Began
+    ensures done { result ≡ began.Done → answer ≡ began.Done }
+    ensures none { (at : ℕ) → result ≢ began.NotFound at }
+{
+    match answer {
+        Began::Done => Began::Done,
+        Began::OutOfMemory => Began::OutOfMemory,
+        Began::Failed | Began::NotFound(_) => Began::Failed,
+    }
 }

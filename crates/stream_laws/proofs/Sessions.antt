@@ -15,7 +15,7 @@ use Rattle.gate_run.specs.Outcome.{Streams}
 use Rattle.gate_words.specs.declared.peers.Front.{Front}
 use Rattle.gate_run.specs.Posts.{ServesByFront}
 use Rattle.gate_run.specs.Peers.{ServesBySides}
-use Rattle.gate_run.specs.Serving.{ServesAll, Began, NotBegun, NoMemory, started_by, setting_by, settings, served_from}
+use Rattle.gate_run.specs.Serving.{ServesAll, Began, NotBegun, Unfound, NoMemory, started_by, setting_by, settings, served_from}
 use Rattle.gate_run.specs.Undisturbed.{IsUntouched}
 use Rattle.gate_run.specs.declared.start.NoStart.{NoStart}
 use Rattle.gate_run.specs.declared.start.Start.{Start}
@@ -52,6 +52,7 @@ module _ {H : Type 0} (tells : H → Meaning → Type 0) (counts : H → Counts)
             all.sessions begun.0 begun.1 (fresh s m begun.0 before begun.2);
       })
   carried law (NotBegun leads rose says) = inr (record { keeps = leads; written = says.written })
+  carried law (Unfound at leads rose says) = inr (record { keeps = leads; written = says.written })
   carried law (NoMemory leads says) = inr (record { keeps = leads; written = says.written })
 
 -- the same of what a command did that started

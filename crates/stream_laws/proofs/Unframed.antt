@@ -13,7 +13,7 @@ use Rattle.proxy_server.specs.Serving.{KeepsFrom}
 use Rattle.gate_words.specs.declared.serving.Serving.{Serving}
 use Rattle.gate_run.specs.Outcome.{Streams}
 use Rattle.gate_run.specs.Peers.{Unframed, unframed, unframed_tells, unframed_counts}
-use Rattle.gate_run.specs.Serving.{ServesAll, Began, NotBegun, NoMemory, served_from}
+use Rattle.gate_run.specs.Serving.{ServesAll, Began, NotBegun, Unfound, NoMemory, served_from}
 use Rattle.gate_run.specs.Undisturbed.{IsUntouched}
 use Rattle.gate_run.specs.declared.start.Start.{Start}
 use Rattle.gate_run.specs.declared.status.Ending.{Ending}
@@ -74,4 +74,5 @@ module _ {H : Type 0} (tells : H → Meaning → Type 0) (counts : H → Counts)
             );
       })
   carried_over law (NotBegun leads rose says) = inr (record { keeps = stays leads; written = says.written })
+  carried_over law (Unfound at leads rose says) = inr (record { keeps = stays leads; written = says.written })
   carried_over law (NoMemory leads says) = inr (record { keeps = stays leads; written = says.written })

@@ -3,7 +3,7 @@ use Rattle.std.proofs.Common.{◌≡◌, ℕ, ◌<◌, ◌≤◌, ◌^◌, List,
 use Rattle.std.specs.Prelude.{IfSome, is_some, is_none, nat_lt, if◌then◌else◌, codes}
 use Rattle.std.proofs.lemmas.Bool.Decides.{nat_tests}
 use Rattle.protocol_traits.specs.declared.proto.Proto.{Proto}
-use Rattle.decimal_words.specs.Addresses.{is_address}
+use Rattle.peer_addresses.specs.Addresses.{can_listen_at, can_connect_to}
 use Rattle.gate_words.specs.Commands.{command, check_of, convert_of, convert_between, converted, show_of, show_from, shown, conform_of, conform_from, conformed, drill_of, drill_as, help_of}
 use Rattle.decimal_words.specs.Numbers.{number_of, within}
 use Rattle.gate_words.specs.Options.{no_options, is_for_one_upstream, set_limit, limit_of, set_sessions, set_accept, set_events, set_calls, set_unframed, set_front, set_lines, with_server_option, with_peers, with_option, and_then, options_of, is_server_alone}
@@ -162,7 +162,7 @@ at_small : (client upstream : Proto) (words : List (List ℕ)) (s : Serving) (d 
 at_small client upstream [] s d e = absurd (cc)
 at_small client upstream (listen ∷ []) s d e = absurd (cc)
 at_small client upstream (listen ∷ target ∷ rest) s d e =
-    by_test (IsSmall s) (is_address listen && is_address target) _ None (commands.Serve s d)
+    by_test (IsSmall s) (can_listen_at listen && can_connect_to target) _ None (commands.Serve s d)
     (λ f. served_small client upstream listen target (options_of no_options rest) s d (bounded_options rest (options_of no_options rest) refl) f) (none_is (commands.Serve s d)) e
 
 between_small : (client upstream : Option Proto) (words : List (List ℕ)) (s : Serving) (d : Declared) → serve_between client upstream words ≡ Some (commands.Serve s d) → IsSmall s
@@ -237,7 +237,7 @@ module _ (s : Serving) (d : Declared) where
   not_routed_at client upstream [] e = absurd (cc)
   not_routed_at client upstream (listen ∷ []) e = absurd (cc)
   not_routed_at client upstream (listen ∷ targets ∷ rest) e =
-      by_test (IsSmall s) (is_address listen) _ None (commands.Serve s d) (not_routed client upstream listen (targets_of targets) rest) (none_is (commands.Serve s d)) e
+      by_test (IsSmall s) (can_listen_at listen) _ None (commands.Serve s d) (not_routed client upstream listen (targets_of targets) rest) (none_is (commands.Serve s d)) e
 
   not_routed_between : (client upstream : Option Proto) (words : List (List ℕ)) → route_between client upstream words ≡ Some (commands.Serve s d) → IsSmall s
   not_routed_between (Some client) (Some upstream) words e = not_routed_at client upstream words e

@@ -59,6 +59,12 @@ failed_over told told' w slots s leads = λ m tells can.
     let led = leads tells.0 tells.1 (sym tells.2.started ∙ can.0, sym tells.2.last_event ∙ can.1) in
     (m, (tells.0, subst told' led.2 led.1, tells.2), refl)
 
+pub unfound_over : (told told' : Meaning → Type 0) (w : Wrapping) (slots : Option Slots) (s : Started) (at : ℕ) → Leads told told' NotStarted (StartLeads s (began.NotFound at))
+    → Leads (TellsOver told w slots) (TellsOver told' w slots) NotStarted (StartLeads s (began.NotFound at))
+unfound_over told told' w slots s at leads = λ m tells can.
+    let led = leads tells.0 tells.1 (sym tells.2.started ∙ can.0, sym tells.2.last_event ∙ can.1) in
+    (m, (tells.0, subst told' led.2 led.1, tells.2), refl)
+
 pub refused_over : (told told' : Meaning → Type 0) (w : Wrapping) (slots : Option Slots) (s : Started) → Leads told told' NotStarted (StartLeads s began.OutOfMemory)
     → Leads (TellsOver told w slots) (TellsOver told' w slots) NotStarted (StartLeads s began.OutOfMemory)
 refused_over told told' w slots s leads = λ m tells can.

@@ -99,6 +99,7 @@ impl<H: Hub> Hub for UnframedHub<'_, H> {
                 Began::Done
             }
             Began::Failed => Began::Failed,
+            Began::NotFound(at) => Began::NotFound(at),
             Began::OutOfMemory => Began::OutOfMemory,
         }
     }

@@ -2,7 +2,7 @@ use Rattle.std.proofs.Common.{IfOk, ◌≡◌, ◌+◌, ◌-◌, ◌<◌, ◌≤
 use Rattle.std.proofs.lemmas.Result.{IfOk-weaker}
 use Rattle.std.proofs.lemmas.List.{take_all, length-drop}
 use Rattle.gate_fan.specs.declared.fan.Target.{Target}
-use Rattle.decimal_words.specs.Addresses.{place}
+use Rattle.peer_addresses.specs.Places.{place}
 use Rattle.gate_words.specs.Targets.{Adds, AddsOne, target_of, targets_within}
 use Rattle.gate_words.proofs.Listing.{adds_alone, adds_nothing, adds_both, last_one, one_of_more}
 use Rattle.gate_words.proofs.targets.+push_targets.Goals as goal

@@ -1,0 +1,3 @@
+-- Lemmas.
+pub mod Labels
+pub mod Written

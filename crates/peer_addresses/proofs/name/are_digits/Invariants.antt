@@ -1,0 +1,8 @@
+use Rattle.std.proofs.Common.{◌≡◌, drop}
+use Rattle.std.specs.List.{list_all}
+use Rattle.peer_addresses.specs.Names.{is_digit}
+use Rattle.peer_addresses.proofs.name.are_digits.Given as goal
+
+-- it depends on what is left
+abbrev pub invariant-loop-byte : goal.invariant-loop-byte
+invariant-loop-byte l = list_all is_digit (drop l.byte-index l.word) ≡ list_all is_digit l.word
