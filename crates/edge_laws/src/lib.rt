@@ -3,13 +3,13 @@
 //! Each law is the contract of a function that does nothing. The code rests on none of them.
 #![tactic(auto)]
 
-ghost use Rattle.std.specs.Prelude.{◌≡◌, ℕ};
+ghost use Rattle.std.specs.Prelude.{ℕ};
 ghost use Rattle.gate_hub.specs.Meaning.{Meaning, IsOpen};
 ghost use Rattle.gate_hub.specs.declared.hub.Side.{Side};
 ghost use Rattle.gate_run.specs.Undisturbed.{ServerRun, IsRunOf};
 ghost use Rattle.mio_edge.specs.Telling.{HubTells};
 ghost use Rattle.stream_laws.specs.Sessions.{IsCommanded, IsOverFrames, IsServed};
-ghost use Rattle.edge_laws.specs.Streams.{HasOwnStream};
+ghost use Rattle.edge_laws.specs.Streams.{HasOwnStream, ReadsAreNamed, WritesAreNamed};
 
 use gate_hub::Hub;
 use mio_edge::{MioHub, Network};
@@ -24,7 +24,19 @@ pub fn a_session_over_sockets_carries_messages<W: Network>()
 }
 
 /// What a session that is open received and was sent at a side is what its own stream had and took: the stream gave that and then what its
-/// port holds still, and took a front of it. A side without a stream has received and was sent nothing.
+/// port holds still, and took a front of it. A read or write failed only where the stream did, or where there is none. A side without a stream
+/// has received and was sent nothing.
 pub fn an_open_session_has_its_own_streams<W: Network>()
     ensures { (hub : MioHub W W.Stream) (m : Meaning) → HubTells W.is_telling W.Stream.tells hub m → (k : ℕ) → IsOpen k m → (s : Side) → HasOwnStream W.Stream.tells hub m k s }
+{}
+
+/// No session is forgotten. An open one of which a side was answered, since it was named, that it isn't ready to be read stands among those
+/// that are to have a turn, or nothing is there to be read: no report since the last read of its stream says so.
+pub fn a_session_that_waits_to_read_is_named<W: Network>()
+    ensures { (hub : MioHub W W.Stream) (m : Meaning) → HubTells W.is_telling W.Stream.tells hub m → ReadsAreNamed W.Stream.tells hub m }
+{}
+
+/// The same of writes.
+pub fn a_session_that_waits_to_write_is_named<W: Network>()
+    ensures { (hub : MioHub W W.Stream) (m : Meaning) → HubTells W.is_telling W.Stream.tells hub m → WritesAreNamed W.Stream.tells hub m }
 {}

@@ -2,7 +2,7 @@
 use Rattle.std.proofs.Common.{◌≡◌, ℕ, zero, suc, ◌+◌, List, [], ◌∷◌, ◌++◌, take, drop, slice_index_or, Fits, w8, refl, sym, ap, ◌∙◌, subst}
 use Rattle.gate_base.specs.Bytes.{AreBytes}
 use Rattle.gate_hub.specs.declared.hub.LinkGot.TheVariants as got
-use Rattle.mio_edge.specs.Wire.{Wire, WireReads}
+use Rattle.mio_edge.specs.Wire.{Wire, WireReads, more_after}
 use Rattle.edge_memory.specs.Streams.{StreamState, TellsStream}
 
 -- a slice whose elements have the width of a byte
@@ -29,12 +29,12 @@ bytes_parts zero xs p q = q
 bytes_parts (suc n) [] p q = tt
 bytes_parts (suc n) (x ∷ xs) p q = (p.0, bytes_parts n xs p.1 q)
 
-pub read_on : (a b : StreamState) (bytes into : List ℕ) (place n : ℕ) → a.wire.received ≡ take place bytes → a.ahead ≡ drop place bytes
+pub read_on : (a b : StreamState) (bytes into : List ℕ) (place n room : ℕ) → a.wire.received ≡ take place bytes → a.ahead ≡ drop place bytes
     → b.wire ≡ record (a.wire) { received = take (place + n) bytes } → b.ahead ≡ drop (place + n) bytes → take (place + n) bytes ≡ take place bytes ++ take n into
-    → (wire : Wire) → TellsStream a wire → (wire' : Wire) × TellsStream b wire' × WireReads into (got.Bytes n) wire wire'
-read_on a b bytes into place n received ahead now rest grown wire told =
+    → (wire : Wire) → TellsStream a wire → (wire' : Wire) × TellsStream b wire' × WireReads room into (got.Bytes n) wire wire'
+read_on a b bytes into place n room received ahead now rest grown wire told =
     let all : AreBytes bytes = bytes_parts place bytes (subst AreBytes received told.1) (subst AreBytes ahead told.2) in (
-      b.wire,
-      (refl, subst AreBytes (sym (ap (λ (w : Wire). w.received) now)) (bytes_take (place + n) bytes all), subst AreBytes (sym rest) (bytes_drop (place + n) bytes all)),
-      now ∙ ap (λ (w : Wire). record w { received = take (place + n) bytes }) (sym told.0) ∙ ap (λ (t : List ℕ). record wire { received = t }) (grown ∙ ap (λ (t : List ℕ). t ++ take n into) (sym received ∙ sym (ap (λ (w : Wire). w.received) told.0))),
+      record wire { received = take (place + n) bytes; readable = more_after wire.readable n room },
+      (ap (λ (w : Wire). record w { received = take (place + n) bytes }) told.0 ∙ sym now, subst AreBytes (sym (ap (λ (w : Wire). w.received) now)) (bytes_take (place + n) bytes all), subst AreBytes (sym rest) (bytes_drop (place + n) bytes all)),
+      ap (λ (t : List ℕ). record wire { received = t; readable = more_after wire.readable n room }) (grown ∙ ap (λ (t : List ℕ). t ++ take n into) (sym received ∙ sym (ap (λ (w : Wire). w.received) told.0))),
     )

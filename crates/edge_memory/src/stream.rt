@@ -2,7 +2,7 @@
 ghost use Rattle.std.specs.Prelude.{◌≡◌, ◌<◌, length, IfOk};
 ghost use Rattle.gate_hub.specs.Hubs.{GotWithin, TookWithin};
 ghost use Rattle.mio_edge.specs.Wire.{Moves, WireReads, WireWrites, WireShuts, new_wire};
-ghost use Rattle.edge_memory.specs.Streams.{TellsStream, new_stream, stream_bytes, breaking};
+ghost use Rattle.edge_memory.specs.Streams.{TellsStream, new_stream, stream_bytes, stream_hears, breaking};
 
 use gate_base::OutOfMemory;
 use gate_hub::{LinkGot, LinkPut};
@@ -25,13 +25,13 @@ pub struct MemStream {
 }
 
 impl Model for MemStream {
-    ghost use Rattle.std.specs.Prelude.{◌≤◌, length, take, drop};
+    ghost use Rattle.std.specs.Prelude.{◌≤◌, false, length, take, drop};
     ghost use Rattle.edge_memory.specs.Streams.{StreamState};
 
     ghost Value = { StreamState };
 
     ghost view = { λ s. record {
-      wire = record { received = take s.place s.arrived.items; sent = s.sent.items; ended = s.has_ended; failed = s.has_failed; shut = s.is_shut };
+      wire = record { received = take s.place s.arrived.items; sent = s.sent.items; ended = s.has_ended; failed = s.has_failed; shut = s.is_shut; readable = false; writable = false };
       ahead = drop s.place s.arrived.items;
       room = s.room;
       finished = s.is_finished;
@@ -91,7 +91,7 @@ impl Stream for MemStream {
     fn receive(&mut self, into: &mut [u8]) -> LinkGot
         requires { 0 < length into.old }
         ensures within { GotWithin into.new result }
-        ensures moves { Moves (TellsStream self.old) (TellsStream self.new) (WireReads into.new result) }
+        ensures moves { Moves (TellsStream self.old) (TellsStream self.new) (WireReads (length into.old) into.new result) }
     {
         if self.will_break {
             self.has_failed = true;
@@ -135,4 +135,6 @@ impl Stream for MemStream {
     }
 
     ghost bytes = { stream_bytes };
+
+    ghost hears = { stream_hears };
 }

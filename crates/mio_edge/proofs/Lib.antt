@@ -5,4 +5,5 @@ pub mod Searching
 pub mod Sessions
 pub mod Tables
 pub mod Telling
+pub mod Turns
 pub mod Worlds

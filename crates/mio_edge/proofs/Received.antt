@@ -24,7 +24,7 @@ no_bytes xs none = subst AreBytes (sym none) tt
 pub received_bytes : {S : Type 0} (tells : S → Wire → Type 0) → ((s : S) (wire : Wire) → tells s wire → AreBytes wire.received) → (sessions : Slab (Session S)) (entries : List Entry) (closed : List ℕ) (spare : List (Vec (Port S))) (world : World) → Tells tells sessions entries closed spare world → (k : ℕ) (links : Links) → world k ≡ Some links → (p : ℕ) → AreBytes (links p).received
 received_bytes {S} tells are sessions entries closed spare world told k links is p =
     let there = found tells sessions entries closed spare world k links told is in
-    at (slice_get there.1.ports.items p) (links p) (there.6 p)
+    at (slice_get there.1.ports.items p) (links p) (there.6.ports p)
   where
     by : (o : Option S) (port : Port S) (link : Link) → PortTellsBy tells o port link → AreBytes link.received
     by None port link untouched = no_bytes link.received untouched.received

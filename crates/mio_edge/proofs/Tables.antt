@@ -1,21 +1,37 @@
 -- What a table tells once one of its sessions has moved.
-use Rattle.std.proofs.Common.{◌≡◌, ◌≢◌, ℕ, suc, ◌+◌, ◌<◌, ◌==◌, List, [], ◌∷◌, ◌++◌, length, take, drop, true, false, true≢false, Option, None, Some, IsSome, IfSome, Result, Ok, Err, IfOk, OnErr, not, ◌⊎◌, inl, inr, refl, sym, ap, ◌∙◌, subst, arith}
+use Rattle.std.proofs.Common.{◌≡◌, ◌≢◌, ℕ, zero, suc, ◌+◌, ◌<◌, ◌≤◌, ◌==◌, List, [], ◌∷◌, ◌++◌, length, get_or, set, take, drop, is_some, count_by, Bool, true, false, true≢false, append_assoc, Option, None, Some, IsSome, IfSome, Result, Ok, Err, IfOk, OnOk, IsOk, not, ◌⊎◌, inl, inr, refl, sym, ap, ◌∙◌, subst, arith}
 use Rattle.std.specs.List.{slice_get, filter}
 use Rattle.std.specs.Result.{result_ok}
 use Rattle.std.specs.Global.{Vec}
 use Rattle.std.proofs.lemmas.List.{append-nil}
-use Rattle.slab.specs.Slab.{Slab, get, Updates, with_value}
+use Rattle.slab.specs.Slab.{Slab, get, Updates, with_value, slab_len, HasRoomFor}
 use Rattle.slab.proofs.SlabLemmas.{Updates-with_value}
-use Rattle.gate_hub.specs.Meaning.{Link}
+use Rattle.gate_hub.specs.Meaning.{Link, unasked}
+use Rattle.gate_hub.specs.declared.hub.LinkGot.TheVariants as got
+use Rattle.gate_hub.specs.declared.hub.LinkPut.TheVariants as put
 use Rattle.mio_edge.specs.Wire.{Wire, Moves, Stays}
-use Rattle.mio_edge.specs.Sessions.{Links, SessionTells, AtPort, IsSame, PortsTell, new_links}
-use Rattle.mio_edge.specs.Tables.{World, place_of, RisesFrom, TellsPlace, SpareTells, IsClosedAt, IsPrepared, IsNew, Tells, AtSession, Shuts, Opens, MovesAt}
+use Rattle.std.specs.VecDeque.{deque_capacity}
+use Rattle.mio_edge.specs.Moving.{PortTells, PortTellsBy, noted, is_news}
+use Rattle.mio_edge.specs.Sessions.{Links, SessionTells, TellsUnsent, TellsAt, AtPort, IsSame, IsStill, IsAwaited, IsUnsentAt, PortsTell, new_links, named_links}
+use Rattle.mio_edge.specs.Turns.{Has, HasRoom, Pushes, IsIdleAt, Stands, QueuesStand, TableStands}
+use Rattle.mio_edge.specs.declared.queue.Queue.{Queue}
+use Rattle.mio_edge.specs.Tables.{World, place_of, RisesFrom, TellsPlace, SpareTells, IsClosedAt, IsPrepared, IsNew, Tells, TableTells, HasVacancy, HasNoted, AtSession, Shuts, Opens, Names, MovesAt}
+use Rattle.mio_edge.specs.declared.network.Readiness.{Readiness}
 use Rattle.mio_edge.specs.declared.port.Port.{Port}
 use Rattle.mio_edge.specs.declared.session.Session.{Session}
 use Rattle.mio_edge.specs.declared.table.Table.{Table}
 use Rattle.mio_edge.specs.declared.table.Entry.{Entry}
-use Rattle.mio_edge.proofs.Sessions.{decide, pushed_cases}
+use Rattle.mio_edge.proofs.Sessions.{decide, pushed_cases, none_awaited, session_queued}
+use Rattle.mio_edge.proofs.Turns.{stands_begun, stands_freed, queues_still, queues_ready, queues_behind, queues_written, ready_room, behind_room}
 use Rattle.mio_edge.proofs.Entries.{some_same, place_at, cut_out, pushed_here, pushed_other, rises_pushed, get_last, get_front, filtered}
+
+-- what is left behind so many and one more
+pub drop_one : (n : ℕ) (xs : List ℕ) → drop 1 (drop n xs) ≡ drop (n + 1) xs
+drop_one zero xs = refl
+drop_one (suc n) [] =
+    let long : suc n + 1 ≡ suc (n + 1) = omega arith in let none : List ℕ = [] in ap (λ k. drop k none) (sym long)
+drop_one (suc n) (x ∷ xs) =
+    let long : suc n + 1 ≡ suc (n + 1) = omega arith in drop_one n xs ∙ ap (λ k. drop k (x ∷ xs)) (sym long)
 
 -- the session that stands at the place of a number has that number
 module _ {S : Type 0} (tells : S → Wire → Type 0) where
@@ -189,7 +205,7 @@ module _ {S : Type 0} (tells : S → Wire → Type 0) where
       b_open = ap (λ (x : Session S). x.is_open) b_is
 
       b_told : SessionTells tells b new_links
-      b_told = subst (λ (x : Session S). SessionTells tells x new_links) (sym b_is) new_told
+      b_told = subst (λ (x : Session S). SessionTells tells x new_links) (sym b_is) (record { ports = new_told.ports; awaited = new_told.awaited; unsent = new_told.unsent })
 
       known : (j q : ℕ) (at : Option ℕ) → at ≡ Some q → TellsPlace tells old j at (world j) → IsSome (world j)
       known j q None is t = absurd (cc)
@@ -364,12 +380,67 @@ module _ {S : Type 0} (tells : S → Wire → Type 0) where
 
   -- ---- as the functions of the table ask
 
-  -- the ports of a session are the same, and all that it tells
-  pub same_ports : (a b : Session S) → b.ports ≡ a.ports → Stays (SessionTells tells a) (SessionTells tells b)
-  same_ports a b is links told = subst (λ (v : Vec (Port S)). PortsTell tells v.items links) (sym is) told
+  -- the ports of a session are the same, in as many queues, and all that it tells
+  pub same_ports : (a b : Session S) → b.ports ≡ a.ports → (a.is_queued ≡ true → b.is_queued ≡ true) → (a.is_written ≡ true → b.is_written ≡ true) → Stays (SessionTells tells a) (SessionTells tells b)
+  same_ports a b is queued noted links told = record {
+    ports = subst (λ (v : Vec (Port S)). PortsTell tells v.items links) (sym is) told.ports;
+    awaited = λ p w. queued (told.awaited p (subst (λ (v : Vec (Port S)). IsAwaited (slice_get v.items p) (links p)) is w));
+    unsent = λ p u. by (told.unsent p (subst (λ (v : Vec (Port S)). IsUnsentAt (slice_get v.items p)) is u));
+  }
+    where
+      by : (a.is_queued ≡ true) ⊎ (a.is_written ≡ true) → (b.is_queued ≡ true) ⊎ (b.is_written ≡ true)
+      by (inl e) = inl (queued e)
+      by (inr e) = inr (noted e)
 
-  pub then_same : (a b c : Session S) → Stays (SessionTells tells a) (SessionTells tells b) → c.ports ≡ b.ports → Stays (SessionTells tells a) (SessionTells tells c)
-  then_same a b c stays is links told = same_ports b c is links (stays links told)
+  -- a session that is sent
+  pub unsent_from : (a b : Session S) → b.ports ≡ a.ports → b.is_queued ≡ a.is_queued → Stays (SessionTells tells a) (TellsUnsent tells b)
+  unsent_from a b is queued links told =
+      (subst (λ (v : Vec (Port S)). PortsTell tells v.items links) (sym is) told.ports, λ p w. queued ∙ told.awaited p (subst (λ (v : Vec (Port S)). IsAwaited (slice_get v.items p) (links p)) is w))
+
+  -- a port of which nothing was asked since
+  port_named : (port : Port S) (link : Link) → PortTells tells port link → PortTells tells port (unasked link)
+  port_named port link told = by port.stream told
+    where
+      no_got : None ≡ Some got.Failed → ⊥
+      no_got e = absurd (cc)
+
+      no_put : None ≡ Some put.Failed → ⊥
+      no_put e = absurd (cc)
+
+      by : (o : Option S) → PortTellsBy tells o port link → PortTellsBy tells o port (unasked link)
+      by None untouched = record { received = untouched.received; sent = untouched.sent; ended = untouched.ended; incoming = untouched.incoming; outgoing = untouched.outgoing }
+      by (Some s) (wire, says, joins) = (
+        wire,
+        says,
+        record {
+          received = joins.received;
+          sent = joins.sent;
+          ended = joins.ended;
+          over = joins.over;
+          unread = joins.unread;
+          unsent = joins.unsent;
+          failed_read = λ e. absurd (no_got e);
+          failed_write = λ e. absurd (no_put e);
+          idle = joins.idle;
+          blocked = joins.blocked;
+          begun = joins.begun;
+        },
+      )
+
+  -- a session that is named, where nothing of it waits to be sent or it is to be sent
+  pub session_named : (a b : Session S) → b.ports ≡ a.ports → ((p : ℕ) → IsUnsentAt (slice_get a.ports.items p) → (b.is_queued ≡ true) ⊎ (b.is_written ≡ true)) → (links : Links) → SessionTells tells a links → SessionTells tells b (named_links links)
+  session_named a b is unsent links told = record {
+    ports = subst (λ (v : Vec (Port S)). PortsTell tells v.items (named_links links)) (sym is) (λ p. by (slice_get a.ports.items p) (links p) (told.ports p));
+    awaited = λ p w. absurd (none_awaited (slice_get b.ports.items p) (unasked (links p)) refl refl w);
+    unsent = λ p u. unsent p (subst (λ (v : Vec (Port S)). IsUnsentAt (slice_get v.items p)) is u);
+  }
+    where
+      by : (o : Option (Port S)) (link : Link) → TellsAt tells o link → TellsAt tells o (unasked link)
+      by None link told = told
+      by (Some port) link told = port_named port link told
+
+  pub same_still : (a b : Session S) → IsStill a b → IsSame a b
+  same_still a b still = record { number = still.number; is_open = still.is_open }
 
   pub then_is : (a b c : Session S) → IsSame a b → IsSame b c → IsSame a c
   then_is a b c first second = record { number = second.number ∙ first.number; is_open = second.is_open ∙ first.is_open }
@@ -380,6 +451,17 @@ module _ {S : Type 0} (tells : S → Wire → Type 0) where
 
   pub moved_at : (slab : Slab (Session S)) (entries : List Entry) (closed : List ℕ) (spare : List (Vec (Port S))) (place : ℕ) (a b : Session S) → get slab place ≡ Some a → IsSame a b → IsClosedAt slab place → Stays (Tells tells slab entries closed spare) (Tells tells (with_value slab place b) entries closed spare)
   moved_at slab entries closed spare place a b was same is = shut_moved slab (with_value slab place b) entries closed spare place a b was (shut_at slab place a was is) (written slab place a b was) same
+
+  pub idle_closed : (slab : Slab (Session S)) (place : ℕ) → IsIdleAt slab place → IsClosedAt slab place
+  idle_closed slab place (s, is, shut, idle) = (s, is, shut)
+
+  pub idle_at : (slab : Slab (Session S)) (place : ℕ) (a : Session S) → get slab place ≡ Some a → IsIdleAt slab place → (a.is_open ≡ false) × (a.is_queued ≡ false)
+  idle_at slab place a was (s, is, shut, idle) =
+      let same = some_same (get slab place) a s was is in (ap (λ (x : Session S). x.is_open) same ∙ shut, ap (λ (x : Session S). x.is_queued) same ∙ idle)
+
+  pub still_idle : (slab : Slab (Session S)) (place : ℕ) (a b : Session S) → get slab place ≡ Some a → IsStill a b → IsIdleAt slab place → IsIdleAt (with_value slab place b) place
+  still_idle slab place a b was still idle =
+      let at = idle_at slab place a was idle in (b, (written slab place a b was).changed, still.is_open ∙ at.0, still.queued ∙ at.1)
 
   pub still_closed : (slab : Slab (Session S)) (place : ℕ) (a b : Session S) → get slab place ≡ Some a → IsSame a b → IsClosedAt slab place → IsClosedAt (with_value slab place b) place
   still_closed slab place a b was same is = (b, (written slab place a b was).changed, same.is_open ∙ shut_at slab place a was is)
@@ -443,38 +525,40 @@ module _ {S : Type 0} (tells : S → Wire → Type 0) where
 
   pub freed : (slab slab' : Slab (Session S)) (entries : List Entry) (closed closed' : List ℕ) (spare spare' : List (Vec (Port S))) (place : ℕ) (a : Session S) → get slab place ≡ Some a → Updates slab slab' place None → closed' ≡ filter (λ other. not (other == place)) closed
       → ((n : ℕ) → ((m : ℕ) → SpareTells tells (slice_get spare m)) → SpareTells tells (slice_get spare' n))
-      → IsClosedAt slab place → Stays (Tells tells slab entries closed spare) (Tells tells slab' entries closed' spare')
+      → IsIdleAt slab place → Stays (Tells tells slab entries closed spare) (Tells tells slab' entries closed' spare')
   freed slab slab' entries closed closed' spare spare' place a was updates is spares shut =
-      released slab slab' entries closed closed' spare spare' place a was (shut_at slab place a was shut) updates
+      released slab slab' entries closed closed' spare spare' place a was (shut_at slab place a was (idle_closed slab place shut)) updates
       (λ n q at. filtered place closed n q (subst (λ (xs : List ℕ). slice_get xs n ≡ Some q) is at)) spares
 
-  pub nothing_freed : (slab slab' : Slab (Session S)) (entries : List Entry) (closed closed' : List ℕ) (spare : List (Vec (Port S))) (place : ℕ) → get slab place ≡ None → IsClosedAt slab place → ⊥
-  nothing_freed slab slab' entries closed closed' spare place none (s, is, shut) = absurd (no_session s (sym none ∙ is))
+  pub nothing_freed : (slab slab' : Slab (Session S)) (entries : List Entry) (closed closed' : List ℕ) (spare : List (Vec (Port S))) (place : ℕ) → get slab place ≡ None → IsIdleAt slab place → ⊥
+  nothing_freed slab slab' entries closed closed' spare place none (s, is, shut, idle) = absurd (no_session s (sym none ∙ is))
     where
       no_session : (s : Session S) → None ≡ Some s → ⊥
       no_session s e = absurd (cc)
 
   -- a session was prepared where none stood
-  pub prepared : (table : Table S) (place k : ℕ) (b : Session S) (old : Slab (Session S)) (entries : List Entry) (spare : List (Vec (Port S))) (world : World) → get old place ≡ None → Tells tells old entries table.closed.items spare world → get table.sessions place ≡ Some b → b.number ≡ k → b.is_open ≡ false → PortsTell tells b.ports.items new_links → IsPrepared tells table place k
-  prepared table place k b old entries spare world free told is number shut new = record {
+  pub prepared : (table : Table S) (place k : ℕ) (b : Session S) (old : Slab (Session S)) (entries : List Entry) (spare : List (Vec (Port S))) (world : World) → get old place ≡ None → Tells tells old entries table.closed.items spare world → get table.sessions place ≡ Some b → b.number ≡ k → IsNew tells b → IsPrepared tells table place k
+  prepared table place k b old entries spare world free told is number new = record {
     session = b;
     stands = is;
     number = number;
-    shut = shut;
-    links = new;
+    shut = new.0;
+    quiet = new.2;
+    links = new.1;
     new = λ n at. let held = told.closed n place at in no_session held.0 (sym free ∙ held.1);
   }
     where
       no_session : (s : Session S) → None ≡ Some s → ⊥
       no_session s e = absurd (cc)
 
-  pub attached : (a b : Table S) (place k : ℕ) (x y : Session S) → get a.sessions place ≡ Some x → b.sessions ≡ with_value a.sessions place y → b.closed ≡ a.closed → IsSame x y → (SessionTells tells x new_links → SessionTells tells y new_links) → IsPrepared tells a place k → IsPrepared tells b place k
+  pub attached : (a b : Table S) (place k : ℕ) (x y : Session S) → get a.sessions place ≡ Some x → b.sessions ≡ with_value a.sessions place y → b.closed ≡ a.closed → IsStill x y → (SessionTells tells x new_links → SessionTells tells y new_links) → IsPrepared tells a place k → IsPrepared tells b place k
   attached a b place k x y was now same_closed same begins ready =
       let x_is : ready.session ≡ x = some_same (get a.sessions place) ready.session x ready.stands was in record {
         session = y;
         stands = ap (λ (l : Slab (Session S)). get l place) now ∙ (written a.sessions place x y was).changed;
         number = same.number ∙ (ap (λ (s : Session S). s.number) (sym x_is) ∙ ready.number);
         shut = same.is_open ∙ (ap (λ (s : Session S). s.is_open) (sym x_is) ∙ ready.shut);
+        quiet = same.queued ∙ (ap (λ (s : Session S). s.is_queued) (sym x_is) ∙ ready.quiet);
         links = begins (subst (λ (s : Session S). SessionTells tells s new_links) x_is ready.links);
         new = λ n at. ready.new n (subst (λ (v : Vec ℕ). slice_get v.items n ≡ Some place) same_closed at);
       }
@@ -529,14 +613,289 @@ module _ {S : Type 0} (tells : S → Wire → Type 0) where
         spare = told.spare;
       })
 
-  -- what an insertion leaves, by its answer
-  pub insert_keeps : (old new : Slab (Session S)) (entries : List Entry) (closed : List ℕ) (spare : List (Vec (Port S))) (b : Session S) {E : Type 0} (r : Result ℕ E) → IfOk r (λ key. get old key ≡ None) → IfOk r (λ key. Updates old new key (Some b)) → OnErr r (new ≡ record old { capacity = new.capacity }) → b.is_open ≡ false → Stays (Tells tells old entries closed spare) (Tells tells new entries closed spare)
-  insert_keeps old new entries closed spare b (Ok key) free updates err shut = inserted old new entries closed spare key b free updates shut
-  insert_keeps old new entries closed spare b (Err e) free updates err shut = not_inserted old new entries closed spare err
+  -- what an insertion leaves, by its answer: there was room
+  pub insert_keeps : (table : Table S) (new : Slab (Session S)) (b : Session S) {E : Type 0} (r : Result ℕ E) → IfOk r (λ key. get table.sessions key ≡ None) → IfOk r (λ key. Updates table.sessions new key (Some b)) → OnOk r (slab_len new ≡ slab_len table.sessions + 1) → IfOk r (λ key. key < new.capacity)
+      → (HasRoomFor table.sessions 1 → IsOk r) → (HasRoomFor table.sessions 1 → new.capacity ≡ table.sessions.capacity) → IsNew tells b → Stays (HasVacancy tells table) (TableTells tells (record table { sessions = new }))
+  insert_keeps table new b {E} r free updates len within succeeds room fresh world vacant = by r free updates len within (succeeds has)
+    where
+      has : HasRoomFor table.sessions 1
+      has = omega (arith, vacant.1)
+
+      by : (r : Result ℕ E) → IfOk r (λ key. get table.sessions key ≡ None) → IfOk r (λ key. Updates table.sessions new key (Some b)) → OnOk r (slab_len new ≡ slab_len table.sessions + 1) → IfOk r (λ key. key < new.capacity) → IsOk r → TableTells tells (record table { sessions = new }) world
+      by (Ok key) free updates len within ok = (
+        inserted table.sessions new table.entries.items table.closed.items table.spare.items key b free updates fresh.0 world vacant.0.0,
+        record {
+          stands = subst (λ n. Stands new (table.ready.places.items ++ table.behind.places.items) table.written.places.items n) (sym (room has))
+              (stands_begun table.sessions new key b (table.ready.places.items ++ table.behind.places.items) table.written.places.items table.sessions.capacity free updates fresh.2 fresh.3 (omega (arith, within, room has)) vacant.0.1.stands);
+          ready_room = omega (arith, vacant.0.1.ready_room, room has);
+          behind_room = omega (arith, vacant.0.1.behind_room, room has);
+          fits = omega (arith, vacant.1, len, room has);
+        },
+      )
+      by (Err e) free updates len within ok = absurd (cc)
 
   pub insert_prepares : (table : Table S) (old : Slab (Session S)) (b : Session S) {E : Type 0} (r : Result ℕ E) (o : Option ℕ) (world : World) → o ≡ result_ok r → IfOk r (λ key. get old key ≡ None) → IfOk r (λ key. Updates old table.sessions key (Some b)) → IsNew tells b → Tells tells old table.entries.items table.closed.items table.spare.items world → IfSome o (λ place. IsPrepared tells table place b.number)
   insert_prepares table old b r o world is free updates new told = subst (λ (x : Option ℕ). IfSome x (λ place. IsPrepared tells table place b.number)) (sym is) (by r free updates)
     where
       by : {E : Type 0} (r : Result ℕ E) → IfOk r (λ key. get old key ≡ None) → IfOk r (λ key. Updates old table.sessions key (Some b)) → IfSome (result_ok r) (λ place. IsPrepared tells table place b.number)
-      by (Ok key) free updates = prepared table key b.number b old table.entries.items table.spare.items world free told updates.changed refl new.0 new.1
+      by (Ok key) free updates = prepared table key b.number b old table.entries.items table.spare.items world free told updates.changed refl new
       by (Err e) free updates = tt
+
+  -- a free place is given up
+  pub freed_queues : (slab slab' : Slab (Session S)) (table : Table S) (place spare : ℕ) → slab ≡ table.sessions → Updates slab slab' place None → slab_len slab' + 1 ≡ slab_len slab → slab'.capacity ≡ slab.capacity → spare ≤ length table.spare.items + 1 → IsIdleAt slab place → TableStands table → QueuesStand slab' table.ready table.behind table.written spare
+  freed_queues slab slab' table place spare is updates len room most idle stand =
+      let stood : QueuesStand slab table.ready table.behind table.written (length table.spare.items) = subst (λ x. QueuesStand x table.ready table.behind table.written (length table.spare.items)) (sym is) stand in record {
+        stands = subst (λ n. Stands slab' (table.ready.places.items ++ table.behind.places.items) table.written.places.items n) (sym room)
+            (stands_freed slab slab' place (table.ready.places.items ++ table.behind.places.items) table.written.places.items slab.capacity updates idle stood.stands);
+        ready_room = omega (arith, stood.ready_room, room);
+        behind_room = omega (arith, stood.behind_room, room);
+        fits = omega (arith, stood.fits, len, room, most);
+      }
+
+  -- ---- a session has its turn
+
+  -- the links of the open session at this place are others
+  pub named_at : (slab : Slab (Session S)) (entries : List Entry) (closed : List ℕ) (spare : List (Vec (Port S))) (place : ℕ) (a b : Session S) (world : World) → get slab place ≡ Some a → a.is_open ≡ true → IsSame a b → ((links : Links) → SessionTells tells a links → SessionTells tells b (named_links links)) → Tells tells slab entries closed spare world
+      → (world' : World) × Tells tells (with_value slab place b) entries closed spare world' × Names a.number world world'
+  named_at slab entries closed spare place a b world was open_is same moves told = by (world a.number) refl (subst (λ (o : Option ℕ). TellsPlace tells slab a.number o (world a.number)) here (told.told a.number))
+    where
+      updates : Updates slab (with_value slab place b) place (Some b)
+      updates = written slab place a b was
+
+      here : place_of entries a.number ≡ Some place
+      here = told.listed place a was open_is
+
+      all : (j : ℕ) (d : (j ≡ a.number) ⊎ (j ≢ a.number)) (links : Links) → SessionTells tells b links → TellsPlace tells (with_value slab place b) j (place_of entries j) (swap d (Some links) (world j))
+      all j (inl e) links now =
+          subst (λ (o : Option ℕ). TellsPlace tells (with_value slab place b) j o (Some links)) (sym (ap (place_of entries) e ∙ here))
+          (b, updates.changed, same.number ∙ sym e, same.is_open ∙ open_is, now)
+      all j (inr off) links now = others_stay slab (with_value slab place b) place a (Some b) j (place_of entries j) (world j) was updates (λ e. off (sym e)) (told.told j)
+
+      by : (o : Option Links) → world a.number ≡ o → TellsPlace tells slab a.number (Some place) o → (world' : World) × Tells tells (with_value slab place b) entries closed spare world' × Names a.number world world'
+      by None is t = absurd t.4
+      by (Some links) is (s, stands, number, open_s, t) =
+          let s_is : s ≡ a = some_same (get slab place) s a stands was in
+          let now = moves links (subst (λ (x : Session S). SessionTells tells x links) s_is t) in (
+            (λ j. swap (decide j a.number) (Some (named_links links)) (world j)),
+            record {
+              told = λ j. all j (decide j a.number) (named_links links) now;
+              rising = told.rising;
+              listed = listed_stays slab (with_value slab place b) entries place a b was updates same told.listed;
+              closed = λ n q at. closed_stays slab (with_value slab place b) place a b q was updates same.is_open (told.closed n q at);
+              spare = told.spare;
+            },
+            record {
+              links = links;
+              was = is;
+              now = swap_here (decide a.number a.number) (Some (named_links links)) (world a.number);
+              others = λ j off. swap_other (decide j a.number) (Some (named_links links)) (world j) off;
+            },
+          )
+
+  -- ---- as the functions of the table ask, with its queues
+
+  pub still_kept : (table : Table S) (place : ℕ) (a b : Session S) → get table.sessions place ≡ Some a → IsStill a b → Stays (SessionTells tells a) (SessionTells tells b) → Stays (TableTells tells table) (TableTells tells (record table { sessions = with_value table.sessions place b }))
+  still_kept table place a b was still stays world told = (
+    kept_at table.sessions table.entries.items table.closed.items table.spare.items place a b was (same_still a b still) stays world told.0,
+    queues_still table.sessions table.ready table.behind table.written (length table.spare.items) place a b was still.queued still.written told.1,
+  )
+
+  pub closed_moved : (table : Table S) (place : ℕ) (a b : Session S) → get table.sessions place ≡ Some a → IsStill a b → IsClosedAt table.sessions place → Stays (TableTells tells table) (TableTells tells (record table { sessions = with_value table.sessions place b }))
+  closed_moved table place a b was still shut world told = (
+    moved_at table.sessions table.entries.items table.closed.items table.spare.items place a b was (same_still a b still) shut world told.0,
+    queues_still table.sessions table.ready table.behind table.written (length table.spare.items) place a b was still.queued still.written told.1,
+  )
+
+  -- a session has stood in a queue, and may be another one in the same queues by now
+  pub record Stood (slab : Slab (Session S)) (ready behind sent : Queue) (spare place : ℕ) (a b : Session S) : Type 0 where
+    pub queued : b.is_queued ≡ true
+    pub keeps : Stays (SessionTells tells a) (SessionTells tells b)
+    pub stands : (c : Session S) → c.is_queued ≡ b.is_queued → c.is_written ≡ a.is_written → QueuesStand (with_value slab place c) ready behind sent spare
+
+  stood_tells : (a b : Session S) → b ≡ record a { is_queued = b.is_queued } → b.is_queued ≡ true → Stays (SessionTells tells a) (SessionTells tells b)
+  stood_tells a b rest queued links told = session_queued tells b links (subst (λ (v : Vec (Port S)). PortsTell tells v.items links) (sym (ap (λ (x : Session S). x.ports) rest)) told.ports) queued
+
+  pub stood_behind : (slab : Slab (Session S)) (ready behind behind' sent : Queue) (spare place : ℕ) (a b : Session S) → get slab place ≡ Some a → (a.is_queued ≡ true → (b ≡ a) × (behind' ≡ behind)) → (a.is_queued ≡ false → HasRoom behind → (b.is_queued ≡ true) × Pushes place behind behind') → b ≡ record a { is_queued = b.is_queued }
+      → QueuesStand slab ready behind sent spare → Stood slab ready behind' sent spare place a b
+  stood_behind slab ready behind behind' sent spare place a b was stood stands rest queues = by a.is_queued refl
+    where
+      by : (t : Bool) → a.is_queued ≡ t → Stood slab ready behind' sent spare place a b
+      by true is =
+          let same = stood is in
+          let queued : b.is_queued ≡ true = ap (λ (x : Session S). x.is_queued) same.0 ∙ is in record {
+            queued = queued;
+            keeps = stood_tells a b rest queued;
+            stands = λ c to noted. subst (λ (q : Queue). QueuesStand (with_value slab place c) ready q sent spare) (sym same.1) (queues_still slab ready behind sent spare place a c was (to ∙ ap (λ (x : Session S). x.is_queued) same.0) noted queues);
+          }
+      by false is =
+          let now = stands is (behind_room slab ready behind sent spare place a queues was is) in record {
+            queued = now.0;
+            keeps = stood_tells a b rest now.0;
+            stands = λ c to noted. queues_behind slab ready behind behind' sent spare place a c was is (to ∙ now.0) noted now.1 queues;
+          }
+
+  pub stood_ready : (slab : Slab (Session S)) (ready ready' behind sent : Queue) (spare place : ℕ) (a b : Session S) → get slab place ≡ Some a → (a.is_queued ≡ true → (b ≡ a) × (ready' ≡ ready)) → (a.is_queued ≡ false → HasRoom ready → (b.is_queued ≡ true) × Pushes place ready ready') → b ≡ record a { is_queued = b.is_queued }
+      → QueuesStand slab ready behind sent spare → Stood slab ready' behind sent spare place a b
+  stood_ready slab ready ready' behind sent spare place a b was stood stands rest queues = by a.is_queued refl
+    where
+      by : (t : Bool) → a.is_queued ≡ t → Stood slab ready' behind sent spare place a b
+      by true is =
+          let same = stood is in
+          let queued : b.is_queued ≡ true = ap (λ (x : Session S). x.is_queued) same.0 ∙ is in record {
+            queued = queued;
+            keeps = stood_tells a b rest queued;
+            stands = λ c to noted. subst (λ (q : Queue). QueuesStand (with_value slab place c) q behind sent spare) (sym same.1) (queues_still slab ready behind sent spare place a c was (to ∙ ap (λ (x : Session S). x.is_queued) same.0) noted queues);
+          }
+      by false is =
+          let now = stands is (ready_room slab ready behind sent spare place a queues was is) in record {
+            queued = now.0;
+            keeps = stood_tells a b rest now.0;
+            stands = λ c to noted. queues_ready slab ready ready' behind sent spare place a c was is (to ∙ now.0) noted now.1 queues;
+          }
+
+  pub rest_same : (a b : Session S) → b ≡ record a { is_queued = b.is_queued } → IsSame a b
+  rest_same a b rest = record { number = ap (λ (x : Session S). x.number) rest; is_open = ap (λ (x : Session S). x.is_open) rest }
+
+  pub rest_written : (a b : Session S) → b ≡ record a { is_queued = b.is_queued } → b.is_written ≡ a.is_written
+  rest_written a b rest = ap (λ (x : Session S). x.is_written) rest
+
+  -- the queue behind comes back
+  pub recalled : (slab : Slab (Session S)) (ready ready' behind behind' sent : Queue) (spare place : ℕ) → behind.places.items ≡ place ∷ behind'.places.items → Pushes place ready ready' → deque_capacity behind'.places ≡ deque_capacity behind.places → QueuesStand slab ready behind sent spare
+      → QueuesStand slab ready' behind' sent spare × (ready'.places.items ++ behind'.places.items ≡ ready.places.items ++ behind.places.items)
+  recalled slab ready ready' behind behind' sent spare place is pushes room queues = (
+    record {
+      stands = subst (λ xs. Stands slab xs sent.places.items slab.capacity) (sym same) queues.stands;
+      ready_room = omega (arith, queues.ready_room, pushes.room);
+      behind_room = omega (arith, queues.behind_room, room);
+      fits = queues.fits;
+    },
+    same,
+  )
+    where
+      same : ready'.places.items ++ behind'.places.items ≡ ready.places.items ++ behind.places.items
+      same = ap (λ xs. xs ++ behind'.places.items) pushes.items ∙ (append_assoc ready.places.items (place ∷ []) behind'.places.items ∙ ap (λ xs. ready.places.items ++ xs) (sym is))
+
+  pub fewer_spare : (slab : Slab (Session S)) (ready behind sent : Queue) (n m : ℕ) → m ≤ n → QueuesStand slab ready behind sent n → QueuesStand slab ready behind sent m
+  fewer_spare slab ready behind sent n m most queues = record { stands = queues.stands; ready_room = queues.ready_room; behind_room = queues.behind_room; fits = omega (arith, queues.fits, most) }
+
+  -- ---- a table of which no place is used
+
+  no_session : (slab : Slab (Session S)) → slab.slots ≡ [] → (place : ℕ) (s : Session S) → get slab place ≡ Some s → ⊥
+  no_session slab none place s is = by (sym (ap (λ (xs : List (Option (Session S))). get_or xs place None) none) ∙ is)
+    where
+      by : None ≡ Some s → ⊥
+      by e = absurd (cc)
+
+  pub empty_tells : (slab : Slab (Session S)) (entries : List Entry) (closed : List ℕ) (spare : List (Vec (Port S))) → slab.slots ≡ [] → entries ≡ [] → closed ≡ [] → ((n : ℕ) → SpareTells tells (slice_get spare n)) → Tells tells slab entries closed spare (λ k. None)
+  empty_tells slab entries closed spare none no_entries no_closed new =
+      subst (λ es. Tells tells slab es closed spare (λ k. None)) (sym no_entries) (subst (λ cs. Tells tells slab [] cs spare (λ k. None)) (sym no_closed) (record {
+        told = λ k. refl;
+        rising = tt;
+        listed = λ place s is open_is. absurd (no_session slab none place s is);
+        closed = λ n place at. absurd (cc);
+        spare = new;
+      }))
+
+  pub empty_queues : (slab : Slab (Session S)) (ready behind sent : Queue) (spare : ℕ) → slab.slots ≡ [] → ready.places.items ≡ [] → behind.places.items ≡ [] → sent.places.items ≡ [] → slab.capacity ≤ deque_capacity ready.places → slab.capacity ≤ deque_capacity behind.places → spare ≤ slab.capacity → QueuesStand slab ready behind sent spare
+  empty_queues slab ready behind sent spare none no_ready no_behind no_sent first second most = record {
+    stands = subst (λ xs. Stands slab xs sent.places.items slab.capacity) (sym (ap (λ xs. xs ++ behind.places.items) no_ready ∙ no_behind)) (record {
+      queued = λ place s is queued. absurd (no_session slab none place s is);
+      marked = λ place has. absurd has;
+      apart = tt;
+      noted = λ place s is queued. absurd (no_session slab none place s is);
+      below = λ place s is. absurd (no_session slab none place s is);
+    });
+    ready_room = first;
+    behind_room = second;
+    fits = omega (arith, most, ap (λ (xs : List (Option (Session S))). count_by is_some xs) none);
+  }
+
+  -- a session that may move bytes still
+  pub unspent : (a : Session S) (spent : Bool) → spent ≡ (a.allowance == 0) → spent ≡ false → a.allowance ≡ 0 → ⊥
+  unspent a spent is not none = absurd (true≢false (sym (ap (λ n. n == 0) none) ∙ (sym is ∙ not)))
+
+  -- a session was written down to be sent, if it wasn't
+  pub down_same : (a b : Session S) → b ≡ record a { is_written = b.is_written } → IsSame a b
+  down_same a b rest = record { number = ap (λ (x : Session S). x.number) rest; is_open = ap (λ (x : Session S). x.is_open) rest }
+
+  pub down_allowance : (a b : Session S) → b ≡ record a { is_written = b.is_written } → b.allowance ≡ a.allowance
+  down_allowance a b rest = ap (λ (x : Session S). x.allowance) rest
+
+  pub down_queued : (a b : Session S) → b ≡ record a { is_written = b.is_written } → b.is_queued ≡ a.is_queued
+  down_queued a b rest = ap (λ (x : Session S). x.is_queued) rest
+
+  pub down_tells : (a b : Session S) → b ≡ record a { is_written = b.is_written } → b.is_written ≡ true → Stays (SessionTells tells a) (SessionTells tells b)
+  down_tells a b rest noted = same_ports a b (ap (λ (x : Session S). x.ports) rest) (λ e. down_queued a b rest ∙ e) (λ e. noted)
+
+  -- it stands there, and may be another one in the same queues by now
+  pub written_down : (slab : Slab (Session S)) (ready behind sent sent' : Queue) (spare place : ℕ) (a b c : Session S) → get slab place ≡ Some a → (a.is_written ≡ true → (b ≡ a) × (sent' ≡ sent)) → (a.is_written ≡ false → Pushes place sent sent') → b.is_written ≡ true → b ≡ record a { is_written = b.is_written } → c.is_queued ≡ b.is_queued → c.is_written ≡ b.is_written
+      → QueuesStand slab ready behind sent spare → QueuesStand (with_value slab place c) ready behind sent' spare
+  written_down slab ready behind sent sent' spare place a b c was stood pushed noted rest to stays queues = by a.is_written refl
+    where
+      by : (t : Bool) → a.is_written ≡ t → QueuesStand (with_value slab place c) ready behind sent' spare
+      by true is =
+          let same = stood is in
+          subst (λ (q : Queue). QueuesStand (with_value slab place c) ready behind q spare) (sym same.1) (queues_still slab ready behind sent spare place a c was (to ∙ down_queued a b rest) (stays ∙ (noted ∙ sym is)) queues)
+      by false is = queues_written slab ready behind sent sent' spare place a c was (to ∙ down_queued a b rest) (pushed is) queues
+
+  -- one that couldn't be written down is the same
+  pub not_down : (a b : Session S) (answer : Bool) → answer ≡ b.is_written → answer ≡ false → (a.is_written ≡ true → b ≡ a) → b ≡ record a { is_written = b.is_written } → b ≡ a
+  not_down a b answer is not stood rest = by a.is_written refl
+    where
+      by : (t : Bool) → a.is_written ≡ t → b ≡ a
+      by true w = stood w
+      by false w = rest ∙ ap (λ t. record a { is_written = t }) (sym is ∙ (not ∙ sym w))
+
+  pub stood_from : (slab : Slab (Session S)) (ready behind behind' sent : Queue) (spare place : ℕ) (a b c : Session S) → b ≡ a → get slab place ≡ Some a → (b.is_queued ≡ true → (c ≡ b) × (behind' ≡ behind)) → (b.is_queued ≡ false → HasRoom behind → (c.is_queued ≡ true) × Pushes place behind behind') → c ≡ record b { is_queued = c.is_queued }
+      → QueuesStand slab ready behind sent spare → Stood slab ready behind' sent spare place a c
+  stood_from slab ready behind behind' sent spare place a b c same was stood stands rest queues =
+      stood_behind slab ready behind behind' sent spare place a c was (subst (λ (x : Session S). x.is_queued ≡ true → (c ≡ x) × (behind' ≡ behind)) same stood)
+      (subst (λ (x : Session S). x.is_queued ≡ false → HasRoom behind → (c.is_queued ≡ true) × Pushes place behind behind') same stands) (subst (λ (x : Session S). c ≡ record x { is_queued = c.is_queued }) same rest) queues
+
+  pub from_rest : (a b c : Session S) → b ≡ a → c ≡ record b { is_queued = c.is_queued } → c ≡ record a { is_queued = c.is_queued }
+  from_rest a b c same rest = subst (λ (x : Session S). c ≡ record x { is_queued = c.is_queued }) same rest
+
+  -- a closed session that is to have no turn
+  pub put_idle : (slab : Slab (Session S)) (place : ℕ) (a b : Session S) → get slab place ≡ Some a → IsStill a b → IsClosedAt slab place → b.is_queued ≡ false → IsIdleAt (with_value slab place b) place
+  put_idle slab place a b was still shut idle = (b, (written slab place a b was).changed, still.is_open ∙ shut_at slab place a was shut, idle)
+
+  -- the first place that is to have a turn is used
+  pub not_free : (slab : Slab (Session S)) (ready behind sent : Queue) (spare place : ℕ) (rest : List ℕ) → QueuesStand slab ready behind sent spare → ready.places.items ≡ place ∷ rest → get slab place ≡ None → ⊥
+  not_free slab ready behind sent spare place rest queues is none =
+      let at = queues.stands.marked place (subst (λ xs. Has (xs ++ behind.places.items) place) (sym is) (inl refl)) in no_value at.0 (sym none ∙ at.1)
+    where
+      no_value : (s : Session S) → None ≡ Some s → ⊥
+      no_value s e = absurd (cc)
+
+  set_twice : (slots : List (Option (Session S))) (place : ℕ) (a b : Option (Session S)) → set (set slots place a) place b ≡ set slots place b
+  set_twice [] place a b = refl
+  set_twice (x ∷ slots) zero a b = refl
+  set_twice (x ∷ slots) (suc place) a b = ap (λ xs. x ∷ xs) (set_twice slots place a b)
+
+  -- a session is put over another one at the same place, and a third one over it
+  pub put_twice : (slab : Slab (Session S)) (place : ℕ) (a b : Session S) → with_value (with_value slab place a) place b ≡ with_value slab place b
+  put_twice slab place a b = ap (λ xs. record slab { slots = xs }) (set_twice slab.slots place (Some a) (Some b))
+
+  pub put_over : (slab : Slab (Session S)) (place : ℕ) (a b : Session S) → get slab place ≡ Some a → get (with_value slab place b) place ≡ Some b
+  put_over slab place a b was = (written slab place a b was).changed
+
+  -- a queue with the same places and room
+  pub same_behind : (slab : Slab (Session S)) (ready behind behind' sent : Queue) (spare : ℕ) → behind'.places.items ≡ behind.places.items → deque_capacity behind'.places ≡ deque_capacity behind.places → QueuesStand slab ready behind sent spare → QueuesStand slab ready behind' sent spare
+  same_behind slab ready behind behind' sent spare items room queues = record {
+    stands = subst (λ xs. Stands slab (ready.places.items ++ xs) sent.places.items slab.capacity) (sym items) queues.stands;
+    ready_room = queues.ready_room;
+    behind_room = omega (arith, queues.behind_room, room);
+    fits = queues.fits;
+  }
+
+  -- ---- what is reported at a place
+
+  -- the session there has taken note of it
+  pub notes_at : (slab : Slab (Session S)) (news : Readiness) (place port : ℕ) (a d : Session S) → get slab place ≡ Some a → ((x : Port S) → slice_get a.ports.items port ≡ Some x → slice_get d.ports.items port ≡ Some (noted news x))
+      → (s : Session S) (x : Port S) → get slab place ≡ Some s → slice_get s.ports.items port ≡ Some x → HasNoted news port x (get (with_value slab place d) place)
+  notes_at slab news place port a d was notes s x is at =
+      subst (λ (o : Option (Session S)). HasNoted news port x o) (sym (written slab place a d was).changed) (notes x (subst (λ (y : Session S). slice_get y.ports.items port ≡ Some x) (some_same (get slab place) s a is was) at))
+
+  pub news_at : (slab : Slab (Session S)) (news : Readiness) (place port : ℕ) (a : Session S) (answer : Bool) → get slab place ≡ Some a → ((x : Port S) → slice_get a.ports.items port ≡ Some x → answer ≡ is_news news x)
+      → (s : Session S) (x : Port S) → get slab place ≡ Some s → slice_get s.ports.items port ≡ Some x → is_news news x ≡ true → answer ≡ true
+  news_at slab news place port a answer was says s x is at new = says x (subst (λ (y : Session S). slice_get y.ports.items port ≡ Some x) (some_same (get slab place) s a is was) at) ∙ new

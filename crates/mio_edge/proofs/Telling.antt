@@ -16,7 +16,7 @@ use Rattle.gate_hub.specs.declared.hub.LinkPut.TheVariants as put
 use Rattle.gate_hub.specs.declared.hub.Side.{Side}
 use Rattle.gate_hub.specs.declared.hub.Side.TheVariants as side
 use Rattle.mio_edge.specs.Wire.{Wire, Moves, Stays}
-use Rattle.mio_edge.specs.Sessions.{Links, AtPort}
+use Rattle.mio_edge.specs.Sessions.{Links, AtPort, named_links}
 use Rattle.mio_edge.specs.Tables.{World, AtSession, Shuts, Opens, MovesAt, empty_world}
 use Rattle.mio_edge.specs.Worlds.{ListeningTells, SocketsTell, HasStopped, EventMoves}
 use Rattle.mio_edge.specs.Numbers.{Numbers}
@@ -45,6 +45,8 @@ reads_follow into (got.Bytes n) x y x' step alike = (
     received = ap (λ xs. xs ++ take n into) alike.received ∙ sym (ap (λ (l : Link). l.received) step.1);
     sent = alike.sent ∙ sym (ap (λ (l : Link). l.sent) step.1);
     ended = alike.ended ∙ sym (ap (λ (l : Link). l.ended) step.1);
+    last_read = sym (ap (λ (l : Link). l.last_read) step.1);
+    last_write = alike.last_write ∙ sym (ap (λ (l : Link). l.last_write) step.1);
   },
 )
 reads_follow into got.NotReady x y x' step alike = (
@@ -54,6 +56,8 @@ reads_follow into got.NotReady x y x' step alike = (
     received = alike.received ∙ sym (ap (λ (l : Link). l.received) step.1);
     sent = alike.sent ∙ sym (ap (λ (l : Link). l.sent) step.1);
     ended = alike.ended ∙ sym (ap (λ (l : Link). l.ended) step.1);
+    last_read = sym (ap (λ (l : Link). l.last_read) step.1);
+    last_write = alike.last_write ∙ sym (ap (λ (l : Link). l.last_write) step.1);
   },
 )
 reads_follow into got.End x y x' step alike = (
@@ -63,6 +67,8 @@ reads_follow into got.End x y x' step alike = (
     received = alike.received ∙ sym (ap (λ (l : Link). l.received) step);
     sent = alike.sent ∙ sym (ap (λ (l : Link). l.sent) step);
     ended = sym (ap (λ (l : Link). l.ended) step);
+    last_read = sym (ap (λ (l : Link). l.last_read) step);
+    last_write = alike.last_write ∙ sym (ap (λ (l : Link). l.last_write) step);
   },
 )
 reads_follow into got.Failed x y x' step alike = (
@@ -72,6 +78,8 @@ reads_follow into got.Failed x y x' step alike = (
     received = alike.received ∙ sym (ap (λ (l : Link). l.received) step.1);
     sent = alike.sent ∙ sym (ap (λ (l : Link). l.sent) step.1);
     ended = alike.ended ∙ sym (ap (λ (l : Link). l.ended) step.1);
+    last_read = sym (ap (λ (l : Link). l.last_read) step.1);
+    last_write = alike.last_write ∙ sym (ap (λ (l : Link). l.last_write) step.1);
   },
 )
 
@@ -83,6 +91,8 @@ writes_follow from (put.Took n) x y x' step alike = (
     received = alike.received ∙ sym (ap (λ (l : Link). l.received) step);
     sent = ap (λ xs. xs ++ take n from) alike.sent ∙ sym (ap (λ (l : Link). l.sent) step);
     ended = alike.ended ∙ sym (ap (λ (l : Link). l.ended) step);
+    last_read = alike.last_read ∙ sym (ap (λ (l : Link). l.last_read) step);
+    last_write = sym (ap (λ (l : Link). l.last_write) step);
   },
 )
 writes_follow from put.NotReady x y x' step alike = (
@@ -92,6 +102,8 @@ writes_follow from put.NotReady x y x' step alike = (
     received = alike.received ∙ sym (ap (λ (l : Link). l.received) step);
     sent = alike.sent ∙ sym (ap (λ (l : Link). l.sent) step);
     ended = alike.ended ∙ sym (ap (λ (l : Link). l.ended) step);
+    last_read = alike.last_read ∙ sym (ap (λ (l : Link). l.last_read) step);
+    last_write = sym (ap (λ (l : Link). l.last_write) step);
   },
 )
 writes_follow from put.Failed x y x' step alike = (
@@ -101,6 +113,8 @@ writes_follow from put.Failed x y x' step alike = (
     received = alike.received ∙ sym (ap (λ (l : Link). l.received) step);
     sent = alike.sent ∙ sym (ap (λ (l : Link). l.sent) step);
     ended = alike.ended ∙ sym (ap (λ (l : Link). l.ended) step);
+    last_read = alike.last_read ∙ sym (ap (λ (l : Link). l.last_read) step);
+    last_write = sym (ap (λ (l : Link). l.last_write) step);
   },
 )
 
@@ -193,9 +207,13 @@ open_in : (told : Told) (links : Option Links) → Agrees told links → IsSome 
 open_in told None agrees some = absurd (cc)
 open_in told (Some links) agrees some = (agrees.0, agrees.1)
 
-reopened_agrees : (told : Told) (links : Option Links) → Agrees told links → IsSome links → Agrees (reopened told) links
-reopened_agrees told None agrees some = absurd (cc)
-reopened_agrees told (Some links) agrees some = (agrees.0, agrees.1, record { received = agrees.2.received; sent = agrees.2.sent; ended = agrees.2.ended }, record { received = agrees.3.received; sent = agrees.3.sent; ended = agrees.3.ended })
+reopened_agrees : (told : Told) (links : Links) → Agrees told (Some links) → Agrees (reopened told) (Some (named_links links))
+reopened_agrees told links agrees = (
+  agrees.0,
+  agrees.1,
+  record { received = agrees.2.received; sent = agrees.2.sent; ended = agrees.2.ended; last_read = refl; last_write = refl },
+  record { received = agrees.3.received; sent = agrees.3.sent; ended = agrees.3.ended; last_read = refl; last_write = refl },
+)
 
 module _ {W S : Type 0} (Is : Type 0) (tells : S → Wire → Type 0) where
   sockets_bytes : ((s : S) (wire : Wire) → tells s wire → AreBytes wire.received) → (sockets : Sockets W S) (world : World) → SocketsTell Is tells sockets world → (k : ℕ) (links : Links) → world k ≡ Some links → (p : ℕ) → AreBytes (links p).received
@@ -206,7 +224,7 @@ module _ {W S : Type 0} (Is : Type 0) (tells : S → Wire → Type 0) where
         where
           no_links : None ≡ Some links → ⊥
           no_links e = absurd (cc)
-      by (Some l) t = received_bytes tells are l.table.sessions l.table.entries.items l.table.closed.items l.table.spare.items world t.1 k links is p
+      by (Some l) t = received_bytes tells are l.table.sessions l.table.entries.items l.table.closed.items l.table.spare.items world t.1.0 k links is p
 
   pub call_leads : ((s : S) (wire : Wire) → tells s wire → AreBytes wire.received) → (a b : MioHub W S) (k : ℕ) (s : Side) (call : HubCall) (Step : Link → Link → Type 0) → Follows Step
       → MovesAt k (SocketsTell Is tells a.sockets) (SocketsTell Is tells b.sockets) (AtSession k (port_number s) Step) → b.sockets.announced ≡ a.sockets.announced → (HasStopped a.sockets → HasStopped b.sockets)
@@ -374,7 +392,7 @@ module _ {W S : Type 0} (Is : Type 0) (tells : S → Wire → Type 0) where
           )
         where
           sides : (j : ℕ) (d : (j ≡ k) ⊎ (j ≢ k)) (w : World) → Opens k told.world w → Agrees (pick d new_session (m.session j)) (w j)
-          sides j (inl e) w opens = subst (λ (o : Option Links). Agrees new_session o) (sym (ap w e ∙ opens.here)) (refl, refl, record { received = refl; sent = refl; ended = refl }, record { received = refl; sent = refl; ended = refl })
+          sides j (inl e) w opens = subst (λ (o : Option Links). Agrees new_session o) (sym (ap w e ∙ opens.here)) (refl, refl, record { received = refl; sent = refl; ended = refl; last_read = refl; last_write = refl }, record { received = refl; sent = refl; ended = refl; last_read = refl; last_write = refl })
           sides j (inr off) w opens = subst (λ (o : Option Links). Agrees (m.session j) o) (sym (opens.others j off)) (told.sessions.sides j)
 
           all : (j : ℕ) (d : (j ≡ k) ⊎ (j ≢ k)) → (pick d new_session (m.session j)).announced ≡ nat_lt j b.sockets.announced
@@ -387,8 +405,9 @@ module _ {W S : Type 0} (Is : Type 0) (tells : S → Wire → Type 0) where
           are j s (inr off) = told.sessions.bytes j s
       by (event.Ready k) last moves stops numbers =
           let moved = moves told.world told.sockets in
-          let open_is = open_in (m.session k) (told.world k) (told.sessions.sides k) moved.2.1 in
-          let matches = matches_with a.sockets.announced told.world moved.0 m k (reopened (m.session k)) told.sessions (λ j off. ap (λ (w : World). w j) moved.2.0) (subst (λ (w : World). Agrees (reopened (m.session k)) (w k)) (sym moved.2.0) (reopened_agrees (m.session k) (told.world k) (told.sessions.sides k) moved.2.1)) (told.sessions.announced k) (λ s. same_bytes s (m.session k) (told.sessions.bytes k s)) in (
+          let agrees : Agrees (m.session k) (Some moved.2.links) = subst (λ (o : Option Links). Agrees (m.session k) o) moved.2.was (told.sessions.sides k) in
+          let open_is = open_in (m.session k) (Some moved.2.links) agrees refl in
+          let matches = matches_with a.sockets.announced told.world moved.0 m k (reopened (m.session k)) told.sessions moved.2.others (subst (λ (o : Option Links). Agrees (reopened (m.session k)) o) (sym moved.2.now) (reopened_agrees (m.session k) moved.2.links agrees)) (told.sessions.announced k) (λ s. same_bytes s (m.session k) (told.sessions.bytes k s)) in (
             record (with_session k (reopened (m.session k)) m) { last_event = Some (event.Ready k); events = one_more m.events; calls = m.calls ++ Asked (event.Ready k) ∷ [] },
             record {
               world = moved.0;

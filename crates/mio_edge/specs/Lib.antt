@@ -5,5 +5,6 @@ pub mod Numbers
 pub mod Sessions
 pub mod Tables
 pub mod Telling
+pub mod Turns
 pub mod Wire
 pub mod Worlds

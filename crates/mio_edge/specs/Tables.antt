@@ -1,11 +1,14 @@
 -- What a table tells of the sessions that are open.
-use Rattle.std.specs.Prelude.{◌≡◌, ◌≢◌, ⊤, ℕ, ◌+◌, ◌<◌, ◌≤◌, ◌==◌, List, [], ◌∷◌, true, false, Option, None, Some, IsSome, if◌then◌else◌}
+use Rattle.std.specs.Prelude.{◌≡◌, ◌≢◌, ⊤, ℕ, ◌+◌, ◌<◌, ◌≤◌, ◌/◌, ◌%◌, ◌==◌, List, [], ◌∷◌, length, true, false, Option, None, Some, IsSome, IfSome, if◌then◌else◌}
 use Rattle.std.specs.List.{slice_get}
 use Rattle.std.specs.Global.{Vec}
-use Rattle.slab.specs.Slab.{Slab, get}
+use Rattle.slab.specs.Slab.{Slab, get, slab_len}
 use Rattle.gate_hub.specs.Meaning.{Link}
 use Rattle.mio_edge.specs.Wire.{Wire, Stays}
-use Rattle.mio_edge.specs.Sessions.{Links, SessionTells, PortsTell, AtPort, new_links}
+use Rattle.mio_edge.specs.Moving.{noted, is_news}
+use Rattle.mio_edge.specs.Sessions.{Links, SessionTells, PortsTell, AtPort, new_links, named_links}
+use Rattle.mio_edge.specs.Turns.{IsIdleAt, IsQueuedAt, TableStands}
+use Rattle.mio_edge.specs.declared.network.Readiness.{Readiness}
 use Rattle.mio_edge.specs.declared.port.Port.{Port}
 use Rattle.mio_edge.specs.declared.session.Session.{Session}
 use Rattle.mio_edge.specs.declared.table.Entry.{Entry}
@@ -62,12 +65,21 @@ pub record Tells {S : Type 0} (tells : S → Wire → Type 0) (sessions : Slab (
   pub closed : (n place : ℕ) → slice_get places n ≡ Some place → IsClosedAt sessions place
   pub spare : (n : ℕ) → SpareTells tells (slice_get free n)
 
+-- what a table tells: its open sessions. Its queues hold those that are to have a turn.
 abbrev pub TableTells : {S : Type 0} → (S → Wire → Type 0) → Table S → World → Type 0
-TableTells tells table world = Tells tells table.sessions table.entries.items table.closed.items table.spare.items world
+TableTells tells table world = Tells tells table.sessions table.entries.items table.closed.items table.spare.items world × TableStands table
 
--- a place without an open session stays so, and what was told is told still
-abbrev pub KeepsClosed : {S : Type 0} → (S → Wire → Type 0) → ℕ → Table S → Table S → Type 0
-KeepsClosed tells place a b = IsClosedAt a.sessions place → IsClosedAt b.sessions place × Stays (TableTells tells a) (TableTells tells b)
+-- a session that is at rest stays so, and what was told is told still
+abbrev pub KeepsIdle : {S : Type 0} → (S → Wire → Type 0) → ℕ → Table S → Table S → Type 0
+KeepsIdle tells place a b = IsIdleAt a.sessions place → IsIdleAt b.sessions place × Stays (TableTells tells a) (TableTells tells b)
+
+-- the same where there is room for one session more
+abbrev pub HasVacancy : {S : Type 0} → (S → Wire → Type 0) → Table S → World → Type 0
+HasVacancy tells table world = TableTells tells table world × (slab_len table.sessions + (length table.spare.items + 1) ≤ table.sessions.capacity)
+
+-- this entry stands there
+abbrev pub IsEntry : {S : Type 0} → Table S → ℕ → Entry → Type 0
+IsEntry table at entry = slice_get table.entries.items at ≡ Some entry
 
 -- session k is prepared at this place: nothing went over it, and it is neither open nor closed
 pub record IsPrepared {S : Type 0} (tells : S → Wire → Type 0) (table : Table S) (place k : ℕ) : Type 0 where
@@ -75,6 +87,7 @@ pub record IsPrepared {S : Type 0} (tells : S → Wire → Type 0) (table : Tabl
   pub stands : get table.sessions place ≡ Some session
   pub number : session.number ≡ k
   pub shut : session.is_open ≡ false
+  pub quiet : session.is_queued ≡ false
   pub links : SessionTells tells session new_links
   pub new : (n : ℕ) → slice_get table.closed.items n ≢ Some place
 
@@ -97,6 +110,18 @@ pub record Opens (k : ℕ) (a b : World) : Type 0 where
   pub here : b k ≡ Some new_links
   pub others : (j : ℕ) → j ≢ k → b j ≡ a j
 
+-- session k, which is open, has its turn: nothing was asked of it since, and no other session has changed
+pub record Names (k : ℕ) (a b : World) : Type 0 where
+  pub links : Links
+  pub was : a k ≡ Some links
+  pub now : b k ≡ Some (named_links links)
+  pub others : (j : ℕ) → j ≢ k → b j ≡ a j
+
+-- the same where there may be no session that has a turn
+abbrev pub NamesIfAny : Option ℕ → World → World → Type 0
+NamesIfAny (Some k) a b = Names k a b
+NamesIfAny None a b = b ≡ a
+
 -- of a call at session k, which is open
 abbrev pub MovesAt : ℕ → (World → Type 0) → (World → Type 0) → (World → World → Type 0) → Type 0
 MovesAt k old new Step = (a : World) → old a → IsSome (a k) → ((b : World) × new b × Step a b)
@@ -105,6 +130,28 @@ MovesAt k old new Step = (a : World) → old a → IsSome (a k) → ((b : World)
 abbrev pub Announces : ℕ → (World → Type 0) → (World → Type 0) → Type 0
 Announces k old new = (a : World) → old a → ((j : ℕ) → IsSome (a j) → j < k) → ((b : World) × new b × Opens k a b)
 
+-- the table announces it
+abbrev pub TableAnnounces : {S : Type 0} → (S → Wire → Type 0) → ℕ → Table S → Table S → Type 0
+TableAnnounces tells k a b = Announces k (TableTells tells a) (TableTells tells b)
+
+-- session k is prepared at the place, if there is one
+abbrev pub IfPrepared : {S : Type 0} → (S → Wire → Type 0) → ℕ → Option ℕ → Table S → Type 0
+IfPrepared tells k place table = IfSome place (λ p. IsPrepared tells table p k)
+
 -- a session that isn't open, over whose ports nothing went
 abbrev pub IsNew : {S : Type 0} → (S → Wire → Type 0) → Session S → Type 0
-IsNew tells session = (session.is_open ≡ false) × SessionTells tells session new_links
+IsNew tells session = (session.is_open ≡ false) × SessionTells tells session new_links × (session.is_queued ≡ false) × (session.is_written ≡ false)
+
+-- the port of the session has taken note of this
+abbrev pub HasNoted : {S : Type 0} → Readiness → ℕ → Port S → Option (Session S) → Type 0
+HasNoted news port x None = ⊥
+HasNoted news port x (Some session) = slice_get session.ports.items port ≡ Some (noted news x)
+
+-- What is reported of a port of the session at a place is noted there, and the session is to have a turn if that is news.
+pub record NotesAt {S : Type 0} (tells : S → Wire → Type 0) (news : Readiness) (place port : ℕ) (a b : Table S) : Type 0 where
+  pub notes : (s : Session S) (x : Port S) → get a.sessions place ≡ Some s → slice_get s.ports.items port ≡ Some x → HasNoted news port x (get b.sessions place)
+  pub named : (s : Session S) (x : Port S) → get a.sessions place ≡ Some s → slice_get s.ports.items port ≡ Some x → is_news news x ≡ true → (world : World) → TableTells tells a world → IsQueuedAt b.sessions place
+
+-- what is reported at a token: place and port are in it
+abbrev pub NotesToken : {S : Type 0} → (S → Wire → Type 0) → ℕ → Readiness → Table S → Table S → Type 0
+NotesToken tells token news a b = 0 < a.width → NotesAt tells news (token / a.width) (token % a.width) a b

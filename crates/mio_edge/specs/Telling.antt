@@ -17,11 +17,13 @@ abbrev pub port_number : Side → ℕ
 port_number side.Client = 0
 port_number side.Upstream = 1
 
--- the same bytes and the same end, whatever the last answers were
+-- the same bytes, end and last answers
 pub record Alike (a b : Link) : Type 0 where
   pub received : b.received ≡ a.received
   pub sent : b.sent ≡ a.sent
   pub ended : b.ended ≡ a.ended
+  pub last_read : b.last_read ≡ a.last_read
+  pub last_write : b.last_write ≡ a.last_write
 
 -- a session as it is told, and its links where it is open
 abbrev pub Agrees : Told → Option Links → Type 0

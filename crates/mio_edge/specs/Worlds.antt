@@ -2,8 +2,8 @@
 use Rattle.std.specs.Prelude.{◌≡◌, ℕ, ◌+◌, ◌<◌, ◌≤◌, true, Option, None, Some, IsSome}
 use Rattle.gate_hub.specs.declared.hub.HubNext.{HubNext}
 use Rattle.gate_hub.specs.declared.hub.HubNext.TheVariants as event
-use Rattle.mio_edge.specs.Wire.{Wire, Moves}
-use Rattle.mio_edge.specs.Tables.{World, TableTells, Opens}
+use Rattle.mio_edge.specs.Wire.{Wire, Moves, Stays}
+use Rattle.mio_edge.specs.Tables.{World, TableTells, Opens, Names, MovesAt}
 use Rattle.mio_edge.specs.declared.listening.Connecting.TheVariants as connecting
 use Rattle.mio_edge.specs.declared.listening.Listening.{Listening}
 use Rattle.mio_edge.specs.declared.sockets.Sockets.{Sockets}
@@ -21,10 +21,26 @@ pub record SocketsTell {W S : Type 0} (IsTelling : Type 0) (tells : S → Wire �
   pub sessions : ListeningTells tells sockets.listening world
   pub below : (k : ℕ) → IsSome (world k) → k < sockets.announced
 
+-- what the sockets told is told still
+abbrev pub SocketsStay : {W S : Type 0} → Type 0 → (S → Wire → Type 0) → Sockets W S → Sockets W S → Type 0
+SocketsStay Is tells a b = Stays (SocketsTell Is tells a) (SocketsTell Is tells b)
+
+-- what they told has moved so
+abbrev pub SocketsMove : {W S : Type 0} → Type 0 → (S → Wire → Type 0) → (World → World → Type 0) → Sockets W S → Sockets W S → Type 0
+SocketsMove Is tells Step a b = Moves (SocketsTell Is tells a) (SocketsTell Is tells b) Step
+
+-- the same at session k, which is open
+abbrev pub SocketsMoveAt : {W S : Type 0} → Type 0 → (S → Wire → Type 0) → ℕ → (World → World → Type 0) → Sockets W S → Sockets W S → Type 0
+SocketsMoveAt Is tells k Step a b = MovesAt k (SocketsTell Is tells a) (SocketsTell Is tells b) Step
+
+-- they tell that no session is open
+abbrev pub NoneOpen : {W S : Type 0} → Type 0 → (S → Wire → Type 0) → Sockets W S → Type 0
+NoneOpen Is tells sockets = (world : World) → SocketsTell Is tells sockets world → (k : ℕ) → world k ≡ None
+
 -- what an event does to the open sessions
 abbrev pub EventMoves : HubNext → World → World → Type 0
 EventMoves (event.Opened k) a b = Opens k a b
-EventMoves (event.Ready k) a b = (b ≡ a) × IsSome (a k)
+EventMoves (event.Ready k) a b = Names k a b
 EventMoves event.Stopped a b = b ≡ a
 EventMoves event.Failed a b = b ≡ a
 

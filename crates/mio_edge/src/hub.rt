@@ -5,7 +5,7 @@ ghost use Rattle.gate_base.specs.Causes.{Rose};
 ghost use Rattle.gate_hub.specs.Hubs.{HasStarted, Later, Leads, NextLeads, NotStarted, StartLeads, started_with};
 ghost use Rattle.gate_hub.specs.declared.hub.Began.TheVariants as began;
 ghost use Rattle.gate_hub.specs.declared.hub.HubNext.TheVariants as event;
-ghost use Rattle.mio_edge.specs.Counting.{side_counts, counts_in};
+ghost use Rattle.mio_edge.specs.Counting.{FaultRose, WaitRose, counts_in};
 ghost use Rattle.mio_edge.specs.Numbers.{Numbers};
 ghost use Rattle.mio_edge.specs.Telling.{HubTells, HubLeads, port_number};
 
@@ -69,8 +69,8 @@ impl<W: Network> MioHub<W> {
     fn count_got(&mut self, side: Side, got: LinkGot)
         ensures sockets { self.new.sockets ≡ self.old.sockets }
         ensures later { Later (counts_in self.old) (counts_in self.new) }
-        ensures cause { got ≡ LinkGot.Failed → Rose (side_counts self.old.client self.old.upstream side).faults (side_counts self.new.client self.new.upstream side).faults }
-        ensures wait { got ≡ LinkGot.NotReady → Rose (side_counts self.old.client self.old.upstream side).waits (side_counts self.new.client self.new.upstream side).waits }
+        ensures cause { got ≡ LinkGot.Failed → FaultRose side self.old self.new }
+        ensures wait { got ≡ LinkGot.NotReady → WaitRose side self.old self.new }
     {
         match got {
             LinkGot::Failed => self.count_fault(side),
@@ -83,8 +83,8 @@ impl<W: Network> MioHub<W> {
     fn count_put(&mut self, side: Side, put: LinkPut)
         ensures sockets { self.new.sockets ≡ self.old.sockets }
         ensures later { Later (counts_in self.old) (counts_in self.new) }
-        ensures cause { put ≡ LinkPut.Failed → Rose (side_counts self.old.client self.old.upstream side).faults (side_counts self.new.client self.new.upstream side).faults }
-        ensures wait { put ≡ LinkPut.NotReady → Rose (side_counts self.old.client self.old.upstream side).waits (side_counts self.new.client self.new.upstream side).waits }
+        ensures cause { put ≡ LinkPut.Failed → FaultRose side self.old self.new }
+        ensures wait { put ≡ LinkPut.NotReady → WaitRose side self.old self.new }
     {
         match put {
             LinkPut::Failed => self.count_fault(side),
@@ -97,7 +97,7 @@ impl<W: Network> MioHub<W> {
     fn count_fault(&mut self, side: Side)
         ensures sockets { self.new.sockets ≡ self.old.sockets }
         ensures later { Later (counts_in self.old) (counts_in self.new) }
-        ensures cause { Rose (side_counts self.old.client self.old.upstream side).faults (side_counts self.new.client self.new.upstream side).faults }
+        ensures cause { FaultRose side self.old self.new }
     {
         match side {
             Side::Client => self.client.faults = self.client.faults.saturating_add(1),
@@ -109,7 +109,7 @@ impl<W: Network> MioHub<W> {
     fn count_wait(&mut self, side: Side)
         ensures sockets { self.new.sockets ≡ self.old.sockets }
         ensures later { Later (counts_in self.old) (counts_in self.new) }
-        ensures cause { Rose (side_counts self.old.client self.old.upstream side).waits (side_counts self.new.client self.new.upstream side).waits }
+        ensures cause { WaitRose side self.old self.new }
     {
         match side {
             Side::Client => self.client.waits = self.client.waits.saturating_add(1),

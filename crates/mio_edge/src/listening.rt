@@ -1,7 +1,8 @@
 //! The sessions of a server that listens, and its wait for what comes of them.
-ghost use Rattle.std.specs.Prelude.{◌≡◌, ◌≢◌, [], ℕ, true, false};
+ghost use Rattle.std.specs.Prelude.{◌≡◌, ◌≢◌, [], ℕ, None, true, false};
 ghost use Rattle.mio_edge.specs.Wire.{Stays, new_wire};
-ghost use Rattle.mio_edge.specs.Tables.{TableTells, IsPrepared, IsClosedAt, KeepsClosed, Announces};
+ghost use Rattle.mio_edge.specs.Moving.{IsBegun};
+ghost use Rattle.mio_edge.specs.Tables.{TableTells, IsPrepared, IsClosedAt, KeepsIdle, TableAnnounces};
 
 use crate::Stream;
 use crate::network::{Accepted, Network, Waited};
@@ -97,7 +98,7 @@ impl<S: Stream> Listening<S> {
     /// Accepts the next connection that waits, as this session, and begins one to each target, or has
     /// it begun later. It says whether there is a new session. An accept that fails is passed over.
     pub(crate) fn accept<W: Network<Stream = S>>(&mut self, network: &mut W, number: u64) -> bool
-        ensures opens { result ≡ true → W.is_telling → Announces number (TableTells S.tells self.old.table) (TableTells S.tells self.new.table) }
+        ensures opens { result ≡ true → W.is_telling → TableAnnounces S.tells number self.old.table self.new.table }
         ensures kept { result ≡ false → Stays (TableTells S.tells self.old.table) (TableTells S.tells self.new.table) }
         ensures connecting { self.new.connecting ≡ self.old.connecting }
     {
@@ -117,7 +118,7 @@ impl<S: Stream> Listening<S> {
 
     // Makes a session of a connection.
     fn admit<W: Network<Stream = S>>(&mut self, network: &mut W, number: u64, client: S) -> bool
-        ensures opens { result ≡ true → W.is_telling → S.tells client new_wire → Announces number (TableTells S.tells self.old.table) (TableTells S.tells self.new.table) }
+        ensures opens { result ≡ true → W.is_telling → S.tells client new_wire → TableAnnounces S.tells number self.old.table self.new.table }
         ensures kept { result ≡ false → Stays (TableTells S.tells self.old.table) (TableTells S.tells self.new.table) }
         ensures connecting { self.new.connecting ≡ self.old.connecting }
     {
@@ -139,7 +140,7 @@ impl<S: Stream> Listening<S> {
     // first write to each. It says whether the client has one.
     fn link<W: Network<Stream = S>>(&mut self, network: &mut W, place: usize, client: S) -> bool
         ensures prepared { (k : ℕ) → W.is_telling → S.tells client new_wire → IsPrepared S.tells self.old.table place k → IsPrepared S.tells self.new.table place k }
-        ensures keeps { KeepsClosed S.tells place self.old.table self.new.table }
+        ensures keeps { KeepsIdle S.tells place self.old.table self.new.table }
         ensures connecting { self.new.connecting ≡ self.old.connecting }
     {
         if self.connecting == Connecting::OnDemand {
@@ -162,9 +163,9 @@ impl<S: Stream> Listening<S> {
         mut stream: S,
         sending: Sending,
     ) -> bool
-        requires { sending ≢ Sending.Lost }
+        requires { IsBegun sending }
         ensures prepared { (k : ℕ) → S.tells stream new_wire → IsPrepared S.tells self.old.table place k → IsPrepared S.tells self.new.table place k }
-        ensures keeps { KeepsClosed S.tells place self.old.table self.new.table }
+        ensures keeps { KeepsIdle S.tells place self.old.table self.new.table }
         ensures connecting { self.new.connecting ≡ self.old.connecting }
     {
         let token = self.table.token(place, port);
@@ -174,7 +175,7 @@ impl<S: Stream> Listening<S> {
     // Begins a connection to each target. A port whose connection can't be begun stays without one.
     fn connect_all<W: Network<Stream = S>>(&mut self, network: &mut W, place: usize)
         ensures prepared { (k : ℕ) → W.is_telling → IsPrepared S.tells self.old.table place k → IsPrepared S.tells self.new.table place k }
-        ensures keeps { KeepsClosed S.tells place self.old.table self.new.table }
+        ensures keeps { KeepsIdle S.tells place self.old.table self.new.table }
         ensures connecting { self.new.connecting ≡ self.old.connecting }
     {
         for at in 0..self.targets.len() {
@@ -190,7 +191,7 @@ impl<S: Stream> Listening<S> {
         port: usize,
     ) -> bool
         ensures prepared { (k : ℕ) → W.is_telling → IsPrepared S.tells self.old.table place k → IsPrepared S.tells self.new.table place k }
-        ensures keeps { KeepsClosed S.tells place self.old.table self.new.table }
+        ensures keeps { KeepsIdle S.tells place self.old.table self.new.table }
         ensures connecting { self.new.connecting ≡ self.old.connecting }
     {
         let Some(target) = self.targets.get(port.wrapping_sub(1)) else {
@@ -238,6 +239,8 @@ impl<S: Stream> Listening<S> {
     // Waits until something is reported, and says whether that failed. It doesn't wait where a session
     // is to have a turn behind the others, or a connection may be accepted.
     fn wait<W: Network<Stream = S>>(&mut self, network: &mut W) -> bool
+        requires sent { self.old.table.written.places.items ≡ [] }
+        requires turned { self.old.table.ready.places.items ≡ [] }
         ensures keeps { Stays (TableTells S.tells self.old.table) (TableTells S.tells self.new.table) }
         ensures connecting { self.new.connecting ≡ self.old.connecting }
     {
@@ -277,7 +280,9 @@ impl<S: Stream> Listening<S> {
     }
 
     // The longest time to wait: none for as long as it takes.
-    fn timeout(&self) -> Option<Duration> {
+    fn timeout(&self) -> Option<Duration>
+        ensures { result ≡ None → self.now.table.behind.places.items ≡ [] }
+    {
         if self.table.has_behind() {
             return Some(Duration::ZERO);
         }

@@ -34,6 +34,8 @@ impl Stream for TcpStream {
     }
 
     ghost bytes = { λ stream wire told. absurd told };
+
+    ghost hears = { λ stream wire r w told. absurd told };
 }
 
 // A connection that isn't there yet isn't ready.

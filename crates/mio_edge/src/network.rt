@@ -1,6 +1,7 @@
 //! What the sockets of a server stand on: a listener, connections to targets, and the wait for what comes of them.
-ghost use Rattle.std.specs.Prelude.{◌≡◌, IfSome};
+ghost use Rattle.std.specs.Prelude.{◌≡◌, ℕ, IfSome};
 ghost use Rattle.mio_edge.specs.Wire.{Stays, IfCame, new_wire};
+ghost use Rattle.mio_edge.specs.declared.network.Readiness.{Readiness};
 
 use crate::Stream;
 use gate_hub::Began;
@@ -43,9 +44,13 @@ pub trait Reports {
     /// What reports may do to it.
     ghost goes: { Self → Self → Type 0 };
 
+    /// What a report at this token does to it.
+    ghost notes: { ℕ → Readiness → Self → Self → Type 0 };
+
     /// Something came of the connection that is watched by this token.
     fn report(&mut self, token: usize, news: Readiness)
-        ensures { goes self.old self.new };
+        ensures goes { goes self.old self.new }
+        ensures notes { notes token news self.old self.new };
 
     /// No report does nothing.
     ghost stays: { (a : Self) → goes a a };

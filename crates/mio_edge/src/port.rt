@@ -1,9 +1,10 @@
 //! One connection of a session: its stream, what is known of its readiness, and its two buffers.
-ghost use Rattle.std.specs.Prelude.{◌≡◌, ◌≢◌, false, ◌<◌, ◌≤◌, [], ◌++◌, length, take, None, Some, IsSome, IfOk};
+ghost use Rattle.std.specs.Prelude.{◌≡◌, ◌⊎◌, true, false, ◌<◌, ◌≤◌, [], ◌++◌, length, take, None, IsSome, IfOk};
 ghost use Rattle.gate_hub.specs.Hubs.{GotWithin, TookWithin, LinkReads, LinkWrites};
-ghost use Rattle.gate_hub.specs.Meaning.{new_link};
+ghost use Rattle.gate_hub.specs.Meaning.{Link, new_link};
 ghost use Rattle.mio_edge.specs.Wire.{Moves, Stays, new_wire};
-ghost use Rattle.mio_edge.specs.Moving.{PortTells, IsOver, Finds, Notes, HasSent, TakesIn, after_failure};
+ghost use Rattle.mio_edge.specs.Moving.{PortTells, PortHears, IsOver, Finds, Notes, HasSent, TakesIn, after_failure};
+ghost use Rattle.mio_edge.specs.Moving.{IsCalm, IsBegun, IsFull, IsUnsent, CanRead, CanWrite, after_news, then_sending, begins_receiving, begins_sending, is_news, noted};
 
 use crate::Stream;
 use crate::network::Readiness;
@@ -24,6 +25,27 @@ enum Receiving {
     Lost,
 }
 
+impl Receiving {
+    // The same once this was reported. A failure shows at the next read.
+    fn after(self, news: Readiness) -> Receiving
+        ensures { result ≡ after_news news self }
+    {
+        let is_over = news.is_closing || news.has_failed;
+        match self {
+            Receiving::Idle | Receiving::Ready if is_over => Receiving::Closing,
+            Receiving::Idle if news.is_readable => Receiving::Ready,
+            same => same,
+        }
+    }
+
+    // Whether something may be read by then that couldn't be before.
+    fn begins(self, news: Readiness) -> bool
+        ensures { result ≡ begins_receiving news self }
+    {
+        self == Receiving::Idle && (news.is_readable || news.is_closing || news.has_failed)
+    }
+}
+
 // Whether the stream takes bytes: it is begun at the first write, not so far, it may, its end was
 // told to the peer, or the stream failed.
 #[derive(Clone, Copy, PartialEq, Eq)]
@@ -33,6 +55,25 @@ pub(crate) enum Sending {
     Ready,
     Shut,
     Lost,
+}
+
+impl Sending {
+    // The same once this was reported. A failure shows at the next write.
+    fn after(self, news: Readiness) -> Sending
+        ensures { result ≡ then_sending news self }
+    {
+        match self {
+            Sending::Blocked if news.is_writable || news.has_failed => Sending::Ready,
+            same => same,
+        }
+    }
+
+    // Whether something may be written by then that couldn't be before.
+    fn begins(self, news: Readiness) -> bool
+        ensures { result ≡ begins_sending news self }
+    {
+        self == Sending::Blocked && (news.is_writable || news.has_failed)
+    }
 }
 
 /// How far the end of a closed port has come: bytes are to be sent still, more than one read of what
@@ -78,7 +119,7 @@ impl<S: Stream> Port<S> {
 
     /// Gives the port a connection, over which nothing went.
     pub(crate) fn attach(&mut self, stream: S, sending: Sending)
-        requires { sending ≢ Sending.Lost }
+        requires { IsBegun sending }
         ensures { S.tells stream new_wire → PortTells S.tells self.new new_link }
     {
         self.stream = Some(stream);
@@ -88,23 +129,31 @@ impl<S: Stream> Port<S> {
         self.outgoing.clear();
     }
 
-    /// Has the connection begun at the first write. Until then nothing can be read.
+    /// Has the connection begun at the first write, where there is none. Until then nothing can be read.
     pub(crate) fn defer(&mut self)
-        ensures { Stays (PortTells S.tells self.old) (PortTells S.tells self.new) }
+        ensures keeps { Stays (PortTells S.tells self.old) (PortTells S.tells self.new) }
+        ensures calm { IsCalm self.old self.new }
     {
-        self.sending = Sending::Deferred;
+        if self.stream.is_none() {
+            self.sending = Sending::Deferred;
+        }
     }
 
     /// Whether the connection is to be begun at the first write.
-    pub(crate) fn is_deferred(&self) -> bool {
+    pub(crate) fn is_deferred(&self) -> bool
+        ensures { result ≡ true → self.now.sending ≡ Sending.Deferred }
+    {
         self.sending == Sending::Deferred
     }
 
     /// Lets the connection be no more begun.
     pub(crate) fn give_up(&mut self)
-        ensures { Stays (PortTells S.tells self.old) (PortTells S.tells self.new) }
+        ensures keeps { Stays (PortTells S.tells self.old) (PortTells S.tells self.new) }
+        ensures calm { IsCalm self.old self.new }
     {
-        self.sending = Sending::Blocked;
+        if self.is_deferred() {
+            self.sending = Sending::Blocked;
+        }
     }
 
     /// Lets the connection go, with all that the buffers hold.
@@ -119,32 +168,27 @@ impl<S: Stream> Port<S> {
 
     /// Takes note of what was reported, and says whether it is news to a caller that waits.
     pub(crate) fn report(&mut self, news: Readiness) -> bool
-        ensures { Stays (PortTells S.tells self.old) (PortTells S.tells self.new) }
+        ensures notes { self.new ≡ noted news self.old }
+        ensures hears { (link : Link) → PortTells S.tells self.old link → PortHears S.tells news self.new link }
+        ensures news { result ≡ is_news news self.old }
     {
-        let is_over = news.is_closing || news.has_failed;
-        let mut is_news = news.has_failed;
-        if self.receiving == Receiving::Idle && (news.is_readable || is_over) {
-            self.receiving = Receiving::Ready;
-            is_news = true;
-        }
-        if self.receiving == Receiving::Ready && is_over {
-            self.receiving = Receiving::Closing;
-        }
-        if self.sending == Sending::Blocked && (news.is_writable || news.has_failed) {
-            self.sending = Sending::Ready;
-            is_news = true;
-        }
+        let is_news = news.has_failed || self.receiving.begins(news) || self.sending.begins(news);
+        self.receiving = self.receiving.after(news);
+        self.sending = self.sending.after(news);
         is_news
     }
 
     /// Whether bytes that were written are to be sent still.
-    pub(crate) fn has_unsent(&self) -> bool {
+    pub(crate) fn has_unsent(&self) -> bool
+        ensures { result ≡ false → IsUnsent self.now → ⊥ }
+    {
         self.sending != Sending::Lost && !self.outgoing.bytes().is_empty()
     }
 
     /// Whether the connection failed or never came to be.
     pub(crate) fn is_gone(&self) -> bool
-        ensures { result ≡ false → IsSome self.now.stream }
+        ensures here { result ≡ false → IsSome self.now.stream }
+        ensures gone { result ≡ true → (self.now.stream ≡ None) ⊎ (self.now.sending ≡ Sending.Lost) }
     {
         self.sending == Sending::Lost || self.stream.is_none()
     }
@@ -161,6 +205,8 @@ impl<S: Stream> Port<S> {
         requires { 0 < length into.old }
         ensures within { GotWithin into.new result }
         ensures leads { Moves (PortTells S.tells self.old) (PortTells S.tells self.new) (LinkReads into.new result) }
+        ensures waits { result ≡ LinkGot.NotReady → CanRead self.new → ⊥ }
+        ensures calm { (CanWrite self.new → CanWrite self.old) × (IsUnsent self.new → IsUnsent self.old) }
     {
         if !self.incoming.bytes().is_empty() {
             return LinkGot::Bytes(hand_out(&mut self.incoming, into));
@@ -177,6 +223,8 @@ impl<S: Stream> Port<S> {
         requires { 0 < length from.now }
         ensures within { TookWithin from.now result }
         ensures leads { Moves (PortTells S.tells self.old) (PortTells S.tells self.new) (LinkWrites from.now result) }
+        ensures waits { result ≡ LinkPut.NotReady → CanWrite self.new → ⊥ }
+        ensures calm { CanRead self.new → CanRead self.old }
     {
         self.make_room();
         if self.is_gone() {
@@ -187,7 +235,9 @@ impl<S: Stream> Port<S> {
 
     // Sends what was written where no room is left for more.
     fn make_room(&mut self)
-        ensures { Stays (PortTells S.tells self.old) (PortTells S.tells self.new) }
+        ensures keeps { Stays (PortTells S.tells self.old) (PortTells S.tells self.new) }
+        ensures full { IsFull self.new → CanWrite self.new → ⊥ }
+        ensures calm { IsCalm self.old self.new }
     {
         if self.outgoing.spare() == 0 {
             self.send();
@@ -196,7 +246,9 @@ impl<S: Stream> Port<S> {
 
     /// Sends what was written, where there is some, and says whether the connection failed in that.
     pub(crate) fn send_unsent(&mut self) -> bool
-        ensures { Stays (PortTells S.tells self.old) (PortTells S.tells self.new) }
+        ensures keeps { Stays (PortTells S.tells self.old) (PortTells S.tells self.new) }
+        ensures sent { IsUnsent self.new → ⊥ }
+        ensures calm { IsCalm self.old self.new }
     {
         if !self.has_unsent() {
             return false;
@@ -209,6 +261,7 @@ impl<S: Stream> Port<S> {
     pub(crate) fn send(&mut self)
         ensures keeps { Stays (PortTells S.tells self.old) (PortTells S.tells self.new) }
         ensures sent { HasSent self.new }
+        ensures calm { IsCalm self.old self.new }
     {
         if self.sending != Sending::Ready || self.outgoing.bytes().is_empty() {
             return;
@@ -265,6 +318,7 @@ impl<S: Stream> Port<S> {
         requires empty { self.old.incoming.bytes ≡ [] }
         ensures finds { Finds result self.new }
         ensures keeps { Stays (PortTells S.tells self.old) (PortTells S.tells self.new) }
+        ensures calm { (CanWrite self.new → CanWrite self.old) × (IsUnsent self.new → IsUnsent self.old) }
     {
         let Some(stream) = &mut self.stream else {
             return LinkGot::Failed;
@@ -274,6 +328,9 @@ impl<S: Stream> Port<S> {
             Receiving::Ended => return LinkGot::End,
             Receiving::Lost => return LinkGot::Failed,
             Receiving::Ready | Receiving::Closing => (),
+        }
+        if self.incoming.spare() == 0 {
+            return LinkGot::NotReady;
         }
         let got = receive_from(stream, &mut self.incoming);
         self.note(got);
@@ -327,6 +384,7 @@ fn take_in(held: &mut Out, from: &[u8]) -> LinkPut
     requires { 0 < length from.now }
     ensures within { TookWithin from.now result }
     ensures bytes { TakesIn result from.now held.old held.new }
+    ensures full { result ≡ LinkPut.NotReady → held.old.room ≤ length held.old.bytes }
 {
     let count = from.len().min(held.spare());
     if count == 0 {

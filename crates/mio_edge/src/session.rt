@@ -1,8 +1,13 @@
 //! A session: its ports, and how much it may still move before the others have their turn.
-ghost use Rattle.std.specs.Prelude.{◌≡◌, ◌≢◌, ◌<◌, length, false};
+ghost use Rattle.std.specs.Prelude.{◌≡◌, ◌⊎◌, ◌<◌, ◌==◌, ℕ, length, true, false, Some};
+ghost use Rattle.std.specs.List.{slice_get};
 ghost use Rattle.gate_hub.specs.Hubs.{GotWithin, TookWithin, LinkReads, LinkWrites};
 ghost use Rattle.mio_edge.specs.Wire.{Moves, Stays, new_wire};
-ghost use Rattle.mio_edge.specs.Sessions.{SessionTells, PortsTell, AtPort, IsSame, new_links};
+ghost use Rattle.mio_edge.specs.Moving.{IsBegun, is_news, noted};
+ghost use Rattle.mio_edge.specs.Sessions.{SessionTells, PortsTell, AtPort, IsStill, IsUnsentAt, new_links};
+ghost use Rattle.mio_edge.specs.Sessions.{PortsAre, Calms, Flushes, TellsUnsent, MayWait, MayWrite};
+ghost use Rattle.mio_edge.specs.Turns.{HasRoom, Pushes};
+ghost use Rattle.mio_edge.specs.declared.port.Port.{Port};
 
 use crate::Stream;
 use crate::network::Readiness;
@@ -31,6 +36,7 @@ impl<S: Stream> Session<S> {
         ensures number { result.number ≡ number }
         ensures closed { result.is_open ≡ false }
         ensures ports { result.ports ≡ ports }
+        ensures idle { (result.is_queued ≡ false) × (result.is_written ≡ false) }
     {
         Session {
             number,
@@ -44,9 +50,9 @@ impl<S: Stream> Session<S> {
 
     /// Gives a port a connection. It says whether there is such a port.
     pub(crate) fn attach(&mut self, port: usize, stream: S, sending: Sending) -> bool
-        requires { sending ≢ Sending.Lost }
+        requires { IsBegun sending }
         ensures begins { SessionTells S.tells self.old new_links → S.tells stream new_wire → SessionTells S.tells self.new new_links }
-        ensures same { IsSame self.old self.new }
+        ensures still { IsStill self.old self.new }
     {
         match self.ports.get_mut(port) {
             Some(port) => {
@@ -60,7 +66,7 @@ impl<S: Stream> Session<S> {
     /// Has all connections begun at the first write to each.
     pub(crate) fn defer(&mut self)
         ensures keeps { Stays (SessionTells S.tells self.old) (SessionTells S.tells self.new) }
-        ensures same { IsSame self.old self.new }
+        ensures still { IsStill self.old self.new }
     {
         defer_all(&mut self.ports);
     }
@@ -76,7 +82,7 @@ impl<S: Stream> Session<S> {
     /// Lets a port have no connection: what is written to it fails.
     pub(crate) fn give_up(&mut self, port: usize)
         ensures keeps { Stays (SessionTells S.tells self.old) (SessionTells S.tells self.new) }
-        ensures same { IsSame self.old self.new }
+        ensures still { IsStill self.old self.new }
     {
         if let Some(port) = self.ports.get_mut(port) {
             port.give_up();
@@ -85,8 +91,11 @@ impl<S: Stream> Session<S> {
 
     /// Takes note of what was reported of a port, and says whether it is news.
     pub(crate) fn report(&mut self, port: usize, news: Readiness) -> bool
-        ensures keeps { Stays (SessionTells S.tells self.old) (SessionTells S.tells self.new) }
-        ensures same { IsSame self.old self.new }
+        ensures notes { (x : Port S) → slice_get self.old.ports.items port ≡ Some x → slice_get self.new.ports.items port ≡ Some (noted news x) }
+        ensures news { (x : Port S) → slice_get self.old.ports.items port ≡ Some x → result ≡ is_news news x }
+        ensures keeps { Stays (PortsTell S.tells self.old.ports.items) (PortsTell S.tells self.new.ports.items) }
+        ensures calm { result ≡ false → Stays (SessionTells S.tells self.old) (SessionTells S.tells self.new) }
+        ensures still { IsStill self.old self.new }
     {
         match self.ports.get_mut(port) {
             Some(port) => port.report(news),
@@ -97,8 +106,9 @@ impl<S: Stream> Session<S> {
     /// Puts the session, which stands at this place, into a queue of those that are to have a turn, if it
     /// stands in none.
     pub(crate) fn stand_in(&mut self, queue: &mut Queue, place: usize)
-        ensures ports { self.new.ports ≡ self.old.ports }
-        ensures same { IsSame self.old self.new }
+        ensures was { self.old.is_queued ≡ true → (self.new ≡ self.old) × (queue.new ≡ queue.old) }
+        ensures stands { self.old.is_queued ≡ false → HasRoom queue.old → (self.new.is_queued ≡ true) × Pushes place queue.old queue.new }
+        ensures rest { self.new ≡ record self.old { is_queued = self.new.is_queued } }
     {
         if !self.is_queued {
             self.is_queued = queue.push(place);
@@ -106,26 +116,32 @@ impl<S: Stream> Session<S> {
     }
 
     /// Puts the session, which stands at this place, into the queue of those whose writes are to be sent,
-    /// if some are and it doesn't stand there.
-    pub(crate) fn resend(&mut self, queue: &mut Queue, place: usize)
-        ensures ports { self.new.ports ≡ self.old.ports }
-        ensures same { IsSame self.old self.new }
+    /// if it doesn't stand there. It says whether it does then.
+    pub(crate) fn write_down(&mut self, queue: &mut Queue, place: usize) -> bool
+        ensures written { result ≡ self.new.is_written }
+        ensures was { self.old.is_written ≡ true → (self.new ≡ self.old) × (queue.new ≡ queue.old) }
+        ensures stands { self.old.is_written ≡ false → result ≡ true → Pushes place queue.old queue.new }
+        ensures kept { result ≡ false → queue.new ≡ queue.old }
+        ensures rest { self.new ≡ record self.old { is_written = self.new.is_written } }
     {
-        if !self.is_written && self.has_unsent() {
+        if !self.is_written {
             self.is_written = queue.push(place);
         }
+        self.is_written
     }
 
     /// Begins a turn of the session, in which it may read and write so many bytes.
     pub(crate) fn begin_turn(&mut self, allowance: usize)
-        ensures keeps { Stays (SessionTells S.tells self.old) (SessionTells S.tells self.new) }
-        ensures same { IsSame self.old self.new }
+        ensures ports { self.new.ports ≡ self.old.ports }
+        ensures still { IsStill self.old self.new }
     {
         self.allowance = allowance;
     }
 
     /// Whether it moved all that it may in this turn.
-    pub(crate) fn is_spent(&self) -> bool {
+    pub(crate) fn is_spent(&self) -> bool
+        ensures { result ≡ (self.now.allowance == 0) }
+    {
         self.allowance == 0
     }
 
@@ -133,8 +149,8 @@ impl<S: Stream> Session<S> {
     pub(crate) fn read(&mut self, port: usize, into: &mut [u8]) -> LinkGot
         requires { 0 < length into.old }
         ensures within { GotWithin into.new result }
-        ensures leads { Moves (SessionTells S.tells self.old) (SessionTells S.tells self.new) (AtPort port (LinkReads into.new result)) }
-        ensures same { IsSame self.old self.new }
+        ensures leads { MayWait self.old → Moves (SessionTells S.tells self.old) (SessionTells S.tells self.new) (AtPort port (LinkReads into.new result)) }
+        ensures still { IsStill self.old self.new }
     {
         let Some(port) = self.ports.get_mut(port) else {
             return LinkGot::Failed;
@@ -153,8 +169,8 @@ impl<S: Stream> Session<S> {
     pub(crate) fn write(&mut self, port: usize, from: &[u8]) -> LinkPut
         requires { 0 < length from.now }
         ensures within { TookWithin from.now result }
-        ensures leads { Moves (SessionTells S.tells self.old) (SessionTells S.tells self.new) (AtPort port (LinkWrites from.now result)) }
-        ensures same { IsSame self.old self.new }
+        ensures leads { MayWrite self.old → Moves (SessionTells S.tells self.old) (SessionTells S.tells self.new) (AtPort port (LinkWrites from.now result)) }
+        ensures still { IsStill self.old self.new }
     {
         let Some(port) = self.ports.get_mut(port) else {
             return LinkPut::Failed;
@@ -170,7 +186,9 @@ impl<S: Stream> Session<S> {
     }
 
     /// Whether bytes that were written are to be sent still.
-    pub(crate) fn has_unsent(&self) -> bool {
+    pub(crate) fn has_unsent(&self) -> bool
+        ensures { result ≡ false → (p : ℕ) → IsUnsentAt (slice_get self.now.ports.items p) → ⊥ }
+    {
         for port in &self.ports {
             if port.has_unsent() {
                 return true;
@@ -181,8 +199,8 @@ impl<S: Stream> Session<S> {
 
     /// Sends what was written, and says whether a connection failed in that.
     pub(crate) fn send(&mut self) -> bool
-        ensures keeps { Stays (SessionTells S.tells self.old) (SessionTells S.tells self.new) }
-        ensures same { IsSame self.old self.new }
+        ensures keeps { Stays (TellsUnsent S.tells self.old) (SessionTells S.tells self.new) }
+        ensures still { IsStill self.old self.new }
     {
         send_all(&mut self.ports)
     }
@@ -190,7 +208,7 @@ impl<S: Stream> Session<S> {
     /// Goes on with the end of the session once it is closed, and says how far the port that is the
     /// furthest back has come.
     pub(crate) fn wind_up(&mut self) -> Rest
-        ensures { IsSame self.old self.new }
+        ensures { IsStill self.old self.new }
     {
         let mut rest = Rest::Gone;
         for port in self.ports.iter_mut() {
@@ -209,7 +227,7 @@ impl<S: Stream> Session<S> {
 }
 
 fn defer_all<S: Stream>(ports: &mut [Port<S>])
-    ensures { Stays (PortsTell S.tells ports.old) (PortsTell S.tells ports.new) }
+    ensures { PortsAre (Calms S.tells) ports.old ports.new }
 {
     for port in ports.iter_mut() {
         port.defer();
@@ -218,7 +236,7 @@ fn defer_all<S: Stream>(ports: &mut [Port<S>])
 
 // Sends what was written to each of the ports, and says whether a connection failed in that.
 fn send_all<S: Stream>(ports: &mut [Port<S>]) -> bool
-    ensures { Stays (PortsTell S.tells ports.old) (PortsTell S.tells ports.new) }
+    ensures { PortsAre (Flushes S.tells) ports.old ports.new }
 {
     let mut has_failed = false;
     for port in ports.iter_mut() {

@@ -6,9 +6,8 @@ ghost use Rattle.gate_hub.specs.declared.hub.Began.TheVariants as began;
 ghost use Rattle.gate_hub.specs.declared.hub.HubNext.TheVariants as event;
 ghost use Rattle.gate_hub.specs.Hubs.{LinkReads, LinkWrites};
 ghost use Rattle.mio_edge.specs.Numbers.{Numbers, NumbersIfAny};
-ghost use Rattle.mio_edge.specs.Wire.{Moves, Stays};
-ghost use Rattle.mio_edge.specs.Tables.{World, AtSession, Shuts, Opens, MovesAt, empty_world};
-ghost use Rattle.mio_edge.specs.Worlds.{SocketsTell, OpensNext, EventMoves, EventMovesIfAny, HasStopped};
+ghost use Rattle.mio_edge.specs.Tables.{AtSession, Shuts, NamesIfAny, empty_world};
+ghost use Rattle.mio_edge.specs.Worlds.{SocketsStay, SocketsMove, SocketsMoveAt, NoneOpen, OpensNext, EventMoves, EventMovesIfAny, HasStopped};
 
 use crate::listening::{Connecting, Listening};
 use crate::mio_network::MioNetwork;
@@ -107,8 +106,8 @@ impl<W: Network> Sockets<W> {
         accept: u64,
         sessions: usize,
     ) -> Began
-        ensures begins { result ≡ began.Done → Moves (SocketsTell W.is_telling W.Stream.tells self.old) (SocketsTell W.is_telling W.Stream.tells self.new) (λ a b. b ≡ empty_world) }
-        ensures keeps { result ≢ began.Done → Stays (SocketsTell W.is_telling W.Stream.tells self.old) (SocketsTell W.is_telling W.Stream.tells self.new) }
+        ensures begins { result ≡ began.Done → SocketsMove W.is_telling W.Stream.tells (λ a b. b ≡ empty_world) self.old self.new }
+        ensures keeps { result ≢ began.Done → SocketsStay W.is_telling W.Stream.tells self.old self.new }
         ensures announced { self.new.announced ≡ self.old.announced }
         ensures accept { result ≡ began.Done → self.new.accept ≡ accept }
         ensures kept { result ≢ began.Done → self.new.accept ≡ self.old.accept }
@@ -142,8 +141,8 @@ impl<W: Network> Sockets<W> {
         upstreams: &[Text],
         sessions: usize,
     ) -> Result<Began, OutOfMemory>
-        ensures begins { result ≡ Ok began.Done → Moves (SocketsTell W.is_telling W.Stream.tells self.old) (SocketsTell W.is_telling W.Stream.tells self.new) (λ a b. b ≡ empty_world) }
-        ensures keeps { result ≢ Ok began.Done → Stays (SocketsTell W.is_telling W.Stream.tells self.old) (SocketsTell W.is_telling W.Stream.tells self.new) }
+        ensures begins { result ≡ Ok began.Done → SocketsMove W.is_telling W.Stream.tells (λ a b. b ≡ empty_world) self.old self.new }
+        ensures keeps { result ≢ Ok began.Done → SocketsStay W.is_telling W.Stream.tells self.old self.new }
         ensures announced { self.new.announced ≡ self.old.announced }
         ensures accept { self.new.accept ≡ self.old.accept }
         ensures faults { self.new.faults ≡ self.old.faults }
@@ -176,8 +175,8 @@ impl<W: Network> Sockets<W> {
     /// nothing came of them. `Failed`: the count of `start` and `next` rose; the
     /// system refused to wait, or the last number was given.
     pub fn next(&mut self) -> HubNext
-        ensures moves { Moves (SocketsTell W.is_telling W.Stream.tells self.old) (SocketsTell W.is_telling W.Stream.tells self.new) (EventMoves result) }
-        ensures over { result ≡ event.Stopped → self.old.has_stopped ≡ false → (world : World) → SocketsTell W.is_telling W.Stream.tells self.old world → (k : ℕ) → world k ≡ None }
+        ensures moves { SocketsMove W.is_telling W.Stream.tells (EventMoves result) self.old self.new }
+        ensures over { result ≡ event.Stopped → self.old.has_stopped ≡ false → NoneOpen W.is_telling W.Stream.tells self.old }
         ensures still { HasStopped self.old → result ≡ event.Stopped }
         ensures told { result ≡ event.Stopped → HasStopped self.new }
         ensures numbers { Numbers result self.old.announced self.new.announced }
@@ -205,7 +204,7 @@ impl<W: Network> Sockets<W> {
     pub fn read(&mut self, k: u64, port: usize, into: &mut [u8]) -> LinkGot
         requires { 0 < length into.old }
         ensures within { GotWithin into.new result }
-        ensures leads { MovesAt k (SocketsTell W.is_telling W.Stream.tells self.old) (SocketsTell W.is_telling W.Stream.tells self.new) (AtSession k port (LinkReads into.new result)) }
+        ensures leads { SocketsMoveAt W.is_telling W.Stream.tells k (AtSession k port (LinkReads into.new result)) self.old self.new }
         ensures stopped { self.new.has_stopped ≡ self.old.has_stopped }
         ensures announced { self.new.announced ≡ self.old.announced }
         ensures accept { self.new.accept ≡ self.old.accept }
@@ -226,7 +225,7 @@ impl<W: Network> Sockets<W> {
     pub fn write(&mut self, k: u64, port: usize, from: &[u8]) -> LinkPut
         requires { 0 < length from.now }
         ensures within { TookWithin from.now result }
-        ensures leads { MovesAt k (SocketsTell W.is_telling W.Stream.tells self.old) (SocketsTell W.is_telling W.Stream.tells self.new) (AtSession k port (LinkWrites from.now result)) }
+        ensures leads { SocketsMoveAt W.is_telling W.Stream.tells k (AtSession k port (LinkWrites from.now result)) self.old self.new }
         ensures stopped { self.new.has_stopped ≡ self.old.has_stopped }
         ensures announced { self.new.announced ≡ self.old.announced }
         ensures accept { self.new.accept ≡ self.old.accept }
@@ -243,7 +242,7 @@ impl<W: Network> Sockets<W> {
 
     /// Closes session k. What was written to it is sent still, and its peers see the end behind it.
     pub fn close(&mut self, k: u64)
-        ensures leads { MovesAt k (SocketsTell W.is_telling W.Stream.tells self.old) (SocketsTell W.is_telling W.Stream.tells self.new) (Shuts k) }
+        ensures leads { SocketsMoveAt W.is_telling W.Stream.tells k (Shuts k) self.old self.new }
         ensures stopped { self.new.has_stopped ≡ self.old.has_stopped }
         ensures announced { self.new.announced ≡ self.old.announced }
         ensures accept { self.new.accept ≡ self.old.accept }
@@ -256,8 +255,8 @@ impl<W: Network> Sockets<W> {
 
     // A step towards the next event: none where there is to be another.
     fn advance(&mut self) -> Option<HubNext>
-        ensures moves { Moves (SocketsTell W.is_telling W.Stream.tells self.old) (SocketsTell W.is_telling W.Stream.tells self.new) (EventMovesIfAny result) }
-        ensures over { result ≡ Some event.Stopped → (world : World) → SocketsTell W.is_telling W.Stream.tells self.old world → (k : ℕ) → world k ≡ None }
+        ensures moves { SocketsMove W.is_telling W.Stream.tells (EventMovesIfAny result) self.old self.new }
+        ensures over { result ≡ Some event.Stopped → NoneOpen W.is_telling W.Stream.tells self.old }
         ensures told { result ≡ Some event.Stopped → HasStopped self.new }
         ensures numbers { NumbersIfAny result self.old.announced self.new.announced }
         ensures stopped { result ≡ Some event.Stopped → (0 < self.new.accept) × (self.new.accept ≤ self.new.announced) }
@@ -281,8 +280,8 @@ impl<W: Network> Sockets<W> {
     // A step once no more connections are accepted.
     fn finish(&mut self) -> Option<HubNext>
         requires { (0 < self.old.accept) × (self.old.accept ≤ self.old.announced) }
-        ensures moves { Moves (SocketsTell W.is_telling W.Stream.tells self.old) (SocketsTell W.is_telling W.Stream.tells self.new) (EventMovesIfAny result) }
-        ensures over { result ≡ Some event.Stopped → (world : World) → SocketsTell W.is_telling W.Stream.tells self.old world → (k : ℕ) → world k ≡ None }
+        ensures moves { SocketsMove W.is_telling W.Stream.tells (EventMovesIfAny result) self.old self.new }
+        ensures over { result ≡ Some event.Stopped → NoneOpen W.is_telling W.Stream.tells self.old }
         ensures told { result ≡ Some event.Stopped → HasStopped self.new }
         ensures numbers { NumbersIfAny result self.old.announced self.new.announced }
         ensures accept { self.new.accept ≡ self.old.accept }
@@ -298,8 +297,8 @@ impl<W: Network> Sockets<W> {
 
     // Lets the listener go, and says whether all is over.
     fn is_over(&mut self) -> bool
-        ensures keeps { Stays (SocketsTell W.is_telling W.Stream.tells self.old) (SocketsTell W.is_telling W.Stream.tells self.new) }
-        ensures over { result ≡ true → (world : World) → SocketsTell W.is_telling W.Stream.tells self.old world → (k : ℕ) → world k ≡ None }
+        ensures keeps { SocketsStay W.is_telling W.Stream.tells self.old self.new }
+        ensures over { result ≡ true → NoneOpen W.is_telling W.Stream.tells self.old }
         ensures announced { self.new.announced ≡ self.old.announced }
         ensures accept { self.new.accept ≡ self.old.accept }
         ensures faults { self.new.faults ≡ self.old.faults }
@@ -315,7 +314,7 @@ impl<W: Network> Sockets<W> {
 
     // Sends what the sessions wrote, where these are many.
     fn send_where_many(&mut self)
-        ensures keeps { Stays (SocketsTell W.is_telling W.Stream.tells self.old) (SocketsTell W.is_telling W.Stream.tells self.new) }
+        ensures keeps { SocketsStay W.is_telling W.Stream.tells self.old self.new }
         ensures announced { self.new.announced ≡ self.old.announced }
         ensures accept { self.new.accept ≡ self.old.accept }
         ensures faults { self.new.faults ≡ self.old.faults }
@@ -328,7 +327,7 @@ impl<W: Network> Sockets<W> {
     // Accepts the next connection, if there is one, as the session of the next number.
     fn accept_next(&mut self) -> bool
         ensures opens { result ≡ true → OpensNext W.is_telling W.Stream.tells self.old self.new }
-        ensures keeps { result ≡ false → Stays (SocketsTell W.is_telling W.Stream.tells self.old) (SocketsTell W.is_telling W.Stream.tells self.new) }
+        ensures keeps { result ≡ false → SocketsStay W.is_telling W.Stream.tells self.old self.new }
         ensures announced { self.new.announced ≡ self.old.announced }
         ensures accept { self.new.accept ≡ self.old.accept }
         ensures faults { self.new.faults ≡ self.old.faults }
@@ -341,8 +340,7 @@ impl<W: Network> Sockets<W> {
 
     // The number of the session that is to have a turn next.
     fn next_named(&mut self) -> Option<u64>
-        ensures keeps { Stays (SocketsTell W.is_telling W.Stream.tells self.old) (SocketsTell W.is_telling W.Stream.tells self.new) }
-        ensures found { (world : World) → SocketsTell W.is_telling W.Stream.tells self.old world → IfSome result (λ k. IsSome (world k)) }
+        ensures names { SocketsMove W.is_telling W.Stream.tells (NamesIfAny result) self.old self.new }
         ensures announced { self.new.announced ≡ self.old.announced }
         ensures accept { self.new.accept ≡ self.old.accept }
         ensures faults { self.new.faults ≡ self.old.faults }
@@ -355,7 +353,7 @@ impl<W: Network> Sockets<W> {
 
     // Sends what was written and waits, where no session is to have a turn. It says whether that failed.
     fn rest(&mut self) -> bool
-        ensures keeps { Stays (SocketsTell W.is_telling W.Stream.tells self.old) (SocketsTell W.is_telling W.Stream.tells self.new) }
+        ensures keeps { SocketsStay W.is_telling W.Stream.tells self.old self.new }
         ensures announced { self.new.announced ≡ self.old.announced }
         ensures accept { self.new.accept ≡ self.old.accept }
         ensures faults { self.new.faults ≡ self.old.faults }
@@ -379,7 +377,7 @@ impl<W: Network> Sockets<W> {
 
     // A session that is to have a turn: none after a wait.
     fn ready(&mut self) -> Option<HubNext>
-        ensures moves { Moves (SocketsTell W.is_telling W.Stream.tells self.old) (SocketsTell W.is_telling W.Stream.tells self.new) (EventMovesIfAny result) }
+        ensures moves { SocketsMove W.is_telling W.Stream.tells (EventMovesIfAny result) self.old self.new }
         ensures numbers { NumbersIfAny result self.old.announced self.new.announced }
         ensures running { result ≢ Some event.Stopped }
         ensures announced { self.new.announced ≡ self.old.announced }
@@ -401,7 +399,7 @@ impl<W: Network> Sockets<W> {
 
     // Fails, and counts that.
     fn fails(&mut self) -> HubNext
-        ensures keeps { Stays (SocketsTell W.is_telling W.Stream.tells self.old) (SocketsTell W.is_telling W.Stream.tells self.new) }
+        ensures keeps { SocketsStay W.is_telling W.Stream.tells self.old self.new }
         ensures result { result ≡ event.Failed }
         ensures announced { self.new.announced ≡ self.old.announced }
         ensures accept { self.new.accept ≡ self.old.accept }

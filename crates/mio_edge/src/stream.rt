@@ -1,8 +1,8 @@
 //! A connection that is read and written without waiting, and how the buffers of a port move over it.
-ghost use Rattle.std.specs.Prelude.{◌≡◌, ◌<◌, [], length};
+ghost use Rattle.std.specs.Prelude.{◌≡◌, ◌<◌, [], length, Bool};
 ghost use Rattle.gate_base.specs.Bytes.{AreBytes};
 ghost use Rattle.gate_hub.specs.Hubs.{GotWithin, TookWithin};
-ghost use Rattle.mio_edge.specs.Wire.{Wire, Moves, WireReads, WireWrites, WireShuts};
+ghost use Rattle.mio_edge.specs.Wire.{Wire, Moves, WireReads, WireWrites, WireShuts, heard};
 ghost use Rattle.mio_edge.specs.Moving.{Receives, Sends};
 
 use gate_hub::{LinkGot, LinkPut};
@@ -19,7 +19,7 @@ pub trait Stream: Drop {
     fn receive(&mut self, into: &mut [u8]) -> LinkGot
         requires { 0 < length into.old }
         ensures within { GotWithin into.new result }
-        ensures moves { Moves (tells self.old) (tells self.new) (WireReads into.new result) };
+        ensures moves { Moves (tells self.old) (tells self.new) (WireReads (length into.old) into.new result) };
 
     /// Writes the front of a slice that isn't empty.
     ///
@@ -35,18 +35,19 @@ pub trait Stream: Drop {
 
     /// What it tells that was received consists of bytes.
     ghost bytes: { (stream : Self) (wire : Wire) → tells stream wire → AreBytes wire.received };
+
+    /// That it is readable or writable may be reported at any time.
+    ghost hears: { (stream : Self) (wire : Wire) (r w : Bool) → tells stream wire → tells stream (heard r w wire) };
 }
 
-/// Reads once into all the room of a buffer that is empty.
+/// Reads once into all the room of a buffer that is empty. It has some.
 pub(crate) fn receive_from<S: Stream>(stream: &mut S, buffer: &mut Out) -> LinkGot
     requires empty { buffer.old.bytes ≡ [] }
+    requires room { 0 < buffer.old.room }
     ensures some { Receives result buffer.old buffer.new }
-    ensures moves { Moves (S.tells stream.old) (S.tells stream.new) (WireReads buffer.new.bytes result) }
+    ensures moves { Moves (S.tells stream.old) (S.tells stream.new) (WireReads buffer.old.room buffer.new.bytes result) }
 {
     let room = buffer.spare();
-    if room == 0 {
-        return LinkGot::NotReady;
-    }
     let got = stream.receive(buffer.tail(room));
     match got {
         LinkGot::Bytes(count) => buffer.cut(count),

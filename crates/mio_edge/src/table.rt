@@ -1,10 +1,14 @@
 //! The sessions of a server by their places, and the queues of those that are to have a turn.
-ghost use Rattle.std.specs.Prelude.{◌≡◌, ◌≢◌, ◌<◌, ◌==◌, not, [], ℕ, length, true, false, None, Some, IsSome, IfSome, IfOk};
+ghost use Rattle.std.specs.Prelude.{◌≡◌, ◌≢◌, ◌<◌, ◌==◌, ◌≤◌, ◌∷◌, ◌++◌, not, [], ℕ, drop, length, true, false, None, Some, IsSome, IfSome, IfOk};
 ghost use Rattle.std.specs.List.{slice_get, filter};
 ghost use Rattle.gate_hub.specs.Hubs.{GotWithin, TookWithin, LinkReads, LinkWrites};
 ghost use Rattle.mio_edge.specs.Wire.{Moves, Stays, new_wire};
-ghost use Rattle.mio_edge.specs.Tables.{World, TableTells, IsNew, IsPrepared, IsClosedAt, AtSession, Shuts, Announces, MovesAt, RisesFrom, SpareTells, place_of, empty_world};
+ghost use Rattle.mio_edge.specs.Tables.{World, TableTells, IsNew, IsPrepared, IsClosedAt, AtSession, Shuts, MovesAt, RisesFrom, SpareTells, place_of, empty_world};
+ghost use Rattle.mio_edge.specs.Tables.{IfPrepared, TableAnnounces};
+ghost use Rattle.mio_edge.specs.Tables.{HasVacancy, IsEntry, NamesIfAny, NotesToken};
+ghost use Rattle.mio_edge.specs.Moving.{IsBegun};
 ghost use Rattle.mio_edge.specs.Sessions.{PortsTell, new_links};
+ghost use Rattle.mio_edge.specs.Turns.{IsIdleAt, TakesFirst, turns_of};
 
 use crate::Stream;
 use crate::network::{Readiness, Reports};
@@ -77,12 +81,13 @@ impl<S: Stream> Table<S> {
         } else {
             BUFFERS
         };
-        let ready = Queue::open(alloc, places)?;
-        let behind = Queue::open(alloc, places)?;
-        let written = Queue::open(alloc, places)?;
+        let sessions = Slab::with_capacity(alloc, places)?;
+        let room = sessions.capacity();
+        let ready = Queue::open(alloc, room)?;
+        let behind = Queue::open(alloc, room)?;
+        let written = Queue::open(alloc, room)?;
         let entries = Vec::with_capacity(alloc, places)?;
         let closed = Vec::with_capacity(alloc, places)?;
-        let sessions = Slab::with_capacity(alloc, places)?;
         let spare = open_places(alloc, places, width, quantum)?;
         Ok(Table {
             width,
@@ -126,7 +131,9 @@ impl<S: Stream> Table<S> {
     }
 
     /// Whether a session waits for a turn behind those that are reported next.
-    pub(crate) fn has_behind(&self) -> bool {
+    pub(crate) fn has_behind(&self) -> bool
+        ensures { result ≡ false → self.now.behind.places.items ≡ [] }
+    {
         !self.behind.is_empty()
     }
 
@@ -134,7 +141,7 @@ impl<S: Stream> Table<S> {
     /// for its peers' ends gives up. Its ports have no connections yet, and it isn't open.
     pub(crate) fn begin(&mut self, number: u64) -> Option<usize>
         ensures keeps { Stays (TableTells S.tells self.old) (TableTells S.tells self.new) }
-        ensures prepared { (world : World) → TableTells S.tells self.old world → IfSome result (λ place. IsPrepared S.tells self.new place number) }
+        ensures prepared { (world : World) → TableTells S.tells self.old world → IfPrepared S.tells number result self.new }
     {
         self.make_place();
         let ports = self.spare.pop()?;
@@ -152,8 +159,8 @@ impl<S: Stream> Table<S> {
 
     // Puts a session that isn't open at a place of its own.
     fn insert(&mut self, session: Session<S>) -> Option<usize>
-        ensures keeps { session.is_open ≡ false → Stays (TableTells S.tells self.old) (TableTells S.tells self.new) }
-        ensures prepared { IsNew S.tells session → (world : World) → TableTells S.tells self.old world → IfSome result (λ place. IsPrepared S.tells self.new place session.number) }
+        ensures keeps { IsNew S.tells session → Stays (HasVacancy S.tells self.old) (TableTells S.tells self.new) }
+        ensures prepared { IsNew S.tells session → (world : World) → HasVacancy S.tells self.old world → IfPrepared S.tells session.number result self.new }
     {
         self.sessions.insert(session).ok()
     }
@@ -165,9 +172,9 @@ impl<S: Stream> Table<S> {
 
     /// Gives a port of the session at a place its connection. It says whether there is such a port.
     pub(crate) fn attach(&mut self, place: usize, port: usize, stream: S, sending: Sending) -> bool
-        requires { sending ≢ Sending.Lost }
-        ensures keeps { IsClosedAt self.old.sessions place → Stays (TableTells S.tells self.old) (TableTells S.tells self.new) }
-        ensures closed { IsClosedAt self.old.sessions place → IsClosedAt self.new.sessions place }
+        requires { IsBegun sending }
+        ensures keeps { IsIdleAt self.old.sessions place → Stays (TableTells S.tells self.old) (TableTells S.tells self.new) }
+        ensures idle { IsIdleAt self.old.sessions place → IsIdleAt self.new.sessions place }
         ensures prepared { (k : ℕ) → S.tells stream new_wire → IsPrepared S.tells self.old place k → IsPrepared S.tells self.new place k }
     {
         match self.sessions.get_mut(place) {
@@ -179,7 +186,7 @@ impl<S: Stream> Table<S> {
     /// Has the connections of the session at a place begun at the first write to each.
     pub(crate) fn defer(&mut self, place: usize)
         ensures prepared { (k : ℕ) → IsPrepared S.tells self.old place k → IsPrepared S.tells self.new place k }
-        ensures closed { IsClosedAt self.old.sessions place → IsClosedAt self.new.sessions place }
+        ensures idle { IsIdleAt self.old.sessions place → IsIdleAt self.new.sessions place }
         ensures keeps { Stays (TableTells S.tells self.old) (TableTells S.tells self.new) }
     {
         if let Some(session) = self.sessions.get_mut(place) {
@@ -209,7 +216,7 @@ impl<S: Stream> Table<S> {
 
     /// Opens the session at a place: it is found by its number from now on, which is above all others.
     pub(crate) fn announce(&mut self, number: u64, place: usize) -> bool
-        ensures opens { result ≡ true → IsPrepared S.tells self.old place number → Announces number (TableTells S.tells self.old) (TableTells S.tells self.new) }
+        ensures opens { result ≡ true → IsPrepared S.tells self.old place number → TableAnnounces S.tells number self.old self.new }
         ensures kept { result ≡ false → self.new ≡ self.old }
     {
         if self.entries.len() >= self.entries.capacity() {
@@ -223,9 +230,10 @@ impl<S: Stream> Table<S> {
         true
     }
 
-    /// Lets the sessions that were to have a turn behind the others have it now.
+    /// Lets the sessions that were to have a turn behind the others have it now, in their order.
     pub(crate) fn recall(&mut self)
-        ensures { Stays (TableTells S.tells self.old) (TableTells S.tells self.new) }
+        ensures keeps { Stays (TableTells S.tells self.old) (TableTells S.tells self.new) }
+        ensures order { (world : World) → TableTells S.tells self.old world → self.new.ready.places.items ≡ turns_of self.old }
     {
         for _ in 0..self.behind.len() {
             let Some(place) = self.behind.pop() else {
@@ -236,29 +244,31 @@ impl<S: Stream> Table<S> {
     }
 
     /// Whether a session is to have a turn before the next wait.
-    pub(crate) fn has_ready(&self) -> bool {
+    pub(crate) fn has_ready(&self) -> bool
+        ensures { result ≡ false → self.now.ready.places.items ≡ [] }
+    {
         !self.ready.is_empty()
     }
 
     /// The number of the next open session that is to have a turn.
     pub(crate) fn next_ready(&mut self) -> Option<u64>
-        ensures keeps { Stays (TableTells S.tells self.old) (TableTells S.tells self.new) }
-        ensures found { (world : World) → TableTells S.tells self.old world → IfSome result (λ k. IsSome (world k)) }
+        ensures first { TakesFirst result self.old self.new }
+        ensures names { Moves (TableTells S.tells self.old) (TableTells S.tells self.new) (NamesIfAny result) }
     {
         for _ in 0..self.ready.len() {
-            let place = self.ready.pop()?;
-            if let Some(number) = self.begin_turn(place) {
+            if let Some(number) = self.turn_first() {
                 return Some(number);
             }
         }
         None
     }
 
-    // Begins the turn of the session at a place. A closed one has it here.
-    fn begin_turn(&mut self, place: usize) -> Option<u64>
-        ensures keeps { Stays (TableTells S.tells self.old) (TableTells S.tells self.new) }
-        ensures found { (world : World) → TableTells S.tells self.old world → IfSome result (λ k. IsSome (world k)) }
+    // Begins the turn of the first session that is to have one. A closed one has it here.
+    fn turn_first(&mut self) -> Option<u64>
+        ensures first { TakesFirst result self.old self.new }
+        ensures names { Moves (TableTells S.tells self.old) (TableTells S.tells self.new) (NamesIfAny result) }
     {
+        let place = self.ready.pop()?;
         let session = self.sessions.get_mut(place)?;
         session.is_queued = false;
         if !session.is_open {
@@ -267,8 +277,15 @@ impl<S: Stream> Table<S> {
         }
         session.begin_turn(self.quantum);
         self.turning = place;
-        session.resend(&mut self.written, place);
-        Some(session.number)
+        let number = session.number;
+        if !session.has_unsent() {
+            return Some(number);
+        }
+        if session.write_down(&mut self.written, place) {
+            return Some(number);
+        }
+        session.stand_in(&mut self.behind, place);
+        Some(number)
     }
 
     /// Sends what the sessions wrote, where these are many.
@@ -282,19 +299,22 @@ impl<S: Stream> Table<S> {
 
     /// Sends what the sessions wrote. One whose connection fails in that is to have a turn.
     pub(crate) fn send(&mut self)
-        ensures { Stays (TableTells S.tells self.old) (TableTells S.tells self.new) }
+        ensures keeps { Stays (TableTells S.tells self.old) (TableTells S.tells self.new) }
+        ensures sent { self.new.written.places.items ≡ [] }
     {
         for _ in 0..self.written.len() {
-            let Some(place) = self.written.pop() else {
-                return;
-            };
-            self.send_at(place);
+            self.send_first();
         }
     }
 
-    fn send_at(&mut self, place: usize)
-        ensures { Stays (TableTells S.tells self.old) (TableTells S.tells self.new) }
+    // Sends what the first of them wrote.
+    fn send_first(&mut self)
+        ensures keeps { Stays (TableTells S.tells self.old) (TableTells S.tells self.new) }
+        ensures taken { self.new.written.places.items ≡ drop 1 self.old.written.places.items }
     {
+        let Some(place) = self.written.pop() else {
+            return;
+        };
         let Some(session) = self.sessions.get_mut(place) else {
             return;
         };
@@ -316,12 +336,11 @@ impl<S: Stream> Table<S> {
         let Some(session) = self.sessions.get_mut(place) else {
             return LinkGot::Failed;
         };
-        let is_spent = session.is_spent();
-        let got = session.read(port, into);
-        if is_spent {
-            self.put_behind(place);
+        if session.is_spent() {
+            session.stand_in(&mut self.behind, place);
+            return session.read(port, into);
         }
-        got
+        session.read(port, into)
     }
 
     /// Writes to a port of a session.
@@ -336,14 +355,15 @@ impl<S: Stream> Table<S> {
         let Some(session) = self.sessions.get_mut(place) else {
             return LinkPut::Failed;
         };
-        let is_spent = session.is_spent();
-        let put = session.write(port, from);
-        if is_spent {
-            self.put_behind(place);
-        } else if !session.is_written {
-            session.is_written = self.written.push(place);
+        if session.is_spent() {
+            session.stand_in(&mut self.behind, place);
+            return session.write(port, from);
         }
-        put
+        if !session.write_down(&mut self.written, place) {
+            session.stand_in(&mut self.behind, place);
+            return session.write(port, from);
+        }
+        session.write(port, from)
     }
 
     /// Closes a session. What was written to it is sent still.
@@ -360,7 +380,7 @@ impl<S: Stream> Table<S> {
     fn shut(&mut self, at: usize) -> usize
         requires { at < length self.old.entries.items }
         ensures closed { (world : World) → TableTells S.tells self.old world → IsClosedAt self.new.sessions result }
-        ensures shuts { (e : Entry) → slice_get self.old.entries.items at ≡ Some e → Moves (TableTells S.tells self.old) (TableTells S.tells self.new) (Shuts e.number) }
+        ensures shuts { (e : Entry) → IsEntry self.old at e → Moves (TableTells S.tells self.old) (TableTells S.tells self.new) (Shuts e.number) }
     {
         let place = self.entries.remove(at).place;
         let Some(session) = self.sessions.get_mut(place) else {
@@ -375,7 +395,8 @@ impl<S: Stream> Table<S> {
 
     // Goes on with the end of the closed session at a place, and frees the place once it is over.
     fn wind_up(&mut self, place: usize)
-        ensures { IsClosedAt self.old.sessions place → Stays (TableTells S.tells self.old) (TableTells S.tells self.new) }
+        ensures ready { self.new.ready ≡ self.old.ready }
+        ensures keeps { IsClosedAt self.old.sessions place → Stays (TableTells S.tells self.old) (TableTells S.tells self.new) }
     {
         let Some(session) = self.sessions.get_mut(place) else {
             return;
@@ -390,7 +411,8 @@ impl<S: Stream> Table<S> {
 
     // Lets the session at a place have a turn behind those that are reported next.
     fn put_behind(&mut self, place: usize)
-        ensures { Stays (TableTells S.tells self.old) (TableTells S.tells self.new) }
+        ensures ready { self.new.ready ≡ self.old.ready }
+        ensures keeps { Stays (TableTells S.tells self.old) (TableTells S.tells self.new) }
     {
         if let Some(session) = self.sessions.get_mut(place) {
             session.stand_in(&mut self.behind, place);
@@ -399,7 +421,8 @@ impl<S: Stream> Table<S> {
 
     /// Frees a place.
     pub(crate) fn release(&mut self, place: usize)
-        ensures { IsClosedAt self.old.sessions place → Stays (TableTells S.tells self.old) (TableTells S.tells self.new) }
+        ensures ready { self.new.ready ≡ self.old.ready }
+        ensures keeps { IsIdleAt self.old.sessions place → Stays (TableTells S.tells self.old) (TableTells S.tells self.new) }
     {
         forget(&mut self.closed, place);
         if let Some(session) = self.sessions.try_remove(place) {
@@ -421,7 +444,7 @@ impl<S: Stream> Table<S> {
 
     // The place of the first closed session that has sent everything, and isn't to have a turn.
     fn find_sent(&self) -> Option<usize>
-        ensures { (world : World) → TableTells S.tells self.now world → IfSome result (λ place. IsClosedAt self.now.sessions place) }
+        ensures { (world : World) → TableTells S.tells self.now world → IfSome result (λ place. IsIdleAt self.now.sessions place) }
     {
         for place in &self.closed {
             if let Some(session) = self.sessions.get(*place)
@@ -452,7 +475,7 @@ impl<S: Stream> Table<S> {
     // Where an open session stands among them.
     fn search(&self, number: u64) -> Option<usize>
         ensures within { IfSome result (λ at. at < length self.now.entries.items) }
-        ensures here { IfSome result (λ at. (e : Entry) × (slice_get self.now.entries.items at ≡ Some e) × (e.number ≡ number)) }
+        ensures here { IfSome result (λ at. (e : Entry) × IsEntry self.now at e × (e.number ≡ number)) }
         ensures none { RisesFrom 0 self.now.entries.items → result ≡ None → place_of self.now.entries.items number ≡ None }
     {
         self.entries
@@ -463,6 +486,8 @@ impl<S: Stream> Table<S> {
 
 impl<S: Stream> Reports for Table<S> {
     ghost goes = { λ a b. Stays (TableTells S.tells a) (TableTells S.tells b) };
+
+    ghost notes = { λ token news a b. NotesToken S.tells token news a b };
 
     /// Takes note of what was reported at a token, and lets its session have a turn if that is news.
     fn report(&mut self, token: usize, news: Readiness) {
@@ -498,7 +523,8 @@ fn open_places<S: Stream>(
     width: usize,
     buffers: usize,
 ) -> Result<Vec<Vec<Port<S>>>, OutOfMemory>
-    ensures { IfOk result (λ spare. (n : ℕ) → SpareTells S.tells (slice_get spare.items n)) }
+    ensures spare { IfOk result (λ spare. (n : ℕ) → SpareTells S.tells (slice_get spare.items n)) }
+    ensures count { IfOk result (λ spare. length spare.items ≡ places) }
 {
     let mut spare = Vec::with_capacity(alloc, places)?;
     for _ in 0..places {

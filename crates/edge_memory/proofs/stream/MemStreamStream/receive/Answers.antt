@@ -1,4 +1,4 @@
-use Rattle.std.proofs.Common.{rules, refl, sym, ◌+◌, ◌++◌, take, drop, ap}
+use Rattle.std.proofs.Common.{rules, refl, sym, ◌+◌, ◌++◌, take, drop, length, ap}
 use Rattle.edge_memory.specs.Streams.{StreamState}
 use Rattle.edge_memory.specs.contracts.stream.MemStream.{the_view}
 use Rattle.edge_memory.proofs.Moved.{moved_on}
@@ -11,7 +11,7 @@ returns-clause-moves c =
     let place = c.self.inside.place in
     let n = c.min-count.result in
     let a = c.args.self.now in
-    read_on a (the_view (record c.self.inside { place = place + n })) bytes (c.copy_from_slice.new.self ++ drop n c.args.into.now) place n
+    read_on a (the_view (record c.self.inside { place = place + n })) bytes (c.copy_from_slice.new.self ++ drop n c.args.into.now) place n (length c.args.into.now)
     (sym (ap (λ (s : StreamState). s.wire.received) c.self.view_is)) (sym (ap (λ (s : StreamState). s.ahead) c.self.view_is))
     (ap (λ (s : StreamState). record (s.wire) { received = take (place + n) bytes }) c.self.view_is) refl
     (moved_on bytes c.copy_from_slice.new.self _ place n (search rules) (search rules))

@@ -5,4 +5,4 @@ pub returns-then-watch-clause-prepared : goal.returns-then-watch-clause-prepared
 returns-then-watch-clause-prepared g c = λ k says ready. c.attach.ensures.prepared k (c.watch.ensures new_wire says) ready
 
 pub returns-then-watch-clause-keeps : goal.returns-then-watch-clause-keeps
-returns-then-watch-clause-keeps g c = λ shut. (c.attach.ensures.closed shut, c.attach.ensures.keeps shut)
+returns-then-watch-clause-keeps g c = λ shut. (c.attach.ensures.idle shut, c.attach.ensures.keeps shut)

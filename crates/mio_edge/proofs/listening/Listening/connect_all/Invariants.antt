@@ -1,12 +1,13 @@
 use Rattle.std.proofs.Common.{◌≡◌, ℕ}
 use Rattle.mio_edge.specs.Wire.{Stays}
-use Rattle.mio_edge.specs.Tables.{TableTells, IsPrepared, IsClosedAt}
+use Rattle.mio_edge.specs.Tables.{TableTells, IsPrepared}
+use Rattle.mio_edge.specs.Turns.{IsIdleAt}
 use Rattle.mio_edge.proofs.listening.Listening.connect_all.Given as goal
 
 -- the session stays prepared, and what was told is told still
 abbrev pub invariant-loop-at : goal.invariant-loop-at
 invariant-loop-at g l = record {
   prepared : (k : ℕ) → g.W.Network.is_telling → IsPrepared g.S.Stream.tells l.fn.self.table l.place k → IsPrepared g.S.Stream.tells l.self.table l.place k;
-  keeps : IsClosedAt l.fn.self.table.sessions l.place → IsClosedAt l.self.table.sessions l.place × Stays (TableTells g.S.Stream.tells l.fn.self.table) (TableTells g.S.Stream.tells l.self.table);
+  keeps : IsIdleAt l.fn.self.table.sessions l.place → IsIdleAt l.self.table.sessions l.place × Stays (TableTells g.S.Stream.tells l.fn.self.table) (TableTells g.S.Stream.tells l.self.table);
   connecting : l.self.connecting ≡ l.fn.self.connecting;
 }

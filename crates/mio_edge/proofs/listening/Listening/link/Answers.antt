@@ -4,7 +4,7 @@ pub returns-then-eq-clause-prepared : goal.returns-then-eq-clause-prepared
 returns-then-eq-clause-prepared g c = λ k telling says ready. c.attach.ensures.prepared k says (c.defer.ensures.prepared k ready)
 
 pub returns-then-eq-clause-keeps : goal.returns-then-eq-clause-keeps
-returns-then-eq-clause-keeps g c = λ shut. let after = c.attach.ensures.keeps (c.defer.ensures.closed shut) in (after.0, λ world told. after.1 world (c.defer.ensures.keeps world told))
+returns-then-eq-clause-keeps g c = λ shut. let after = c.attach.ensures.keeps (c.defer.ensures.idle shut) in (after.0, λ world told. after.1 world (c.defer.ensures.keeps world told))
 
 pub returns-then-not-attach-clause-prepared : goal.returns-then-not-attach-clause-prepared
 returns-then-not-attach-clause-prepared g c = λ k telling says ready. c.attach-2.ensures.prepared k says ready

@@ -16,7 +16,7 @@ pub returns-in-Failed-clause-leads : goal.returns-in-Failed-clause-leads
 returns-in-Failed-clause-leads g c =
     let t = g.S.Stream.tells in
     then_moves (PortTells t c.args.self.now) (PortTells t c.receive.new.self) (PortTells t c.receive.new.self) (LinkReads c.args.into.now got.NotReady) c.receive.ensures.keeps
-    (reads_nothing t c.receive.new.self c.args.into.now c.in-Failed.ensures.finds)
+    (reads_nothing t c.receive.new.self c.args.into.now c.in-Failed.ensures.finds.0)
 
 pub returns-in_default-clause-leads : goal.returns-in_default-clause-leads
 returns-in_default-clause-leads g c =

@@ -9,12 +9,12 @@ pub returns-then-is_gone-clause-leads : goal.returns-then-is_gone-clause-leads
 returns-then-is_gone-clause-leads g c =
     let t = g.S.Stream.tells in
     let port = c.make_room.new.self in
-    then_moves (PortTells t c.args.self.now) (PortTells t port) (PortTells t port) (LinkWrites c.args.from.now put.Failed) c.make_room.ensures (writes_failed t port c.args.from.now)
+    then_moves (PortTells t c.args.self.now) (PortTells t port) (PortTells t port) (LinkWrites c.args.from.now put.Failed) c.make_room.ensures.keeps (writes_failed t port c.args.from.now (c.is_gone.ensures.gone c.if-is_gone.true))
 
 pub returns-clause-leads : goal.returns-clause-leads
 returns-clause-leads g c =
     let t = g.S.Stream.tells in
     let port = c.make_room.new.self in
     let after = record port { outgoing = c.take_in.new.held } in
-    then_moves (PortTells t c.args.self.now) (PortTells t port) (PortTells t after) (LinkWrites c.args.from.now c.take_in.result) c.make_room.ensures
-    (takes_in t port after c.args.from.now c.take_in.result (c.is_gone.ensures c.if-is_gone.false) c.take_in.ensures.bytes refl)
+    then_moves (PortTells t c.args.self.now) (PortTells t port) (PortTells t after) (LinkWrites c.args.from.now c.take_in.result) c.make_room.ensures.keeps
+    (takes_in t port after c.args.from.now c.take_in.result (c.is_gone.ensures.here c.if-is_gone.false) c.take_in.ensures.bytes refl)

@@ -1,35 +1,32 @@
-use Rattle.std.proofs.Common.{◌≡◌, length, refl, arith}
+use Rattle.std.proofs.Common.{◌≡◌, length, refl, arith, inl, inr}
 use Rattle.std.specs.Vec.{vec_len}
 use Rattle.gate_hub.specs.Hubs.{LinkReads}
 use Rattle.gate_hub.specs.declared.hub.LinkGot.TheVariants as got
 use Rattle.mio_edge.proofs.Ports.{reads_nothing}
-use Rattle.mio_edge.proofs.Sessions.{at_port, reads_nowhere, here, past}
+use Rattle.mio_edge.proofs.Sessions.{session_reads, session_nowhere, reads_nowhere, here, past}
 use Rattle.mio_edge.proofs.session.Session.read.Goals as goal
 
 pub returns-in_default-clause-leads : goal.returns-in_default-clause-leads
-returns-in_default-clause-leads g c =
+returns-in_default-clause-leads g c = λ may.
     let long : vec_len c.args.self.now.ports ≡ length c.args.self.now.ports.items = omega (arith, c.args.self.now.ports.ok.0) in
-    reads_nowhere g.S.Stream.tells c.args.self.now.ports.items c.args.port c.args.into.now (past c.args.self.now.ports.items _ c.args.port long c.in_default.ensures.variant.1)
+    let none = past c.args.self.now.ports.items _ c.args.port long c.in_default.ensures.variant.1 in
+    session_nowhere g.S.Stream.tells c.args.self.now c.args.port (LinkReads c.args.into.now got.Failed) none (reads_nowhere g.S.Stream.tells c.args.self.now.ports.items c.args.port c.args.into.now none)
 
 pub returns-then-not-has_ended-clause-leads : goal.returns-then-not-has_ended-clause-leads
-returns-then-not-has_ended-clause-leads g c =
+returns-then-not-has_ended-clause-leads g c = λ may.
     let long : vec_len c.args.self.now.ports ≡ length c.args.self.now.ports.items = omega (arith, c.args.self.now.ports.ok.0) in
     let is = here c.args.self.now.ports.items _ c.args.port c.in-Some.port.now long (c.in-Some.ensures.variant.0 refl) c.in-Some.ensures.value in
-    at_port g.S.Stream.tells c.args.self.now.ports.items c.args.port c.in-Some.port.now c.in-Some.port.now (LinkReads c.args.into.now got.NotReady) is
-    (reads_nothing g.S.Stream.tells c.in-Some.port.now c.args.into.now (c.if-not-has_ended.ensures refl))
+    session_reads g.S.Stream.tells c.args.self.now _ c.args.port c.in-Some.port.now c.in-Some.port.now c.args.into.now got.NotReady is refl
+    (reads_nothing g.S.Stream.tells c.in-Some.port.now c.args.into.now (c.if-not-has_ended.ensures refl)) (λ e. inr (may c.if-self-eq0.true)) (λ can. can) (λ un. un) refl refl
 
 pub returns-in-Bytes-clause-leads : goal.returns-in-Bytes-clause-leads
-returns-in-Bytes-clause-leads g c =
+returns-in-Bytes-clause-leads g c = λ may.
     let long : vec_len c.args.self.now.ports ≡ length c.args.self.now.ports.items = omega (arith, c.args.self.now.ports.ok.0) in
     let is = here c.args.self.now.ports.items _ c.args.port c.in-Some.port.now long (c.in-Some.ensures.variant.0 refl) c.in-Some.ensures.value in
-    at_port g.S.Stream.tells c.args.self.now.ports.items c.args.port c.in-Some.port.now c.read-got.new.self (LinkReads c.read-got.new.into (got.Bytes c.in-Bytes.count)) is c.in-Bytes.ensures.leads
+    session_reads g.S.Stream.tells c.args.self.now _ c.args.port c.in-Some.port.now c.read-got.new.self c.read-got.new.into (got.Bytes c.in-Bytes.count) is refl c.in-Bytes.ensures.leads (λ e. absurd (cc)) c.in-Bytes.ensures.calm.0 c.in-Bytes.ensures.calm.1 refl refl
 
-pub returns-in_default-got : goal.returns-in_default-got
-returns-in_default-got g c =
+pub returns-in_default-got-clause-leads : goal.returns-in_default-got-clause-leads
+returns-in_default-got-clause-leads g c = λ may.
     let long : vec_len c.args.self.now.ports ≡ length c.args.self.now.ports.items = omega (arith, c.args.self.now.ports.ok.0) in
     let is = here c.args.self.now.ports.items _ c.args.port c.in-Some.port.now long (c.in-Some.ensures.variant.0 refl) c.in-Some.ensures.value in
-    record {
-      within = c.read-got.ensures.within;
-      leads = at_port g.S.Stream.tells c.args.self.now.ports.items c.args.port c.in-Some.port.now c.read-got.new.self (LinkReads c.read-got.new.into c.read-got.result) is c.read-got.ensures.leads;
-      same = record { number = refl; is_open = refl };
-    }
+    session_reads g.S.Stream.tells c.args.self.now _ c.args.port c.in-Some.port.now c.read-got.new.self c.read-got.new.into c.read-got.result is refl c.read-got.ensures.leads (λ e. inl (c.read-got.ensures.waits e)) c.read-got.ensures.calm.0 c.read-got.ensures.calm.1 refl refl

@@ -1,20 +1,46 @@
-use Rattle.std.proofs.Common.{ℕ, IfSome, subst, sym}
+use Rattle.std.proofs.Common.{ℕ, ◌≡◌, ◌+◌, ◌∷◌, [], length, IfSome, subst, sym, ap, ◌∙◌, arith}
+use Rattle.std.proofs.lemmas.List.{length-append}
 use Rattle.mio_edge.specs.Sessions.{PortsTell, new_links}
 use Rattle.mio_edge.specs.Tables.{IsNew, IsPrepared}
-use Rattle.mio_edge.proofs.Tables.{as_many, fewer, spare_popped}
+use Rattle.mio_edge.proofs.Sessions.{session_new}
+use Rattle.mio_edge.proofs.Tables.{as_many, fewer, fewer_spare, spare_popped}
 use Rattle.mio_edge.proofs.table.Table.begin.Goals as goal
 
 pub returns-in_err-ports-clause-keeps : goal.returns-in_err-ports-clause-keeps
-returns-in_err-ports-clause-keeps g c = λ world told. as_many g.S.Stream.tells c.make_place.new.self.sessions c.make_place.new.self.entries.items c.make_place.new.self.closed.items c.make_place.new.self.spare.items c.pop.new.self.items c.in_err-ports.ensures.items world (c.make_place.ensures world told)
+returns-in_err-ports-clause-keeps g c = λ world told.
+    let t = g.S.Stream.tells in
+    let s = c.make_place.new.self in
+    let made = c.make_place.ensures world told in
+    let long : length s.spare.items ≡ length c.pop.new.self.items + 0 = ap length c.in_err-ports.ensures.items ∙ length-append c.pop.new.self.items [] in (
+      as_many t s.sessions s.entries.items s.closed.items s.spare.items c.pop.new.self.items c.in_err-ports.ensures.items world made.0,
+      fewer_spare t s.sessions s.ready s.behind s.written (length s.spare.items) (length c.pop.new.self.items) (omega (arith, long)) made.1,
+    )
 
 pub returns-clause-keeps : goal.returns-clause-keeps
-returns-clause-keeps g c = λ world told. c.insert.ensures.keeps c.over.ensures.closed world (fewer g.S.Stream.tells c.make_place.new.self.sessions c.make_place.new.self.entries.items c.make_place.new.self.closed.items c.make_place.new.self.spare.items c.pop.new.self.items c.in_ok-ports.ports c.in_ok-ports.ensures.items world (c.make_place.ensures world told))
+returns-clause-keeps g c = λ world told.
+    let t = g.S.Stream.tells in
+    let s = c.make_place.new.self in
+    let made = c.make_place.ensures world told in
+    let items = c.in_ok-ports.ensures.items in
+    let popped = spare_popped t s.spare.items c.pop.new.self.items c.in_ok-ports.ports items made.0.spare in
+    let new : IsNew t c.over.result = (c.over.ensures.closed, session_new t c.over.result (subst (λ v. PortsTell t v.items new_links) (sym c.over.ensures.ports) popped.1), c.over.ensures.idle.0, c.over.ensures.idle.1) in
+    let long : length s.spare.items ≡ length c.pop.new.self.items + 1 = ap length items ∙ length-append c.pop.new.self.items (c.in_ok-ports.ports ∷ []) in
+    c.insert.ensures.keeps new world (
+      (fewer t s.sessions s.entries.items s.closed.items s.spare.items c.pop.new.self.items c.in_ok-ports.ports items world made.0, fewer_spare t s.sessions s.ready s.behind s.written (length s.spare.items) (length c.pop.new.self.items) (omega (arith, long)) made.1),
+      omega (arith, made.1.fits, long),
+    )
 
 pub returns-clause-prepared : goal.returns-clause-prepared
 returns-clause-prepared g c = λ world told.
     let t = g.S.Stream.tells in
+    let s = c.make_place.new.self in
     let made = c.make_place.ensures world told in
-    let popped = spare_popped t c.make_place.new.self.spare.items c.pop.new.self.items c.in_ok-ports.ports c.in_ok-ports.ensures.items made.spare in
-    let new : IsNew t c.over.result = (c.over.ensures.closed, subst (λ v. PortsTell t v.items new_links) (sym c.over.ensures.ports) popped.1) in
+    let items = c.in_ok-ports.ensures.items in
+    let popped = spare_popped t s.spare.items c.pop.new.self.items c.in_ok-ports.ports items made.0.spare in
+    let new : IsNew t c.over.result = (c.over.ensures.closed, session_new t c.over.result (subst (λ v. PortsTell t v.items new_links) (sym c.over.ensures.ports) popped.1), c.over.ensures.idle.0, c.over.ensures.idle.1) in
+    let long : length s.spare.items ≡ length c.pop.new.self.items + 1 = ap length items ∙ length-append c.pop.new.self.items (c.in_ok-ports.ports ∷ []) in
     subst (λ (n : ℕ). IfSome c.insert.result (λ place. IsPrepared t c.insert.new.self place n)) c.over.ensures.number
-    (c.insert.ensures.prepared new world (fewer t c.make_place.new.self.sessions c.make_place.new.self.entries.items c.make_place.new.self.closed.items c.make_place.new.self.spare.items c.pop.new.self.items c.in_ok-ports.ports c.in_ok-ports.ensures.items world made))
+    (c.insert.ensures.prepared new world (
+      (fewer t s.sessions s.entries.items s.closed.items s.spare.items c.pop.new.self.items c.in_ok-ports.ports items world made.0, fewer_spare t s.sessions s.ready s.behind s.written (length s.spare.items) (length c.pop.new.self.items) (omega (arith, long)) made.1),
+      omega (arith, made.1.fits, long),
+    ))

@@ -1,14 +1,14 @@
 use Rattle.std.proofs.Common.{sym, refl}
 use Rattle.slab.specs.Slab.{with_value}
 use Rattle.mio_edge.specs.Sessions.{new_links}
-use Rattle.mio_edge.proofs.Tables.{kept_at, attached, still_closed}
+use Rattle.mio_edge.proofs.Tables.{still_kept, attached, still_idle}
 use Rattle.mio_edge.proofs.table.Table.defer.Goals as goal
 
 pub returns-in-Some : goal.returns-in-Some
 returns-in-Some g c =
     let t = g.S.Stream.tells in
     let sessions = c.args.self.now.sessions in record {
-      prepared = λ k ready. attached t c.args.self.now (record c.args.self.now { sessions = with_value sessions c.args.place c.defer.new.self }) c.args.place k c.in-Some.session.now c.defer.new.self (sym c.in-Some.ensures.value) refl refl c.defer.ensures.same (c.defer.ensures.keeps new_links) ready;
-      closed = still_closed t sessions c.args.place c.in-Some.session.now c.defer.new.self (sym c.in-Some.ensures.value) c.defer.ensures.same;
-      keeps = kept_at t c.args.self.now.sessions c.args.self.now.entries.items c.args.self.now.closed.items c.args.self.now.spare.items c.args.place c.in-Some.session.now c.defer.new.self (sym c.in-Some.ensures.value) c.defer.ensures.same c.defer.ensures.keeps;
+      prepared = λ k ready. attached t c.args.self.now (record c.args.self.now { sessions = with_value sessions c.args.place c.defer.new.self }) c.args.place k c.in-Some.session.now c.defer.new.self (sym c.in-Some.ensures.value) refl refl c.defer.ensures.still (c.defer.ensures.keeps new_links) ready;
+      idle = still_idle t sessions c.args.place c.in-Some.session.now c.defer.new.self (sym c.in-Some.ensures.value) c.defer.ensures.still;
+      keeps = still_kept t c.args.self.now c.args.place c.in-Some.session.now c.defer.new.self (sym c.in-Some.ensures.value) c.defer.ensures.still c.defer.ensures.keeps;
     }

@@ -1,10 +1,12 @@
-use Rattle.std.proofs.Common.{◌≡◌, ℕ, List, Some, subst, get_or}
+use Rattle.std.proofs.Common.{◌≡◌, ℕ, List, Some, subst, sym, get_or}
 use Rattle.std.specs.List.{slice_get}
 use Rattle.std.proofs.lemmas.Option.{slice_get-get_or}
+use Rattle.mio_edge.proofs.Tables.{shut_at}
 use Rattle.mio_edge.proofs.table.Table.find_sent.Goals as goal
 
 pub returns-in-loop-place : goal.returns-in-loop-place
 returns-in-loop-place g c = λ world told.
     let xs = c.deref-place-items.result.now in
     let i = c.loop-place.place-index in
-    told.closed i (get_or xs i 0) (subst (λ (ys : List ℕ). slice_get ys i ≡ Some (get_or xs i 0)) c.deref-place-items.ensures.value (slice_get-get_or xs i 0 c.loop-place-test.true))
+    let shut = told.0.closed i (get_or xs i 0) (subst (λ (ys : List ℕ). slice_get ys i ≡ Some (get_or xs i 0)) c.deref-place-items.ensures.value (slice_get-get_or xs i 0 c.loop-place-test.true)) in
+    (c.in-Some.session.now, sym c.in-Some.ensures, shut_at g.S.Stream.tells c.args.self.now.sessions (get_or xs i 0) c.in-Some.session.now (sym c.in-Some.ensures) shut, c.if-not-session.true)

@@ -1,21 +1,35 @@
-use Rattle.std.proofs.Common.{sym, ◌∙◌}
-use Rattle.slab.specs.Slab.{with_value}
+use Rattle.std.proofs.Common.{length, sym, ◌∙◌}
 use Rattle.gate_hub.specs.Hubs.{LinkReads}
-use Rattle.mio_edge.specs.Tables.{Tells, AtSession, TableTells}
-use Rattle.mio_edge.proofs.Tables.{not_lost, not_empty, at_open, then_stays}
+use Rattle.mio_edge.proofs.Tables.{not_lost, not_empty, at_open, stood_behind, rest_same, rest_written, then_is, same_still, unspent}
+use Rattle.mio_edge.proofs.Turns.{queues_still}
 use Rattle.mio_edge.proofs.table.Table.read.Goals as goal
 
 pub returns-in_default-clause-leads : goal.returns-in_default-clause-leads
-returns-in_default-clause-leads g c = λ world told some. absurd (not_lost g.S.Stream.tells c.args.self.now.sessions c.args.self.now.entries.items c.args.self.now.closed.items c.args.self.now.spare.items world c.args.number told some (sym (c.find.ensures world told) ∙ c.in_default.is))
+returns-in_default-clause-leads g c = λ world told some. absurd (not_lost g.S.Stream.tells c.args.self.now.sessions c.args.self.now.entries.items c.args.self.now.closed.items c.args.self.now.spare.items world c.args.number told.0 some (sym (c.find.ensures world told) ∙ c.in_default.is))
 
 pub returns-in_default-get_mut-clause-leads : goal.returns-in_default-get_mut-clause-leads
-returns-in_default-get_mut-clause-leads g c = λ world told some. absurd (not_empty g.S.Stream.tells c.args.self.now.sessions c.args.self.now.entries.items c.args.self.now.closed.items c.args.self.now.spare.items world c.args.number c.in-Some.place told some (sym (c.find.ensures world told) ∙ c.in-Some.is) (sym c.in_default-get_mut.ensures.value))
+returns-in_default-get_mut-clause-leads g c = λ world told some. absurd (not_empty g.S.Stream.tells c.args.self.now.sessions c.args.self.now.entries.items c.args.self.now.closed.items c.args.self.now.spare.items world c.args.number c.in-Some.place told.0 some (sym (c.find.ensures world told) ∙ c.in-Some.is) (sym c.in_default-get_mut.ensures.value))
 
 pub returns-then-is_spent-clause-leads : goal.returns-then-is_spent-clause-leads
-returns-then-is_spent-clause-leads g c =
+returns-then-is_spent-clause-leads g c = λ world told some.
     let t = g.S.Stream.tells in
-    then_stays t c.args.number (TableTells t c.args.self.now) (Tells t (with_value c.args.self.now.sessions c.in-Some.place c.read-got.new.self) c.args.self.now.entries.items c.args.self.now.closed.items c.args.self.now.spare.items) (TableTells t c.put_behind.new.self) (AtSession c.args.number c.args.port (LinkReads c.read-got.new.into c.read-got.result))
-    (at_open g.S.Stream.tells c.args.self.now.sessions c.args.self.now.entries.items c.args.self.now.closed.items c.args.self.now.spare.items c.args.number c.args.port c.in-Some.place c.in-Some-get_mut.session.now c.read-got.new.self (LinkReads c.read-got.new.into c.read-got.result) (λ world told. sym (c.find.ensures world told) ∙ c.in-Some.is) (sym c.in-Some-get_mut.ensures.value) c.read-got.ensures.same c.read-got.ensures.leads) c.put_behind.ensures
+    let s = c.args.self.now in
+    let a = c.in-Some-get_mut.session.now in
+    let b = c.stand_in.new.self in
+    let d = c.read.new.self in
+    let was = sym c.in-Some-get_mut.ensures.value in
+    let stood = stood_behind t s.sessions s.ready s.behind c.stand_in.new.queue s.written (length s.spare.items) c.in-Some.place a b was c.stand_in.ensures.was c.stand_in.ensures.stands c.stand_in.ensures.rest told.1 in
+    let moved = at_open t s.sessions s.entries.items s.closed.items s.spare.items c.args.number c.args.port c.in-Some.place a d (LinkReads c.read.new.into c.read.result) (λ w tells. sym (c.find.ensures world told) ∙ c.in-Some.is) was
+    (then_is t a b d (rest_same t a b c.stand_in.ensures.rest) (same_still t b d c.read.ensures.still)) (λ links tells. c.read.ensures.leads (λ spent. stood.queued) links (stood.keeps links tells)) world told.0 some in
+    (moved.0, (moved.1, stood.stands d c.read.ensures.still.queued (c.read.ensures.still.written ∙ rest_written t a b c.stand_in.ensures.rest)), moved.2)
 
-pub returns-else-is_spent-clause-leads : goal.returns-else-is_spent-clause-leads
-returns-else-is_spent-clause-leads g c = at_open g.S.Stream.tells c.args.self.now.sessions c.args.self.now.entries.items c.args.self.now.closed.items c.args.self.now.spare.items c.args.number c.args.port c.in-Some.place c.in-Some-get_mut.session.now c.read-got.new.self (LinkReads c.read-got.new.into c.read-got.result) (λ world told. sym (c.find.ensures world told) ∙ c.in-Some.is) (sym c.in-Some-get_mut.ensures.value) c.read-got.ensures.same c.read-got.ensures.leads
+pub returns-clause-leads : goal.returns-clause-leads
+returns-clause-leads g c = λ world told some.
+    let t = g.S.Stream.tells in
+    let s = c.args.self.now in
+    let a = c.in-Some-get_mut.session.now in
+    let d = c.read-2.new.self in
+    let was = sym c.in-Some-get_mut.ensures.value in
+    let moved = at_open t s.sessions s.entries.items s.closed.items s.spare.items c.args.number c.args.port c.in-Some.place a d (LinkReads c.read-2.new.into c.read-2.result) (λ w tells. sym (c.find.ensures world told) ∙ c.in-Some.is) was
+    (same_still t a d c.read-2.ensures.still) (c.read-2.ensures.leads (λ spent. absurd (unspent t a c.is_spent.result c.is_spent.ensures c.if-is_spent.false spent))) world told.0 some in
+    (moved.0, (moved.1, queues_still s.sessions s.ready s.behind s.written (length s.spare.items) c.in-Some.place a d was c.read-2.ensures.still.queued c.read-2.ensures.still.written told.1), moved.2)

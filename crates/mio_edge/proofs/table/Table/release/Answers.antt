@@ -1,10 +1,21 @@
-use Rattle.std.proofs.Common.{sym}
-use Rattle.mio_edge.proofs.Tables.{freed, spare_pushed}
+use Rattle.std.proofs.Common.{length, sym, refl, ap, ◌∙◌, ◌∷◌, [], arith}
+use Rattle.std.proofs.lemmas.List.{length-append}
+use Rattle.mio_edge.proofs.Tables.{freed, freed_queues, spare_pushed}
 use Rattle.mio_edge.proofs.table.Table.release.Goals as goal
 
-pub returns-then-len-capacity : goal.returns-then-len-capacity
-returns-then-len-capacity g c = freed g.S.Stream.tells c.args.self.now.sessions c.try_remove.new.self c.args.self.now.entries.items c.args.self.now.closed.items c.forget.new.places.items c.args.self.now.spare.items c.push_reserved.new.self.items c.args.place c.in-Some.session (sym c.in-Some.ensures.value) c.in-Some.ensures.updates c.forget.ensures
-    (spare_pushed g.S.Stream.tells c.args.self.now.spare.items c.push_reserved.new.self.items c.into_ports-ports.result c.push_reserved.ensures.items c.into_ports-ports.ensures)
+pub returns-then-len-capacity-clause-keeps : goal.returns-then-len-capacity-clause-keeps
+returns-then-len-capacity-clause-keeps g c = λ idle world told.
+    let t = g.S.Stream.tells in
+    let s = c.args.self.now in (
+      freed t s.sessions c.try_remove.new.self s.entries.items s.closed.items c.forget.new.places.items s.spare.items c.push_reserved.new.self.items c.args.place c.in-Some.session (sym c.in-Some.ensures.value) c.in-Some.ensures.updates c.forget.ensures
+          (spare_pushed t s.spare.items c.push_reserved.new.self.items c.into_ports-ports.result c.push_reserved.ensures.items c.into_ports-ports.ensures) idle world told.0,
+      freed_queues t s.sessions c.try_remove.new.self s c.args.place (length c.push_reserved.new.self.items) refl c.in-Some.ensures.updates c.in-Some.ensures.len c.in-Some.ensures.capacity (omega (arith, ap length c.push_reserved.ensures.items ∙ length-append s.spare.items (c.into_ports-ports.result ∷ []))) idle told.1,
+    )
 
-pub returns-else-len-capacity : goal.returns-else-len-capacity
-returns-else-len-capacity g c = freed g.S.Stream.tells c.args.self.now.sessions c.try_remove.new.self c.args.self.now.entries.items c.args.self.now.closed.items c.forget.new.places.items c.args.self.now.spare.items c.args.self.now.spare.items c.args.place c.in-Some.session (sym c.in-Some.ensures.value) c.in-Some.ensures.updates c.forget.ensures (λ n all. all n)
+pub returns-else-len-capacity-clause-keeps : goal.returns-else-len-capacity-clause-keeps
+returns-else-len-capacity-clause-keeps g c = λ idle world told.
+    let t = g.S.Stream.tells in
+    let s = c.args.self.now in (
+      freed t s.sessions c.try_remove.new.self s.entries.items s.closed.items c.forget.new.places.items s.spare.items s.spare.items c.args.place c.in-Some.session (sym c.in-Some.ensures.value) c.in-Some.ensures.updates c.forget.ensures (λ n all. all n) idle world told.0,
+      freed_queues t s.sessions c.try_remove.new.self s c.args.place (length s.spare.items) refl c.in-Some.ensures.updates c.in-Some.ensures.len c.in-Some.ensures.capacity (omega arith) idle told.1,
+    )

@@ -1,7 +1,11 @@
+use Rattle.std.proofs.Common.{◌≡◌, drop}
 use Rattle.mio_edge.specs.Wire.{Stays}
 use Rattle.mio_edge.specs.Tables.{TableTells}
 use Rattle.mio_edge.proofs.table.Table.send.Given as goal
 
--- what was told is told still
+-- what was told is told still, and so many were sent
 abbrev pub invariant-loop : goal.invariant-loop
-invariant-loop g l = Stays (TableTells g.S.Stream.tells l.fn.self) (TableTells g.S.Stream.tells l.self)
+invariant-loop g l = record {
+  keeps : Stays (TableTells g.S.Stream.tells l.fn.self) (TableTells g.S.Stream.tells l.self);
+  sent : l.self.written.places.items ≡ drop l.counter l.fn.self.written.places.items;
+}

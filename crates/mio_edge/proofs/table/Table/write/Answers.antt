@@ -1,24 +1,55 @@
-use Rattle.std.proofs.Common.{sym, ◌∙◌}
+use Rattle.std.proofs.Common.{length, sym, ◌∙◌, subst, inl, inr}
 use Rattle.slab.specs.Slab.{with_value}
 use Rattle.gate_hub.specs.Hubs.{LinkWrites}
-use Rattle.mio_edge.specs.Tables.{Tells, AtSession, TableTells}
-use Rattle.mio_edge.proofs.Tables.{not_lost, not_empty, at_open, then_stays}
+use Rattle.mio_edge.specs.Turns.{QueuesStand}
+use Rattle.mio_edge.proofs.Tables.{not_lost, not_empty, at_open, stood_behind, rest_same, rest_written, then_is, same_still, unspent, written_down, down_same, down_tells, down_allowance, not_down, stood_from, from_rest}
 use Rattle.mio_edge.proofs.table.Table.write.Goals as goal
 
 pub returns-in_default-clause-leads : goal.returns-in_default-clause-leads
-returns-in_default-clause-leads g c = λ world told some. absurd (not_lost g.S.Stream.tells c.args.self.now.sessions c.args.self.now.entries.items c.args.self.now.closed.items c.args.self.now.spare.items world c.args.number told some (sym (c.find.ensures world told) ∙ c.in_default.is))
+returns-in_default-clause-leads g c = λ world told some. absurd (not_lost g.S.Stream.tells c.args.self.now.sessions c.args.self.now.entries.items c.args.self.now.closed.items c.args.self.now.spare.items world c.args.number told.0 some (sym (c.find.ensures world told) ∙ c.in_default.is))
 
 pub returns-in_default-get_mut-clause-leads : goal.returns-in_default-get_mut-clause-leads
-returns-in_default-get_mut-clause-leads g c = λ world told some. absurd (not_empty g.S.Stream.tells c.args.self.now.sessions c.args.self.now.entries.items c.args.self.now.closed.items c.args.self.now.spare.items world c.args.number c.in-Some.place told some (sym (c.find.ensures world told) ∙ c.in-Some.is) (sym c.in_default-get_mut.ensures.value))
+returns-in_default-get_mut-clause-leads g c = λ world told some. absurd (not_empty g.S.Stream.tells c.args.self.now.sessions c.args.self.now.entries.items c.args.self.now.closed.items c.args.self.now.spare.items world c.args.number c.in-Some.place told.0 some (sym (c.find.ensures world told) ∙ c.in-Some.is) (sym c.in_default-get_mut.ensures.value))
 
 pub returns-then-is_spent-clause-leads : goal.returns-then-is_spent-clause-leads
-returns-then-is_spent-clause-leads g c =
+returns-then-is_spent-clause-leads g c = λ world told some.
     let t = g.S.Stream.tells in
-    then_stays t c.args.number (TableTells t c.args.self.now) (Tells t (with_value c.args.self.now.sessions c.in-Some.place c.write-put.new.self) c.args.self.now.entries.items c.args.self.now.closed.items c.args.self.now.spare.items) (TableTells t c.put_behind.new.self) (AtSession c.args.number c.args.port (LinkWrites c.args.from.now c.write-put.result))
-    (at_open g.S.Stream.tells c.args.self.now.sessions c.args.self.now.entries.items c.args.self.now.closed.items c.args.self.now.spare.items c.args.number c.args.port c.in-Some.place c.in-Some-get_mut.session.now c.write-put.new.self (LinkWrites c.args.from.now c.write-put.result) (λ world told. sym (c.find.ensures world told) ∙ c.in-Some.is) (sym c.in-Some-get_mut.ensures.value) c.write-put.ensures.same c.write-put.ensures.leads) c.put_behind.ensures
+    let s = c.args.self.now in
+    let a = c.in-Some-get_mut.session.now in
+    let b = c.stand_in.new.self in
+    let d = c.write.new.self in
+    let was = sym c.in-Some-get_mut.ensures.value in
+    let stood = stood_behind t s.sessions s.ready s.behind c.stand_in.new.queue s.written (length s.spare.items) c.in-Some.place a b was c.stand_in.ensures.was c.stand_in.ensures.stands c.stand_in.ensures.rest told.1 in
+    let moved = at_open t s.sessions s.entries.items s.closed.items s.spare.items c.args.number c.args.port c.in-Some.place a d (LinkWrites c.args.from.now c.write.result) (λ w tells. sym (c.find.ensures world told) ∙ c.in-Some.is) was
+    (then_is t a b d (rest_same t a b c.stand_in.ensures.rest) (same_still t b d c.write.ensures.still)) (λ links tells. c.write.ensures.leads ((λ spent. stood.queued), inl stood.queued) links (stood.keeps links tells)) world told.0 some in
+    (moved.0, (moved.1, stood.stands d c.write.ensures.still.queued (c.write.ensures.still.written ∙ rest_written t a b c.stand_in.ensures.rest)), moved.2)
 
-pub returns-then-not-session-clause-leads : goal.returns-then-not-session-clause-leads
-returns-then-not-session-clause-leads g c = at_open g.S.Stream.tells c.args.self.now.sessions c.args.self.now.entries.items c.args.self.now.closed.items c.args.self.now.spare.items c.args.number c.args.port c.in-Some.place c.in-Some-get_mut.session.now (record c.write-put.new.self { is_written = c.push-session.result }) (LinkWrites c.args.from.now c.write-put.result) (λ world told. sym (c.find.ensures world told) ∙ c.in-Some.is) (sym c.in-Some-get_mut.ensures.value) (record { number = c.write-put.ensures.same.number; is_open = c.write-put.ensures.same.is_open }) c.write-put.ensures.leads
+pub returns-then-not-write_down-clause-leads : goal.returns-then-not-write_down-clause-leads
+returns-then-not-write_down-clause-leads g c = λ world told some.
+    let t = g.S.Stream.tells in
+    let s = c.args.self.now in
+    let a = c.in-Some-get_mut.session.now in
+    let b = c.stand_in-then-not-write_down.new.self in
+    let d = c.write-then-not-write_down.new.self in
+    let was = sym c.in-Some-get_mut.ensures.value in
+    let same = not_down t a c.write_down.new.self c.write_down.result c.write_down.ensures.written c.if-not-write_down.true (λ w. (c.write_down.ensures.was w).0) c.write_down.ensures.rest in
+    let rest = from_rest t a c.write_down.new.self b same c.stand_in-then-not-write_down.ensures.rest in
+    let stood = stood_from t s.sessions s.ready s.behind c.stand_in-then-not-write_down.new.queue s.written (length s.spare.items) c.in-Some.place a c.write_down.new.self b same was c.stand_in-then-not-write_down.ensures.was c.stand_in-then-not-write_down.ensures.stands c.stand_in-then-not-write_down.ensures.rest told.1 in
+    let moved = at_open t s.sessions s.entries.items s.closed.items s.spare.items c.args.number c.args.port c.in-Some.place a d (LinkWrites c.args.from.now c.write-then-not-write_down.result) (λ w tells. sym (c.find.ensures world told) ∙ c.in-Some.is) was
+    (then_is t a b d (rest_same t a b rest) (same_still t b d c.write-then-not-write_down.ensures.still)) (λ links tells. c.write-then-not-write_down.ensures.leads ((λ spent. stood.queued), inl stood.queued) links (stood.keeps links tells)) world told.0 some in
+    let queues = stood.stands d c.write-then-not-write_down.ensures.still.queued (c.write-then-not-write_down.ensures.still.written ∙ rest_written t a b rest) in
+    (moved.0, (moved.1, subst (λ q. QueuesStand (with_value s.sessions c.in-Some.place d) s.ready c.stand_in-then-not-write_down.new.queue q (length s.spare.items)) (sym (c.write_down.ensures.kept c.if-not-write_down.true)) queues), moved.2)
 
-pub returns-else-not-session-clause-leads : goal.returns-else-not-session-clause-leads
-returns-else-not-session-clause-leads g c = at_open g.S.Stream.tells c.args.self.now.sessions c.args.self.now.entries.items c.args.self.now.closed.items c.args.self.now.spare.items c.args.number c.args.port c.in-Some.place c.in-Some-get_mut.session.now c.write-put.new.self (LinkWrites c.args.from.now c.write-put.result) (λ world told. sym (c.find.ensures world told) ∙ c.in-Some.is) (sym c.in-Some-get_mut.ensures.value) (record { number = c.write-put.ensures.same.number; is_open = c.write-put.ensures.same.is_open }) c.write-put.ensures.leads
+pub returns-clause-leads : goal.returns-clause-leads
+returns-clause-leads g c = λ world told some.
+    let t = g.S.Stream.tells in
+    let s = c.args.self.now in
+    let a = c.in-Some-get_mut.session.now in
+    let b = c.write_down.new.self in
+    let d = c.write-2.new.self in
+    let was = sym c.in-Some-get_mut.ensures.value in
+    let noted = sym c.write_down.ensures.written ∙ c.if-not-write_down.false in
+    let moved = at_open t s.sessions s.entries.items s.closed.items s.spare.items c.args.number c.args.port c.in-Some.place a d (LinkWrites c.args.from.now c.write-2.result) (λ w tells. sym (c.find.ensures world told) ∙ c.in-Some.is) was
+    (then_is t a b d (down_same t a b c.write_down.ensures.rest) (same_still t b d c.write-2.ensures.still))
+    (λ links tells. c.write-2.ensures.leads ((λ spent. absurd (unspent t a c.is_spent.result c.is_spent.ensures c.if-is_spent.false (sym (down_allowance t a b c.write_down.ensures.rest) ∙ spent))), inr noted) links (down_tells t a b c.write_down.ensures.rest noted links tells)) world told.0 some in
+    (moved.0, (moved.1, written_down t s.sessions s.ready s.behind s.written c.write_down.new.queue (length s.spare.items) c.in-Some.place a b d was c.write_down.ensures.was (λ w. c.write_down.ensures.stands w c.if-not-write_down.false) noted c.write_down.ensures.rest c.write-2.ensures.still.queued c.write-2.ensures.still.written told.1), moved.2)

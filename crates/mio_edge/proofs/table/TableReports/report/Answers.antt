@@ -1,11 +1,51 @@
-use Rattle.std.proofs.Common.{sym, ◌/◌}
-use Rattle.mio_edge.proofs.Tables.{kept_at, then_same, then_is}
+use Rattle.std.proofs.Common.{◌≡◌, ◌/◌, ◌%◌, length, true≢false, Some, sym, refl, ◌∙◌, ap, subst}
+use Rattle.std.specs.List.{slice_get}
+use Rattle.slab.specs.Slab.{with_value}
+use Rattle.mio_edge.specs.Sessions.{PortsTell}
+use Rattle.mio_edge.specs.Moving.{noted}
+use Rattle.mio_edge.specs.Turns.{QueuesStand, TableStands}
+use Rattle.mio_edge.proofs.Sessions.{session_queued}
+use Rattle.mio_edge.proofs.Tables.{kept_at, still_kept, same_still, then_is, rest_same, Stood, stood_ready, put_over, put_twice, notes_at, news_at}
+use Rattle.mio_edge.proofs.Turns.{queues_still}
 use Rattle.mio_edge.proofs.table.TableReports.report.Goals as goal
 
 pub returns-then-report : goal.returns-then-report
-returns-then-report g c = kept_at g.S.Stream.tells c.args.self.now.sessions c.args.self.now.entries.items c.args.self.now.closed.items c.args.self.now.spare.items (c.args.token / c.args.self.now.width) c.in-Some.session.now c.stand_in.new.self (sym c.in-Some.ensures.value)
-    (then_is g.S.Stream.tells c.in-Some.session.now c.report.new.self c.stand_in.new.self c.report.ensures.same c.stand_in.ensures.same)
-    (then_same g.S.Stream.tells c.in-Some.session.now c.report.new.self c.stand_in.new.self c.report.ensures.keeps c.stand_in.ensures.ports)
+returns-then-report g c =
+    let t = g.S.Stream.tells in
+    let s = c.args.self.now in
+    let place = c.args.token / s.width in
+    let port = c.args.token % s.width in
+    let a = c.in-Some.session.now in
+    let b = c.report.new.self in
+    let d = c.stand_in.new.self in
+    let was = sym c.in-Some.ensures.value in
+    let still = c.report.ensures.still in
+    let ports : d.ports ≡ b.ports = ap (λ x. x.ports) c.stand_in.ensures.rest in
+    let stood : (TableStands s → Stood t (with_value s.sessions place b) c.stand_in.new.queue s.behind s.written (length s.spare.items) place b d) = λ queues. stood_ready t (with_value s.sessions place b) s.ready c.stand_in.new.queue s.behind s.written (length s.spare.items) place b d (put_over t s.sessions place a b was) c.stand_in.ensures.was c.stand_in.ensures.stands c.stand_in.ensures.rest
+    (queues_still s.sessions s.ready s.behind s.written (length s.spare.items) place a b was still.queued still.written queues) in record {
+      goes = λ world told. (
+        kept_at t s.sessions s.entries.items s.closed.items s.spare.items place a d was (then_is t a b d (same_still t a b still) (rest_same t b d c.stand_in.ensures.rest))
+            (λ links tells. session_queued t d links (subst (λ v. PortsTell t v.items links) (sym ports) (c.report.ensures.keeps links tells.ports)) (stood told.1).queued) world told.0,
+        subst (λ slab. QueuesStand slab c.stand_in.new.queue s.behind s.written (length s.spare.items)) (put_twice t s.sessions place b d) ((stood told.1).stands d refl (ap (λ x. x.is_written) c.stand_in.ensures.rest)),
+      );
+      notes = λ some. record {
+        notes = notes_at t s.sessions c.args.news place port a d was (λ x at. subst (λ v. slice_get v.items port ≡ Some (noted c.args.news x)) (sym ports) (c.report.ensures.notes x at));
+        named = λ y x is at new world told. (d, put_over t s.sessions place a d was, (stood told.1).queued);
+      };
+    }
 
 pub returns-else-report : goal.returns-else-report
-returns-else-report g c = kept_at g.S.Stream.tells c.args.self.now.sessions c.args.self.now.entries.items c.args.self.now.closed.items c.args.self.now.spare.items (c.args.token / c.args.self.now.width) c.in-Some.session.now c.report.new.self (sym c.in-Some.ensures.value) c.report.ensures.same c.report.ensures.keeps
+returns-else-report g c =
+    let t = g.S.Stream.tells in
+    let s = c.args.self.now in
+    let place = c.args.token / s.width in
+    let port = c.args.token % s.width in
+    let a = c.in-Some.session.now in
+    let b = c.report.new.self in
+    let was = sym c.in-Some.ensures.value in record {
+      goes = still_kept t s place a b was c.report.ensures.still (c.report.ensures.calm c.if-report.false);
+      notes = λ some. record {
+        notes = notes_at t s.sessions c.args.news place port a b was c.report.ensures.notes;
+        named = λ y x is at new world told. absurd (true≢false (sym (news_at t s.sessions c.args.news place port a c.report.result was c.report.ensures.news y x is at new) ∙ c.if-report.false));
+      };
+    }

@@ -1,0 +1,8 @@
+use Rattle.std.proofs.Common.{ℕ, ◌<◌}
+use Rattle.std.specs.List.{slice_get}
+use Rattle.mio_edge.specs.Sessions.{IsUnsentAt}
+use Rattle.mio_edge.proofs.session.Session.has_unsent.Given as goal
+
+-- nothing waits at the ports so far
+abbrev pub invariant-loop-port : goal.invariant-loop-port
+invariant-loop-port g l = (p : ℕ) → p < l.port-index → IsUnsentAt (slice_get l.fn.self.ports.items p) → ⊥

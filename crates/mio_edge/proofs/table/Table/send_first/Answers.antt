@@ -1,0 +1,37 @@
+use Rattle.std.proofs.Common.{length, false, sym, refl, ap, subst}
+use Rattle.slab.specs.Slab.{with_value}
+use Rattle.mio_edge.specs.Turns.{QueuesStand}
+use Rattle.mio_edge.proofs.Tables.{kept_at, then_is, stood_ready, rest_same, unsent_from, put_twice, put_over}
+use Rattle.mio_edge.proofs.Turns.{queues_taken}
+use Rattle.mio_edge.proofs.table.Table.send_first.Goals as goal
+
+pub returns-then-send-clause-keeps : goal.returns-then-send-clause-keeps
+returns-then-send-clause-keeps g c = λ world told.
+    let t = g.S.Stream.tells in
+    let s = c.args.self.now in
+    let place = c.in-Some.place in
+    let a = c.in-Some-get_mut.session.now in
+    let b = c.send.new.self in
+    let d = c.stand_in.new.self in
+    let still = c.send.ensures.still in
+    let was = sym c.in-Some-get_mut.ensures.value in
+    let taken = queues_taken s.sessions s.ready s.behind s.written c.pop.new.self (length s.spare.items) place a b was still.queued still.written c.in-Some.ensures.first told.1 in
+    let stood = stood_ready t (with_value s.sessions place b) s.ready c.stand_in.new.queue s.behind c.pop.new.self (length s.spare.items) place b d (put_over t s.sessions place a b was) c.stand_in.ensures.was c.stand_in.ensures.stands c.stand_in.ensures.rest taken in (
+      kept_at t s.sessions s.entries.items s.closed.items s.spare.items place a d was (then_is t a b d (record { number = still.number; is_open = still.is_open }) (rest_same t b d c.stand_in.ensures.rest))
+          (λ links tells. stood.keeps links (c.send.ensures.keeps links (unsent_from t a (record a { is_written = false }) refl refl links tells))) world told.0,
+      subst (λ slab. QueuesStand slab c.stand_in.new.queue s.behind c.pop.new.self (length s.spare.items)) (put_twice t s.sessions place b d) (stood.stands d refl (ap (λ x. x.is_written) c.stand_in.ensures.rest)),
+    )
+
+pub returns-else-send-clause-keeps : goal.returns-else-send-clause-keeps
+returns-else-send-clause-keeps g c = λ world told.
+    let t = g.S.Stream.tells in
+    let s = c.args.self.now in
+    let place = c.in-Some.place in
+    let a = c.in-Some-get_mut.session.now in
+    let b = c.send.new.self in
+    let still = c.send.ensures.still in
+    let was = sym c.in-Some-get_mut.ensures.value in (
+      kept_at t s.sessions s.entries.items s.closed.items s.spare.items place a b was (record { number = still.number; is_open = still.is_open })
+          (λ links tells. c.send.ensures.keeps links (unsent_from t a (record a { is_written = false }) refl refl links tells)) world told.0,
+      queues_taken s.sessions s.ready s.behind s.written c.pop.new.self (length s.spare.items) place a b was still.queued still.written c.in-Some.ensures.first told.1,
+    )
