@@ -2,7 +2,7 @@
 use Rattle.std.specs.Prelude.{◌≡◌, ◌<◌, ◌≤◌, ◌⊎◌, ℕ, List, length, true, false, Option, Some, IfSome}
 use Rattle.std.specs.Io.KnownBytes.{Appends}
 use Rattle.gate_base.specs.Causes.{Rose}
-use Rattle.gate_hub.specs.Meaning.{Meaning, Started}
+use Rattle.gate_hub.specs.Meaning.{Meaning, Started, Told}
 use Rattle.gate_hub.specs.Hubs.{Counts, Later, Leads, NotStarted, StartLeads}
 use Rattle.gate_hub.specs.declared.hub.Hub.{Ghosts as Hub}
 use Rattle.gate_hub.specs.declared.hub.Side.{Side}
@@ -21,6 +21,8 @@ use Rattle.gate_words.specs.declared.limits.TheConstants.{LEAST_LIMIT, GREATEST_
 use Rattle.gate_words.specs.declared.serving.Serving.{Serving}
 use Rattle.gate_io.specs.Fronts.{AppendsFront}
 use Rattle.gate_io.specs.declared.byte_streams.Sink.{Ghosts as Sink}
+use Rattle.session_core.specs.Notes.{Note}
+use Rattle.refusal_lines.specs.Told.{Told as Telling, told_text}
 use Rattle.gate_run.specs.Endings.{last_line}
 use Rattle.gate_run.specs.Outcome.{Streams, streams}
 use Rattle.peer_addresses.specs.Names.{name_in}
@@ -36,6 +38,10 @@ started_by s = record { listen = s.listen; upstream = s.target; accept = s.accep
 -- between whom the sessions go
 abbrev pub setting_by : Serving → Start → Setting
 setting_by s start = record { declarations = start.schema; service = start.service; client = s.client; upstream = s.upstream; longest = s.limit }
+
+-- how what is told of refused frames is spelled
+abbrev pub telling_by : Serving → Telling
+telling_by s = record { client = s.client; upstream = s.upstream; tells = s.tells_refusals; limit = s.limit }
 
 -- the rules of each session, its most bytes of a frame and open calls, how many may be open, and how much may be spent
 abbrev pub settings : Serving → Start → Sessions
@@ -74,10 +80,10 @@ abbrev pub served_from : (Meaning → Type 0) → Counts → Streams → Outside
 served_from told counts x = record { told = told; counts = counts; written = x.written; faults = x.output_faults }
 
 -- the hub was started with what the words say, and from there it and the output are as a server of this setting leaves
--- them; or it could not be started, and nothing was written
+-- them, which spells the lines of refused frames so; or it could not be started, and nothing was written
 pub data ServesAll {H : Type 0} (tells : H → Meaning → Type 0) (counts : H → Counts) (s : Serving) (start : Start) (h h' : H) (a b : Streams) (ending : Ending) : Type 0 where
   Began : (mid : H) (result : Served) → b.left ≡ a.left → Later (counts h) (counts mid) → Leads (tells h) (tells mid) NotStarted (StartLeads (started_by s) began.Done)
-      → Serves Setting rules_of (settings s start) (served_from (tells mid) (counts mid) a) (served_from (tells h') (counts h') b) result
+      → Serves Setting rules_of (settings s start) (told_text (telling_by s)) (served_from (tells mid) (counts mid) a) (served_from (tells h') (counts h') b) result
       → EndsBy result (counts mid).faults (counts h').faults a b ending → ServesAll tells counts s start h h' a b ending
   NotBegun : Leads (tells h) (tells h') NotStarted (StartLeads (started_by s) began.Failed) → Rose (counts h).faults (counts h').faults → SaysLast endings.HubFault a b ending
       → ServesAll tells counts s start h h' a b ending
@@ -94,13 +100,19 @@ ServesHub hubs = ServesAll hubs.tells hubs.counts
 abbrev pub ServesSessions : {H O : Type 0} → Hub H → Sink O → Serving → Start → H → O → H → O → Served → Type 0
 ServesSessions hubs outputs s start hub output hub' output' result =
     let moment = outside hubs.tells hubs.counts outputs.written outputs.faults in
-    Serves Setting rules_of (settings s start) (moment hub output) (moment hub' output') result
+    Serves Setting rules_of (settings s start) (told_text (telling_by s)) (moment hub output) (moment hub' output') result
 
--- the hub has stopped, and each session that it announced was closed and has an outcome, or is settled
+-- a session was closed and has an outcome, or is settled, and these frames of it were refused
+abbrev pub EndsOrRests : Serving → Start → List Note → Told → Type 0
+EndsOrRests s start notes t =
+    ((o : Outcome) × HasClosed (settings s start) o notes t)
+    ⊎ ((session : Seen Setting) × IsHeld Setting rules_of (settings s start) session notes t × IsSettled Setting rules_of session t)
+
+-- the hub has stopped, and so is each session that it announced
 abbrev pub HasServed : (Meaning → Type 0) → Serving → Start → Type 0
 HasServed told s start =
     (m : Meaning) × told m × (m.last_event ≡ Some event.Stopped)
-    × ((k : ℕ) → (m.session k).announced ≡ true → ((o : Outcome) × HasClosed (settings s start) o (m.session k)) ⊎ ((session : Seen Setting) × IsHeld Setting rules_of (settings s start) session (m.session k) × IsSettled Setting rules_of session (m.session k)))
+    × ((k : ℕ) → (m.session k).announced ≡ true → (notes : List Note) × EndsOrRests s start notes (m.session k))
 
 -- the hub has neither stopped nor failed
 abbrev pub GoesOn : (Meaning → Type 0) → Type 0

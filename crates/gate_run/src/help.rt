@@ -12,7 +12,7 @@ const HELP: &[u8] = b"usage: thrift_gate check|convert|show|serve|drill|help
 check FILE
 convert FROM TO [--idl FILE] [--service NAME] [--limit F] [--lines SIDE]
 show FROM [--idl FILE] [--service NAME] [--limit F] [--lines SIDE]
-serve CLIENT UPSTREAM LISTEN TARGET [--idl FILE] [--service NAME] [--limit F] [--sessions N] [--accept C] [--events E] [--calls P] [--unframed SIDE] [--front KIND]
+serve CLIENT UPSTREAM LISTEN TARGET [--idl FILE] [--service NAME] [--limit F] [--sessions N] [--accept C] [--events E] [--calls P] [--unframed SIDE] [--front KIND] [--tell refused]
 route CLIENT UPSTREAM LISTEN TARGETS [--idl FILE] [--limit F] [--sessions N] [--accept C] [--events E] [--calls P]
 conform FROM --idl FILE [--service NAME] [--limit F]
 drill SEED COUNT

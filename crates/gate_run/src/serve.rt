@@ -18,6 +18,7 @@ use http_front::HttpHub;
 use peer_addresses::name_in;
 use protocol_traits::Proto;
 use proxy_server::{Limits, serve};
+use refusal_lines::Telling;
 use session_judge::Setup;
 use std::alloc::Global;
 use stream_messages::{UnframedHub, Wire};
@@ -241,7 +242,13 @@ fn serve_started<O: Sink, H: Hub>(
         sessions: serving.sessions as usize,
         events: serving.events,
     };
-    serve(alloc, &judges, limits, hub, output)
+    let telling = Telling::new(
+        serving.client,
+        serving.upstream,
+        serving.tells_refusals,
+        serving.limit as usize,
+    );
+    serve(alloc, &judges, limits, &telling, hub, output)
 }
 
 /// The ending and the last line of a server that has ended.

@@ -26,13 +26,14 @@ const OF_CALC: &[u8] = b"\0\0\0\x06\x82\x41\x02\x01b\0";
 
 const OF_LOG: &[u8] = b"\0\0\0\x06\x82\x41\x01\x01a\0";
 
-/// Words that name no router: a target twice, a name with a colon, no name, an address of three octets, and an option of one upstream.
-const NO_ROUTERS: [&[u8]; 5] = [
+/// Words that name no router: a target twice, a name with a colon, no name, an address of three octets, and options that a router doesn't have.
+const NO_ROUTERS: [&[u8]; 6] = [
     b"route binary compact 127.0.0.1:1 A=127.0.0.1:2,A=127.0.0.1:3",
     b"route binary compact 127.0.0.1:1 A:B=127.0.0.1:2",
     b"route binary compact 127.0.0.1:1 =127.0.0.1:2",
     b"route binary compact 127.0.0.1:1 A=127.0.0:2",
     b"route binary compact 127.0.0.1:1 A=127.0.0.1:2 --service A",
+    b"route binary compact 127.0.0.1:1 A=127.0.0.1:2 --tell refused",
 ];
 
 fn arrival(alloc: Global, port: usize, bytes: &[u8]) -> Result<FanStep, OutOfMemory> {

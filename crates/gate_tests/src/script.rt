@@ -56,7 +56,7 @@ fn steps_of(alloc: Global, acts: &[Act<'_>]) -> Result<HubSteps, OutOfMemory> {
 }
 
 /// An outside whose hub does these acts, and moves so many bytes at most in a call.
-fn with_acts(alloc: Global, acts: &[Act<'_>], chunk: usize) -> Result<Outside, OutOfMemory>
+pub fn with_acts(alloc: Global, acts: &[Act<'_>], chunk: usize) -> Result<Outside, OutOfMemory>
     requires { 0 < chunk }
 {
     let hub = MemHub::new(alloc, steps_of(alloc, acts)?, chunk)?;

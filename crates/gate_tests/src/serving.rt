@@ -1,9 +1,9 @@
 //! The command `serve` over a hub in memory: what each side is sent, and how the session ends.
-use crate::outside::{Ending, Outside, ends_as, with_input};
-use crate::script::{Act, Shown, shows};
+use crate::outside::{Ending, Outside, ends_as, only, with_input};
+use crate::script::{Act, Shown, shows, with_acts};
 use gate_base::OutOfMemory;
 use gate_hub::Side;
-use gate_memory::{HubStep, HubSteps, MemHub};
+use gate_memory::{HubStep, HubSteps, MemHub, MemSink};
 use std::alloc::Global;
 use std::test::*;
 
@@ -236,6 +236,80 @@ const ONEWAY_POST: Case = Case {
     },
 };
 
+/// The same server, which tells each refusal.
+const TELLING: &[u8] = b"serve compact json 127.0.0.1:1 127.0.0.1:2 --limit 1024 --tell refused";
+
+/// The refused call of number 2, between calls that pass, is told once.
+const TOLD: Case = Case {
+    line: TELLING,
+    acts: &[
+        Act::Connects,
+        Act::Sends(Side::Client, &CALLS),
+        Act::Sends(Side::Upstream, &REPLIES),
+        Act::Ends(Side::Client),
+    ],
+    shown: Shown {
+        client: &ANSWERS,
+        upstream: &PASSED,
+        ending: b"session 0: call 2 \"ping\" 2: at 9: U1 double\nsession 0: clean\n",
+    },
+};
+
+/// A oneway message with a double is dropped.
+const TOLD_OF_A_ONEWAY: Case = Case {
+    line: TELLING,
+    acts: &[
+        Act::Connects,
+        Act::Sends(
+            Side::Client,
+            b"\0\0\0\x12\x82\x81\x02\x04ping\x17\x18\x2d\x44\x54\xfb\x21\x09\x40\0",
+        ),
+        Act::Ends(Side::Client),
+    ],
+    shown: Shown {
+        client: b"",
+        upstream: b"",
+        ending: b"session 0: call 1 \"ping\" 2: at 9: U1 double, dropped\nsession 0: clean\n",
+    },
+};
+
+/// A string of which nothing is declared is refused in an answer.
+const TOLD_OF_AN_ANSWER: Case = Case {
+    line: TELLING,
+    acts: &[
+        Act::Connects,
+        Act::Sends(Side::Client, b"\0\0\0\x09\x82\x21\x01\x04ping\0"),
+        Act::Sends(
+            Side::Upstream,
+            b"\0\0\0\x21[1,\"ping\",2,1,{\"0\":{\"str\":\"hi\"}}]",
+        ),
+        Act::Ends(Side::Client),
+    ],
+    shown: Shown {
+        client: b"\0\0\0\x1e\x82\x61\x01\x04ping\x18\x11U2 unknown string\x15\x0e\0",
+        upstream: b"\0\0\0\x11[1,\"ping\",1,1,{}]",
+        ending: b"session 0: answer 1 \"ping\" 1: at 26: U2 unknown string\nsession 0: clean\n",
+    },
+};
+
+/// Of a name of 65 bytes 64 are told. The call is refused for a field of no kind.
+const TOLD_OF_A_LONG_NAME: Case = Case {
+    line: b"serve compact json 127.0.0.1:1 127.0.0.1:2 --tell refused",
+    acts: &[
+        Act::Connects,
+        Act::Sends(
+            Side::Client,
+            b"\0\0\0\x46\x82\x81\x01\x41\"\n\x80aaaaaaaaaaaaaaaaaaaaaaaaaaaaaaaaaaaaaaaaaaaaaaaaaaaaaaaaaaaaab\x1e",
+        ),
+        Act::Ends(Side::Client),
+    ],
+    shown: Shown {
+        client: b"",
+        upstream: b"",
+        ending: b"session 0: call 1 \"\\\"\\x0A\\x80aaaaaaaaaaaaaaaaaaaaaaaaaaaaaaaaaaaaaaaaaaaaaaaaaaaaaaaaaaaaa\".. 1: at 69: G4 bad kind, dropped\nsession 0: clean\n",
+    },
+};
+
 /// Whether the session of each case shows what the case tells, moved by bytes and in pieces.
 fn are_shown(alloc: Global, cases: &[Case]) -> Result<bool, OutOfMemory> {
     let mut are_shown = true;
@@ -265,6 +339,47 @@ fn peers_without_frames_are_served(rt: HostRuntime) -> Result<(), Fail> {
 fn clients_that_send_posts_are_served(rt: HostRuntime) -> Result<(), Fail> {
     let cases = [POSTS, GET, ONEWAY_POST];
     assert!(rt; are_shown(rt.alloc(), &cases).ok().ok_or("memory")?);
+    Ok(())
+}
+
+#[test]
+fn refusals_are_told(rt: HostRuntime) -> Result<(), Fail> {
+    let cases = [
+        TOLD,
+        TOLD_OF_A_ONEWAY,
+        TOLD_OF_AN_ANSWER,
+        TOLD_OF_A_LONG_NAME,
+    ];
+    assert!(rt; are_shown(rt.alloc(), &cases).ok().ok_or("memory")?);
+    Ok(())
+}
+
+/// An outside at which this happens, whose output fails at the first write.
+fn with_a_broken_output(alloc: Global, acts: &[Act<'_>]) -> Result<Outside, OutOfMemory> {
+    let output = MemSink::new(alloc, 64, only(alloc, 0)?)?;
+    let mut outside = with_acts(alloc, acts, 4096)?;
+    outside.output = output;
+    Ok(outside)
+}
+
+/// Whether a server ends with a write fault that can't tell a refusal.
+fn ends_untold(alloc: Global) -> Result<bool, OutOfMemory> {
+    let mut outside = with_a_broken_output(alloc, TOLD.acts)?;
+    ends_as(
+        alloc,
+        TELLING,
+        &mut outside,
+        &Ending {
+            code: 5,
+            output: b"",
+            report: b"",
+        },
+    )
+}
+
+#[test]
+fn a_refusal_that_cannot_be_told_ends_the_server(rt: HostRuntime) -> Result<(), Fail> {
+    assert!(rt; ends_untold(rt.alloc()).ok().ok_or("memory")?);
     Ok(())
 }
 

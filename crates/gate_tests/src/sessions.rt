@@ -10,7 +10,7 @@ use gate_hub::Side;
 use gate_idl::open as open_idl;
 use gate_memory::MemFiles;
 use protocol_traits::Proto;
-use session_core::{Halt, Judge, Outcome, Session};
+use session_core::{Halt, Judge, Outcome, Session, Silent};
 use session_judge::{Setup, open};
 use std::alloc::Global;
 use std::test::*;
@@ -132,7 +132,7 @@ fn send<J: Judge>(
     let due = session.due(side);
     let count = due.len().min(most);
     sent.extend_from_slice(&due[..count])?;
-    session.sent(side, count);
+    session.sent(side, count, &mut Silent);
     Ok(count)
 }
 
@@ -166,8 +166,8 @@ fn feed<J: Judge>(
 {
     for part in bytes.chunks(piece) {
         match side {
-            Side::Client => session.take_client(part),
-            Side::Upstream => session.take_upstream(part),
+            Side::Client => session.take_client(part, &mut Silent),
+            Side::Upstream => session.take_upstream(part, &mut Silent),
         };
         drain(session, seen, most)?;
     }
@@ -197,7 +197,7 @@ fn goes_so<J: Judge>(
         }
     }
     for side in row.ends {
-        session.end(*side);
+        session.end(*side, &mut Silent);
     }
     Ok(
         seen.held <= BOUND

@@ -1,5 +1,5 @@
 -- The options of a command: pairs of a name and a value, in any order, each at most once.
-use Rattle.std.specs.Prelude.{ℕ, ◌||◌, ◌≤◌, List, [], ◌∷◌, Option, Some, None, is_some, IfSome, Bool, if◌then◌else◌, codes}
+use Rattle.std.specs.Prelude.{ℕ, ◌||◌, ◌≤◌, List, [], ◌∷◌, Option, Some, None, is_some, IfSome, Bool, true, false, not, if◌then◌else◌, codes}
 use Rattle.decimal_words.specs.Same.{is}
 use Rattle.gate_words.specs.Same.{is_empty}
 use Rattle.decimal_words.specs.Numbers.{number_of, within}
@@ -12,7 +12,7 @@ use Rattle.gate_words.specs.declared.options.Options.{Options}
 use Rattle.gate_words.specs.declared.limits.TheConstants.{LEAST_LIMIT, GREATEST_LIMIT, MOST_SESSIONS, MOST_ACCEPTED, MOST_EVENTS, MOST_CALLS}
 
 abbrev pub no_options : Options
-no_options = record { idl = None; service = None; limit = None; sessions = None; accept = None; events = None; calls = None; unframed = None; front = None; lines = None }
+no_options = record { idl = None; service = None; limit = None; sessions = None; accept = None; events = None; calls = None; tells_refusals = false; unframed = None; front = None; lines = None }
 
 -- the name of a file or a service isn't empty
 abbrev pub with_idl : Options → List ℕ → Option Options
@@ -72,6 +72,14 @@ set_calls o (Some calls) = Some (record o { calls = Some calls })
 abbrev pub with_calls : Options → List ℕ → Option Options
 with_calls o value = if is_some o.calls then None else set_calls o (within 1 MOST_CALLS (number_of value))
 
+-- the word for frames that are refused
+unfoldable pub names_refusals : List ℕ → Bool
+names_refusals value = is value (codes "refused")
+
+-- each refusal is told
+abbrev pub with_tell : Options → List ℕ → Option Options
+with_tell o value = if o.tells_refusals || not (names_refusals value) then None else Some (record o { tells_refusals = true })
+
 -- the sides whose messages stand in no frames
 abbrev pub set_unframed : Options → Option Sides → Option Options
 set_unframed o None = None
@@ -102,15 +110,16 @@ with_server_option o name value =
     else if is name (codes "--accept") then with_accept o value
     else if is name (codes "--events") then with_events o value
     else if is name (codes "--calls") then with_calls o value
+    else if is name (codes "--tell") then with_tell o value
     else with_peers o name value
 
 -- whether one of these stands
 abbrev pub is_server_alone : Options → Bool
-is_server_alone o = is_some o.sessions || is_some o.accept || is_some o.events || is_some o.calls || is_some o.unframed || is_some o.front
+is_server_alone o = is_some o.sessions || is_some o.accept || is_some o.events || is_some o.calls || o.tells_refusals || is_some o.unframed || is_some o.front
 
 -- whether an option stands that a router doesn't have
 abbrev pub is_for_one_upstream : Options → Bool
-is_for_one_upstream o = is_some o.service || is_some o.unframed || is_some o.front || is_some o.lines
+is_for_one_upstream o = is_some o.service || is_some o.unframed || is_some o.front || is_some o.lines || o.tells_refusals
 
 -- with one option more
 unfoldable pub with_option : Options → List ℕ → List ℕ → Option Options

@@ -73,6 +73,7 @@ serving_of ends o = record {
   accept = or_else 0 o.accept;
   events = or_else MOST_EVENTS o.events;
   calls = or_else DEFAULT_CALLS o.calls;
+  tells_refusals = o.tells_refusals;
   unframed = o.unframed;
   front = front_or_framed o.front;
 }

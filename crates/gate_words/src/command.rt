@@ -56,7 +56,7 @@ pub enum Command {
     Convert(Conversion, Declared),
     /// `show FROM [--idl FILE] [--service NAME] [--limit F] [--lines SIDE]`
     Show(Showing, Declared),
-    /// `serve CLIENT UPSTREAM LISTEN TARGET [--idl FILE] [--service NAME] [--limit F] [--sessions N] [--accept C] [--events E] [--calls P] [--unframed SIDE] [--front KIND]`
+    /// `serve CLIENT UPSTREAM LISTEN TARGET [--idl FILE] [--service NAME] [--limit F] [--sessions N] [--accept C] [--events E] [--calls P] [--unframed SIDE] [--front KIND] [--tell refused]`
     Serve(Serving, Declared),
     /// `route CLIENT UPSTREAM LISTEN TARGETS [--idl FILE] [--limit F] [--sessions N] [--accept C] [--events E] [--calls P]`
     Route(Routing, Declared),

@@ -1,6 +1,6 @@
 //! The options of a command.
 ghost use Rattle.std.specs.Prelude.{◌≡◌, ◌≤◌, IfOk, IfSome};
-ghost use Rattle.gate_words.specs.Options.{no_options, options_of, with_option, with_server_option, with_peers, with_idl, with_service, with_limit, with_sessions, with_accept, with_events, with_calls, with_unframed, with_front, with_lines, limit_of, is_server_alone, is_for_one_upstream, IsInRange};
+ghost use Rattle.gate_words.specs.Options.{no_options, options_of, with_option, with_server_option, with_peers, with_idl, with_service, with_limit, with_sessions, with_accept, with_events, with_calls, with_tell, with_unframed, with_front, with_lines, limit_of, names_refusals, is_server_alone, is_for_one_upstream, IsInRange};
 
 use crate::limits::{
     GREATEST_LIMIT, LEAST_LIMIT, MOST_ACCEPTED, MOST_CALLS, MOST_EVENTS, MOST_SESSIONS,
@@ -28,6 +28,8 @@ pub struct Options {
     pub accept: Option<u64>,
     pub events: Option<u64>,
     pub calls: Option<u32>,
+    /// Whether each refusal is told.
+    pub tells_refusals: bool,
     pub unframed: Option<Sides>,
     pub front: Option<Front>,
     pub lines: Option<LineSides>,
@@ -46,6 +48,7 @@ impl Options {
             accept: None,
             events: None,
             calls: None,
+            tells_refusals: false,
             unframed: None,
             front: None,
             lines: None,
@@ -87,6 +90,8 @@ impl Options {
             self.with_events(value)
         } else if name == b"--calls".as_slice() {
             self.with_calls(value)
+        } else if name == b"--tell".as_slice() {
+            self.with_tell(value)
         } else {
             self.with_peers(name, value)
         }
@@ -234,6 +239,20 @@ impl Options {
         }
     }
 
+    fn with_tell(self, value: &[u8]) -> Option<Options>
+        requires range { IsInRange self }
+        ensures value { result ≡ with_tell self value.now }
+        ensures range { IfSome result IsInRange }
+    {
+        if self.tells_refusals || !names_refusals(value) {
+            return None;
+        }
+        Some(Options {
+            tells_refusals: true,
+            ..self
+        })
+    }
+
     fn with_unframed(self, value: &[u8]) -> Option<Options>
         requires range { IsInRange self }
         ensures value { result ≡ with_unframed self value.now }
@@ -276,11 +295,13 @@ impl Options {
             || self.accept.is_some()
             || self.events.is_some()
             || self.calls.is_some()
+            || self.tells_refusals
             || self.unframed.is_some()
             || self.front.is_some()
     }
 
-    /// Whether an option stands that a router doesn't have: its services are its targets, and its peers send frames and no lines.
+    /// Whether an option stands that a router doesn't have: its services are its targets, its peers send frames and no lines, and
+    /// it tells no refusals.
     pub fn is_for_one_upstream(&self) -> bool
         ensures { result ≡ is_for_one_upstream self.now }
     {
@@ -288,7 +309,16 @@ impl Options {
             || self.unframed.is_some()
             || self.front.is_some()
             || self.lines.is_some()
+            || self.tells_refusals
     }
+}
+
+// Whether a word names the frames that are refused: of others nothing is told.
+#[tactic(auto, unfolding(crate::specs::Options::names_refusals))]
+fn names_refusals(value: &[u8]) -> bool
+    ensures { result ≡ names_refusals value.now }
+{
+    value == b"refused".as_slice()
 }
 
 // The frame limit that a word spells.

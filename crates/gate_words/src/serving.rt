@@ -38,6 +38,8 @@ pub struct Serving {
     pub events: u64,
     /// The most open calls of a session.
     pub calls: u32,
+    /// Whether each refusal is told.
+    pub tells_refusals: bool,
     /// The sides whose messages stand in no frames.
     pub unframed: Option<Sides>,
     /// What the clients wrap each message in.
@@ -125,6 +127,7 @@ fn serve_as(ends: Ends, options: Options) -> Option<Command>
         accept: options.accept.unwrap_or(0),
         events: options.events.unwrap_or(MOST_EVENTS),
         calls: options.calls.unwrap_or(DEFAULT_CALLS),
+        tells_refusals: options.tells_refusals,
         unframed: options.unframed,
         front: options.front.unwrap_or(Front::Framed),
     };

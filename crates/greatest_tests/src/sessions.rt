@@ -7,6 +7,7 @@ use gate_memory::{
 };
 use gate_run::run;
 use protocol_traits::Proto;
+use session_core::Silent;
 use session_judge::{Setup, open};
 use std::alloc::Global;
 use std::test::*;
@@ -55,7 +56,7 @@ fn the_greatest_session_is_opened(rt: HostRuntime) -> Result<(), Fail> {
     };
     let mut session = open(rt.alloc(), &setup).ok().ok_or("memory")?;
     assert_eq!(rt;
-        session.take_client(b"\0\0\0\x09\x82\x21\x01\x04ping\0"),
+        session.take_client(b"\0\0\0\x09\x82\x21\x01\x04ping\0", &mut Silent),
         13
     );
     Ok(())

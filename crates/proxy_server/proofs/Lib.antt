@@ -5,4 +5,6 @@ pub mod Places
 pub mod Running
 pub mod Standing
 pub mod Tallies
+pub mod Telling
+pub mod Sayings
 pub mod Texts

@@ -1,5 +1,5 @@
 -- The calls of a hub, the sessions that they close, and what was counted.
-use Rattle.std.proofs.Common.{◌≡◌, ◌≢◌, ℕ, zero, suc, ◌+◌, ◌-◌, ◌<◌, ◌≤◌, ◌⊎◌, inl, inr, List, [], ◌∷◌, ◌++◌, length, take, Option, Some, arith, ap, sym, ◌∙◌, subst, refl, append_assoc, length-append}
+use Rattle.std.proofs.Common.{◌≡◌, ℕ, zero, suc, ◌+◌, ◌≤◌, ◌⊎◌, inl, inr, List, [], ◌∷◌, ◌++◌, length, take, Some, arith, ap, sym, ◌∙◌, subst, refl, append_assoc}
 use Rattle.std.specs.List.{slice_get}
 use Rattle.std.proofs.lemmas.List.{append-nil, take_all}
 use Rattle.std.proofs.lemmas.Grind.{flat_map-append}
@@ -9,10 +9,11 @@ use Rattle.gate_hub.specs.Hubs.{Counts, Later}
 use Rattle.gate_hub.specs.declared.hub.Side.{Side}
 use Rattle.session_core.specs.declared.outcome.Outcome.{Outcome}
 use Rattle.session_core.specs.declared.outcome.Outcome.TheVariants as outcome
-use Rattle.proxy_server.specs.Calling.{closing_of, closings_of, ArePieces, Fails, EndsFailing, FailsLast}
-use Rattle.proxy_server.specs.Serving.{Entry, Closing, ended_numbers, held_numbers, IsClosedInOrder, IsJustClosed, AreCounted}
+use Rattle.proxy_server.specs.Calling.{closing_of, closings_of, ArePieces, EndsFailing, FailsLast}
+use Rattle.proxy_server.specs.Saying.{Closing}
+use Rattle.proxy_server.specs.Serving.{Entry, ended_numbers, held_numbers, IsClosedInOrder, IsJustClosed, AreCounted}
 use Rattle.proxy_server.specs.Steps.{closing_calls}
-use Rattle.proxy_server.proofs.Places.{some_same, get_within, behind_cases}
+use Rattle.proxy_server.proofs.Places.{some_same, behind_cases}
 
 closings_on : (calls more : List HubCall) → closings_of (calls ++ more) ≡ closings_of calls ++ closings_of more
 closings_on calls more = flat_map-append closing_of calls more

@@ -15,24 +15,25 @@ use Rattle.gate_hub.specs.declared.hub.LinkPut.TheVariants as put
 use Rattle.framed_transport.specs.Front.{Part, Whole, Large, front, is_part}
 use Rattle.session_core.specs.Rules.{Rules}
 use Rattle.session_core.specs.Standing.{Standing, History}
-use Rattle.session_core.specs.Fits.{Fits}
+use Rattle.session_core.specs.Notes.{Note}
+use Rattle.session_core.specs.Telling.{FitsTold}
 use Rattle.session_core.specs.Ends.{IsAtRest}
 use Rattle.session_core.specs.Session.{Seen, due_to, room_of, and_sent, and_ended}
 use Rattle.session_core.specs.Steps.{is_none}
 use Rattle.proxy_server.specs.Calling.{piece_length, IsPiece, ArePieces, Fails, EndsFailing, Wanted, ToWrite, ToRead}
 use Rattle.session_core.proofs.Endings.{is_none_tests}
 use Rattle.proxy_server.specs.Matching.{history_of, and_received, Matches, IsSame}
-use Rattle.proxy_server.specs.Turning.{Moves, Begins, wanted, most_behind, wanted_write, wanted_read, room_in, or_else, other, write_waits, read_waits, with_write, with_read, IsMarked, link_amount, amount, Grows, AllGrow, NoneFailed, Runs, Breaks, Goes, HasFailed, CallDoes, IsQuiet, IsSettled, ReadsNoMore, HasEnded, IsNotReady, HoldsFrame, held_of_side, no_waits}
+use Rattle.proxy_server.specs.Turning.{Begins, wanted, most_behind, wanted_write, wanted_read, room_in, or_else, other, write_waits, read_waits, with_write, with_read, IsMarked, link_amount, amount, Grows, AllGrow, NoneFailed, Runs, Breaks, Goes, HasFailed, CallDoes, IsQuiet, IsSettled, ReadsNoMore, HasEnded, IsNotReady, HoldsFrame, held_of_side, no_waits}
 use Rattle.proxy_server.specs.declared.waiting.Waits.{Waits}
 
 -- ---- the session
 
 -- a session with the same judge, limit, number of calls and rooms
-pub matches_at : (J : Type 0) (rules : J → Rules) (a b : Seen J) (h : History) → IsSame J a b → Fits (rules a.judge) a.limit a.max_calls h b.standing → IsAtRest (rules a.judge) a.limit a.max_calls b.standing b.outcome → Matches J rules b h
-matches_at J rules a b h same fits rest = record {
-  fits = subst (λ (j : J). Fits (rules j) b.limit b.max_calls h b.standing) (sym same.judge)
-      (subst (λ (n : ℕ). Fits (rules a.judge) n b.max_calls h b.standing) (sym same.limit)
-      (subst (λ (n : ℕ). Fits (rules a.judge) a.limit n h b.standing) (sym same.max_calls) fits));
+pub matches_at : (J : Type 0) (rules : J → Rules) (a b : Seen J) (notes : List Note) (h : History) → IsSame J a b → FitsTold (rules a.judge) a.limit a.max_calls h notes b.standing → IsAtRest (rules a.judge) a.limit a.max_calls b.standing b.outcome → Matches J rules b notes h
+matches_at J rules a b notes h same fits rest = record {
+  fits = subst (λ (j : J). FitsTold (rules j) b.limit b.max_calls h notes b.standing) (sym same.judge)
+      (subst (λ (n : ℕ). FitsTold (rules a.judge) n b.max_calls h notes b.standing) (sym same.limit)
+      (subst (λ (n : ℕ). FitsTold (rules a.judge) a.limit n h notes b.standing) (sym same.max_calls) fits));
   rest = subst (λ (j : J). IsAtRest (rules j) b.limit b.max_calls b.standing b.outcome) (sym same.judge)
       (subst (λ (n : ℕ). IsAtRest (rules a.judge) n b.max_calls b.standing b.outcome) (sym same.limit)
       (subst (λ (n : ℕ). IsAtRest (rules a.judge) a.limit n b.standing b.outcome) (sym same.max_calls) rest));
@@ -437,9 +438,9 @@ off_by : (ended over : Bool) (room : ℕ) → 0 < (if ended || over then 0 else 
 off_by true over room some = absurd (omega (arith, some))
 off_by false over room some = refl
 
-pub not_ended : (x : Side) (J : Type 0) (rules : J → Rules) (session : Seen J) (s : Told) → Matches J rules session (history_of s) → 0 < room_of session.limit session.standing (is_some session.outcome) x → (link_of s x).ended ≡ false
-not_ended side.Client J rules session s m some = sym m.fits.client_ended ∙ off_by session.standing.client_ended (is_some session.outcome) _ some
-not_ended side.Upstream J rules session s m some = sym m.fits.upstream_ended ∙ off_by session.standing.upstream_ended (is_some session.outcome) _ some
+pub not_ended : (x : Side) (J : Type 0) (rules : J → Rules) (session : Seen J) (notes : List Note) (s : Told) → Matches J rules session notes (history_of s) → 0 < room_of session.limit session.standing (is_some session.outcome) x → (link_of s x).ended ≡ false
+not_ended side.Client J rules session notes s m some = sym m.fits.fits.client_ended ∙ off_by session.standing.client_ended (is_some session.outcome) _ some
+not_ended side.Upstream J rules session notes s m some = sym m.fits.fits.upstream_ended ∙ off_by session.standing.upstream_ended (is_some session.outcome) _ some
 
 pub take_of_front : (n m : ℕ) (xs : List ℕ) → n ≤ m → take n (take m xs) ≡ take n xs
 take_of_front zero m xs within = refl
@@ -483,17 +484,17 @@ no_room limit held true over link off is none = HasEnded (sym is)
 no_room limit held false true link off is none = absurd (true≢false off)
 no_room limit held false false link off is none = HoldsFrame (full_front limit held (omega (arith, none)))
 
-reads_no_more : (x : Side) (J : Type 0) (rules : J → Rules) (session : Seen J) (t : Told) → session.outcome ≡ None → Matches J rules session (history_of t) → (room_of session.limit session.standing (is_some session.outcome) x ≡ 0) ⊎ ((link_of t x).last_read ≡ Some got.NotReady) → ReadsNoMore session.limit (held_of_side x session.standing) (link_of t x)
-reads_no_more x J rules session t going m (inr waits) = IsNotReady waits
-reads_no_more side.Client J rules session t going m (inl none) = no_room session.limit session.standing.client session.standing.client_ended (is_some session.outcome) t.client (ap is_some going) m.fits.client_ended none
-reads_no_more side.Upstream J rules session t going m (inl none) = no_room session.limit session.standing.upstream session.standing.upstream_ended (is_some session.outcome) t.upstream (ap is_some going) m.fits.upstream_ended none
+reads_no_more : (x : Side) (J : Type 0) (rules : J → Rules) (session : Seen J) (notes : List Note) (t : Told) → session.outcome ≡ None → Matches J rules session notes (history_of t) → (room_of session.limit session.standing (is_some session.outcome) x ≡ 0) ⊎ ((link_of t x).last_read ≡ Some got.NotReady) → ReadsNoMore session.limit (held_of_side x session.standing) (link_of t x)
+reads_no_more x J rules session notes t going m (inr waits) = IsNotReady waits
+reads_no_more side.Client J rules session notes t going m (inl none) = no_room session.limit session.standing.client session.standing.client_ended (is_some session.outcome) t.client (ap is_some going) m.fits.fits.client_ended none
+reads_no_more side.Upstream J rules session notes t going m (inl none) = no_room session.limit session.standing.upstream session.standing.upstream_ended (is_some session.outcome) t.upstream (ap is_some going) m.fits.fits.upstream_ended none
 
 or_by : {A B C : Type 0} → A ⊎ B → (B → C) → A ⊎ C
 or_by (inl a) f = inl a
 or_by (inr b) f = inr (f b)
 
-pub settles : (J : Type 0) (rules : J → Rules) (session : Seen J) (k : ℕ) (first : Option Wanted) (n : ℕ) (w : Waits) (made : List HubCall) (s t : Told) → session.outcome ≡ None → IsQuiet session.limit session.standing session.outcome w → Matches J rules session (history_of t) → Runs k first n no_waits w made s t → AllGrow s t × NoneFailed s t × IsSettled J rules session t
-settles J rules session k first n w made s t going quiet m p =
+pub settles : (J : Type 0) (rules : J → Rules) (session : Seen J) (notes : List Note) (k : ℕ) (first : Option Wanted) (n : ℕ) (w : Waits) (made : List HubCall) (s t : Told) → session.outcome ≡ None → IsQuiet session.limit session.standing session.outcome w → Matches J rules session notes (history_of t) → Runs k first n no_waits w made s t → AllGrow s t × NoneFailed s t × IsSettled J rules session t
+settles J rules session notes k first n w made s t going quiet m p =
     let marked = p.marked (unmarked s) in (
       p.grows,
       p.none_failed,
@@ -501,7 +502,7 @@ settles J rules session k first n w made s t going quiet m p =
         going = going;
         still = m.rest.still;
         writes = λ x. or_by (quiet x).0 (marked.writes x);
-        reads = λ x. reads_no_more x J rules session t going m (or_by (quiet x).1 (marked.reads x));
+        reads = λ x. reads_no_more x J rules session notes t going m (or_by (quiet x).1 (marked.reads x));
       },
     )
 

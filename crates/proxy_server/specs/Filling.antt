@@ -2,7 +2,7 @@
 use Rattle.std.specs.Prelude.{◌≡◌, ◌≢◌, ℕ, ◌<◌, ◌≤◌, List, length, true, Some, slice_get}
 use Rattle.gate_hub.specs.Meaning.{Meaning}
 use Rattle.session_core.specs.declared.outcome.Outcome.TheVariants as outcome
-use Rattle.proxy_server.specs.Serving.{Closing}
+use Rattle.proxy_server.specs.Saying.{Closing}
 
 -- the session is none of these that have ended
 abbrev pub HasNotEnded : ℕ → List Closing → Type 0

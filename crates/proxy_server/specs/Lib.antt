@@ -2,6 +2,7 @@
 pub mod Calling
 pub mod Filling
 pub mod Lines
+pub mod Saying
 pub mod Matching
 pub mod Serving
 pub mod Spending

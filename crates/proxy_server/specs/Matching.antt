@@ -5,7 +5,8 @@ use Rattle.gate_hub.specs.declared.hub.Side.{Side}
 use Rattle.gate_hub.specs.declared.hub.Side.TheVariants as side
 use Rattle.session_core.specs.Rules.{Rules}
 use Rattle.session_core.specs.Standing.{History}
-use Rattle.session_core.specs.Fits.{Fits}
+use Rattle.session_core.specs.Notes.{Note}
+use Rattle.session_core.specs.Telling.{FitsTold}
 use Rattle.session_core.specs.Ends.{IsAtRest}
 use Rattle.session_core.specs.Session.{Seen}
 
@@ -25,14 +26,16 @@ abbrev pub and_received : Side → History → List ℕ → History
 and_received side.Client h bytes = record h { from_client = h.from_client ++ bytes }
 and_received side.Upstream h bytes = record h { from_upstream = h.from_upstream ++ bytes }
 
--- the session fits what came and went, and no step is left to it
-pub record Matches (J : Type 0) (rules : J → Rules) (session : Seen J) (h : History) : Type 0 where
-  pub fits : Fits (rules session.judge) session.limit session.max_calls h session.standing
+-- the session fits what came and went and what was told of its refused frames, and no step is left to it
+pub record Matches (J : Type 0) (rules : J → Rules) (session : Seen J) (notes : List Note) (h : History) : Type 0 where
+  pub fits : FitsTold (rules session.judge) session.limit session.max_calls h notes session.standing
   pub rest : IsAtRest (rules session.judge) session.limit session.max_calls session.standing session.outcome
 
--- where a session matched what came and went, it matches that with what was added on the way
-abbrev pub MatchesOn : {J : Type 0} → (J → Rules) → Seen J → Seen J → (History → History) → Type 0
-MatchesOn {J} rules old new on = (h : History) → Matches J rules old h → Matches J rules new (on h)
+-- some was told of refused frames, and where a session matched what came and went and was told, it matches that with what
+-- was added on the way
+abbrev pub MatchesOn : {J : Type 0} → (J → Rules) → Seen J → Seen J → (List Note → Type 0) → (History → History) → Type 0
+MatchesOn {J} rules old new tells on =
+    (added : List Note) × tells added × ((past : List Note) (h : History) → Matches J rules old past h → Matches J rules new (past ++ added) (on h))
 
 -- the same judge, limit, number of calls and rooms
 pub record IsSame (J : Type 0) (a b : Seen J) : Type 0 where

@@ -10,12 +10,14 @@ use Rattle.gate_hub.specs.declared.hub.Served.{Served}
 use Rattle.gate_hub.specs.declared.hub.Served.TheVariants as served
 use Rattle.session_core.specs.Rules.{Rules}
 use Rattle.session_core.specs.Standing.{Standing, nothing}
-use Rattle.session_core.specs.Fits.{Fits}
+use Rattle.session_core.specs.Notes.{Note}
+use Rattle.session_core.specs.Telling.{FitsTold}
 use Rattle.session_core.specs.Steps.{outcome_of}
 use Rattle.session_core.specs.Session.{Seen, HoldsWithin, rooms_for}
 use Rattle.session_core.specs.declared.outcome.Outcome.{Outcome}
 use Rattle.session_core.specs.declared.outcome.Outcome.TheVariants as outcome
 use Rattle.proxy_server.specs.Lines.{line_text}
+use Rattle.proxy_server.specs.Saying.{Closing}
 use Rattle.proxy_server.specs.Calling.{closings_of, FailsLast, LinkRose}
 use Rattle.proxy_server.specs.Matching.{history_of, Matches}
 use Rattle.proxy_server.specs.Turning.{IsSettled, HasFailed}
@@ -34,33 +36,30 @@ pub record Entry (J : Type 0) : Type 0 where
   pub number : ℕ
   pub session : Seen J
 
--- a session's number, and how it ended
-abbrev pub Closing : Type 0
-Closing = ℕ × Outcome
-
--- an open session is one of the server's setting, matches what the hub tells of it, has the rooms that it took when it was opened,
--- and holds no more than it may
-pub record IsHeld (J : Type 0) (rules : J → Rules) (set : Setting) (session : Seen J) (t : Told) : Type 0 where
+-- an open session is one of the server's setting, matches what the hub tells of it and what was said of its refused frames, has the
+-- rooms that it took when it was opened, and holds no more than it may
+pub record IsHeld (J : Type 0) (rules : J → Rules) (set : Setting) (session : Seen J) (notes : List Note) (t : Told) : Type 0 where
   pub announced : t.announced ≡ true
   pub judged : rules session.judge ≡ set.rules
   pub limited : session.limit ≡ set.limit
   pub calls : session.max_calls ≡ set.max_calls
-  pub matches : Matches J rules session (history_of t)
+  pub matches : Matches J rules session notes (history_of t)
   pub rooms : session.rooms ≡ rooms_for set.limit set.max_calls
   pub holds : HoldsWithin session
 
--- why a session has this outcome: it was not opened, and nothing was received or sent; the last call of a kind on this side
--- failed, and none on the other; or no such call failed, and it is the outcome of a session that fits what came and went
-pub data IsOutcome (set : Setting) (o : Outcome) (t : Told) : Type 0 where
-  NotOpened : (o ≡ outcome.Full) ⊎ (o ≡ outcome.NoMemory) → history_of t ≡ nothing → ((x : Side) → HasFailed x t → ⊥) → IsOutcome set o t
-  LinkFailed : (x : Side) (s : Standing) → o ≡ outcome.LinkFault x → HasFailed x t → ((y : Side) → y ≢ x → HasFailed y t → ⊥) → Fits set.rules set.limit set.max_calls (history_of t) s → IsOutcome set o t
-  OfItself : (s : Standing) → outcome_of set.rules set.limit set.max_calls s ≡ Some o → ((x : Side) → HasFailed x t → ⊥) → Fits set.rules set.limit set.max_calls (history_of t) s → IsOutcome set o t
+-- why a session has this outcome: it was not opened, and nothing was received, sent or refused; the last call of a kind on this
+-- side failed, and none on the other; or no such call failed, and it is the outcome of a session that fits what came and went and
+-- what was said of its refused frames
+pub data IsOutcome (set : Setting) (o : Outcome) (notes : List Note) (t : Told) : Type 0 where
+  NotOpened : (o ≡ outcome.Full) ⊎ (o ≡ outcome.NoMemory) → notes ≡ [] → history_of t ≡ nothing → ((x : Side) → HasFailed x t → ⊥) → IsOutcome set o notes t
+  LinkFailed : (x : Side) (s : Standing) → o ≡ outcome.LinkFault x → HasFailed x t → ((y : Side) → y ≢ x → HasFailed y t → ⊥) → FitsTold set.rules set.limit set.max_calls (history_of t) notes s → IsOutcome set o notes t
+  OfItself : (s : Standing) → outcome_of set.rules set.limit set.max_calls s ≡ Some o → ((x : Side) → HasFailed x t → ⊥) → FitsTold set.rules set.limit set.max_calls (history_of t) notes s → IsOutcome set o notes t
 
 -- a session that has ended, and was closed
-pub record HasClosed (set : Setting) (o : Outcome) (t : Told) : Type 0 where
+pub record HasClosed (set : Setting) (o : Outcome) (notes : List Note) (t : Told) : Type 0 where
   pub announced : t.announced ≡ true
   pub closed : t.closed ≡ true
-  pub why : IsOutcome set o t
+  pub why : IsOutcome set o notes t
 
 -- the session is one of the open ones, or of those that have ended
 pub data IsAmong (J : Type 0) (k : ℕ) (open_ones : List (Entry J)) (ended : List Closing) : Type 0 where
@@ -72,20 +71,22 @@ IsRising {J} held = (i j : ℕ) (d e : Entry J) → i < j → slice_get held i �
 
 -- the server holds these sessions, of which the first so many are closed, all but that at `busy` are settled and no call of
 -- theirs failed, and these have ended, in order of closing; each announced session is one of them, but for `More`, and none is
--- two of them. A session that ended by a fault of a side was closed by the very next call
-pub record Stands (J : Type 0) (rules : J → Rules) (set : Setting) (More : ℕ → Type 0) (held : List (Entry J)) (past : List Closing) (busy gone : ℕ) (m : Meaning) : Type 0 where
+-- two of them. A session that ended by a fault of a side was closed by the very next call. Of each session this was heard: its
+-- refused frames
+pub record Stands (J : Type 0) (rules : J → Rules) (set : Setting) (More : ℕ → Type 0) (held : List (Entry J)) (past : List Closing) (heard : ℕ → List Note) (busy gone : ℕ) (m : Meaning) : Type 0 where
   pub started : HasStarted m
   pub rising : IsRising held
-  pub each : (i : ℕ) (e : Entry J) → slice_get held i ≡ Some e → IsHeld J rules set e.session (m.session e.number)
+  pub each : (i : ℕ) (e : Entry J) → slice_get held i ≡ Some e → IsHeld J rules set e.session (heard e.number) (m.session e.number)
   pub closed : (i : ℕ) (e : Entry J) → slice_get held i ≡ Some e → i < gone → (m.session e.number).closed ≡ true
   pub is_open : (i : ℕ) (e : Entry J) → slice_get held i ≡ Some e → gone ≤ i → (m.session e.number).closed ≡ false
   pub settled : (i : ℕ) (e : Entry J) → slice_get held i ≡ Some e → i ≢ busy → IsSettled J rules e.session (m.session e.number)
   pub unfailed : (i : ℕ) (e : Entry J) → slice_get held i ≡ Some e → i ≢ busy → (x : Side) → HasFailed x (m.session e.number) → ⊥
-  pub ended : (i : ℕ) (c : Closing) → slice_get past i ≡ Some c → HasClosed set c.1 (m.session c.0)
+  pub ended : (i : ℕ) (c : Closing) → slice_get past i ≡ Some c → HasClosed set c.1 (heard c.0) (m.session c.0)
   pub once : (i j : ℕ) (c d : Closing) → i < j → slice_get past i ≡ Some c → slice_get past j ≡ Some d → c.0 ≢ d.0
   pub apart : (i j : ℕ) (c : Closing) (e : Entry J) → slice_get past i ≡ Some c → slice_get held j ≡ Some e → c.0 ≢ e.number
   pub broke : (i : ℕ) (c : Closing) (x : Side) → slice_get past i ≡ Some c → c.1 ≡ outcome.LinkFault x → FailsLast c.0 x m.calls
   pub covers : (k : ℕ) → (m.session k).announced ≡ true → More k ⊎ IsAmong J k held past
+  pub unheard : (k : ℕ) → (m.session k).announced ≡ false → heard k ≡ []
 
 abbrev pub no_more : ℕ → Type 0
 no_more k = ⊥
@@ -126,12 +127,6 @@ AreCounted before now ended =
     (i : ℕ) (c : Closing) (x : Side) → slice_get ended i ≡ Some c → c.1 ≡ outcome.LinkFault x → LinkRose before now c.0 x
 
 -- ---- the lines
-
-abbrev pub closing_line : Closing → List ℕ
-closing_line c = line_text c.0 (Some c.1)
-
-abbrev pub closing_lines : List Closing → List ℕ
-closing_lines ended = flat_map closing_line ended
 
 abbrev pub left_line : {J : Type 0} → Entry J → List ℕ
 left_line e = line_text e.number None

@@ -9,6 +9,7 @@ use Rattle.gate_hub.specs.declared.hub.LinkPut.{LinkPut}
 use Rattle.gate_hub.specs.declared.hub.LinkPut.TheVariants as put
 use Rattle.framed_transport.specs.Front.{front, is_part}
 use Rattle.session_core.specs.Rules.{Rules}
+use Rattle.session_core.specs.Notes.{Note}
 use Rattle.session_core.specs.Standing.{Standing, History}
 use Rattle.session_core.specs.Steps.{IsStill, is_none}
 use Rattle.session_core.specs.Ends.{is_own}
@@ -104,9 +105,15 @@ abbrev pub Goes : (Meaning → Type 0) → (Meaning → Type 0) → (History →
 Goes told told' matches matches' k Step =
     (m : Meaning) → told m → IsOpen k m → matches (history_of (m.session k)) → ((n : Meaning) × told' n × matches' (history_of (n.session k)) × Moves k Step m n)
 
+-- the same with what was told of refused frames on the way, whatever was told before
+abbrev pub GoesTelling : (List Note → Type 0) → (Meaning → Type 0) → (Meaning → Type 0) → (List Note → History → Type 0) → (List Note → History → Type 0) → ℕ → (List HubCall → Told → Told → Type 0) → Type 0
+GoesTelling tells told told' matches matches' k Step =
+    (added : List Note) × tells added × ((past : List Note) → Goes told told' (matches past) (matches' (past ++ added)) k Step)
+
 -- so a turn goes: it leads from what the hub tells and this session to what it tells then and that one
-abbrev pub TurnGoes : {J : Type 0} → (J → Rules) → ℕ → (Meaning → Type 0) → Seen J → (Meaning → Type 0) → Seen J → Turn → Type 0
-TurnGoes {J} rules k told old told' new result = Goes told told' (Matches J rules old) (Matches J rules new) k (TurnDoes J rules k new result)
+abbrev pub TurnGoes : {J : Type 0} → (J → Rules) → ℕ → (List Note → Type 0) → (Meaning → Type 0) → Seen J → (Meaning → Type 0) → Seen J → Turn → Type 0
+TurnGoes {J} rules k tells told old told' new result =
+    GoesTelling tells told told' (Matches J rules old) (Matches J rules new) k (TurnDoes J rules k new result)
 
 -- how the answer of a turn goes with the session's outcome, whatever is told
 pub data EndsAs (ending : Option Outcome) : Turn → Type 0 where
@@ -174,9 +181,9 @@ Begins k (Some (ToWrite x n)) made = (answer : LinkPut) × (more : List HubCall)
 Begins k (Some (ToRead x n)) made = (answer : LinkGot) × (more : List HubCall) × (made ≡ Read k x n answer ∷ more)
 
 -- so a turn goes, and its first call is the one that is wanted
-abbrev pub TurnGoesInOrder : {J : Type 0} → (J → Rules) → ℕ → (Meaning → Type 0) → Seen J → (Meaning → Type 0) → Seen J → Turn → Type 0
-TurnGoesInOrder {J} rules k told old told' new result =
-    Goes told told' (Matches J rules old) (Matches J rules new) k
+abbrev pub TurnGoesInOrder : {J : Type 0} → (J → Rules) → ℕ → (List Note → Type 0) → (Meaning → Type 0) → Seen J → (Meaning → Type 0) → Seen J → Turn → Type 0
+TurnGoesInOrder {J} rules k tells told old told' new result =
+    GoesTelling tells told told' (Matches J rules old) (Matches J rules new) k
     (λ made s t. (old.outcome ≡ None → Begins k (wanted no_waits old) made) × TurnDoes J rules k new result made s t)
 
 -- ---- on the way
@@ -216,9 +223,9 @@ CallDoes k first (Ok n) v w made s t = Runs k first n v w made s t
 CallDoes k first (Err x) v w made s t = Breaks k first x made s t
 
 -- the same from what the hub tells, the session and the marks to those behind the calls, where the first is wanted so
-abbrev pub Calls : {J : Type 0} → (J → Rules) → ℕ → (Waits → Seen J → Option Wanted) → (Meaning → Type 0) → Seen J → Waits → (Meaning → Type 0) → Seen J → Waits → Result ℕ Side → Type 0
-Calls {J} rules k first told old waits told' new waits' result =
-    Goes told told' (Matches J rules old) (Matches J rules new) k (CallDoes k (first waits old) result waits waits')
+abbrev pub Calls : {J : Type 0} → (J → Rules) → ℕ → (Waits → Seen J → Option Wanted) → (List Note → Type 0) → (Meaning → Type 0) → Seen J → Waits → (Meaning → Type 0) → Seen J → Waits → Result ℕ Side → Type 0
+Calls {J} rules k first tells told old waits told' new waits' result =
+    GoesTelling tells told told' (Matches J rules old) (Matches J rules new) k (CallDoes k (first waits old) result waits waits')
 
 -- nothing is due to the side, or it isn't ready; there is no room for it, or it isn't ready
 abbrev pub IsQuiet : ℕ → Standing → Option Outcome → Waits → Type 0

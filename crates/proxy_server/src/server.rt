@@ -1,19 +1,26 @@
 //! A server at work: its open sessions, the line that it writes, and how much of its budget is spent.
-ghost use Rattle.std.specs.Prelude.{◌≡◌, ⊤, ◌+◌, ◌^◌, Option, ◌≢◌, ◌⊎◌, ◌<◌, ◌≤◌, length, None, Some, Ok, Err, IfSome};
+ghost use Rattle.std.specs.Prelude.{◌≡◌, ℕ, ⊤, ◌+◌, ◌^◌, Option, ◌≢◌, ◌⊎◌, ◌<◌, ◌≤◌, length, None, Some, Ok, Err, IfSome};
 ghost use Rattle.std.specs.List.{remove};
 ghost use Rattle.gate_base.specs.Causes.{Rose};
 ghost use Rattle.gate_hub.specs.Hubs.{Later};
 ghost use Rattle.gate_hub.specs.declared.hub.HubNext.{HubNext};
 ghost use Rattle.proxy_server.specs.Lines.{line_text};
 ghost use Rattle.proxy_server.specs.Serving.{SpendsBy, left_lines};
-ghost use Rattle.proxy_server.specs.Steps.{AreGood, Writes, Outside, IsCarriedOn, WorkEnds, StepEnds, IsRefusedAs, served_by, seen, Steps, Attends, Admits, Refuses, Finishes, Settles, Resumes, IsPutLast, LeavesMore, WritesLeft};
+ghost use Rattle.refusal_teller.specs.Tells.{Writes, WritesBehind};
+ghost use Rattle.refusal_teller.specs.Refused.{refusal_lines};
+ghost use Rattle.session_core.specs.Session.{HoldsWithin};
+ghost use Rattle.proxy_server.specs.Matching.{IsSame};
+ghost use Rattle.proxy_server.specs.Calling.{LinkRose};
+ghost use Rattle.proxy_server.specs.Turning.{EndsAs, TurnGoes};
+ghost use Rattle.proxy_server.specs.Steps.{AreGood, Outside, IsCarriedOn, WorkEnds, StepEnds, IsRefusedAs, served_by, seen, Steps, Attends, Admits, Refuses, Finishes, Settles, Resumes, IsPutLast, LeavesMore, WritesLeft};
 
 use crate::judges::Judges;
 use crate::lines::{LINE_ROOM, put_line};
 use crate::table::{OpenSession, find, open_session};
 use crate::turn_end::Turn;
-use gate_hub::{Hub, HubNext};
+use gate_hub::{Hub, HubNext, Side};
 use gate_io::{Out, Sink, Wrote, write_all};
+use refusal_teller::{RefusalLines, Teller};
 use session_core::{Judge, Outcome, Session};
 use std::alloc::Global;
 
@@ -39,6 +46,8 @@ pub enum End {
     HubFault,
     /// The line of a session that ended could not be written.
     WriteFault,
+    /// The line of a frame of the session at this place could not be written. The session goes on.
+    Unwritten(usize),
     /// The budget is spent, and the session at this place, if one is there, goes on.
     Budget(usize),
 }
@@ -64,6 +73,56 @@ pub fn tell<O: Sink>(line: &mut Out, output: &mut O, number: u64, ending: Option
     write_all(output, line.bytes())
 }
 
+/// Writes a line where no write has failed before.
+fn tell_behind<O: Sink>(
+    wrote: Wrote,
+    line: &mut Out,
+    output: &mut O,
+    number: u64,
+    ending: Option<Outcome>,
+) -> Wrote
+    requires { LINE_ROOM ≤ line.old.room }
+    ensures room { line.new.room ≡ line.old.room }
+    ensures line { WritesBehind wrote result (O.written output.old) (O.written output.new) (line_text number ending) }
+    ensures none { wrote ≡ Wrote.Failed → (result ≡ Wrote.Failed) × (output.new ≡ output.old) }
+    ensures later { O.faults output.old ≤ O.faults output.new }
+    ensures cause { result ≡ Wrote.Failed → (wrote ≡ Wrote.Failed) ⊎ Rose (O.faults output.old) (O.faults output.new) }
+{
+    match wrote {
+        Wrote::All => tell(line, output, number, ending),
+        Wrote::Failed => Wrote::Failed,
+    }
+}
+
+/// One turn of a session, with the lines of its refused frames, and whether each was written.
+fn turn_telling<J: Judge, H: Hub, O: Sink, L: RefusalLines>(
+    session: &mut OpenSession<J>,
+    lines: &L,
+    hub: &mut H,
+    output: &mut O,
+    line: &mut Out,
+) -> (Turn, Wrote)
+    requires room { L.room lines.now ≤ line.old.room }
+    ensures turned { TurnGoes J.rules session.old.number
+        (λ notes. Writes result.1 (O.written output.old) (O.written output.new) (refusal_lines (L.text lines.now) session.old.number notes))
+        (H.tells hub.old) session.old.session (H.tells hub.new) session.new.session result.0 }
+    ensures number { session.new.number ≡ session.old.number }
+    ensures ending { EndsAs session.new.session.outcome result.0 }
+    ensures same { IsSame J session.old.session session.new.session }
+    ensures holds { HoldsWithin session.new.session }
+    ensures room { line.new.room ≡ line.old.room }
+    ensures later { Later (H.counts hub.old) (H.counts hub.new) }
+    ensures kept { H.kept hub.new ≡ H.kept hub.old }
+    ensures cause { (side : Side) → result.0 ≡ Turn.Ended (Outcome.LinkFault side) →
+        LinkRose (H.counts hub.old) (H.counts hub.new) session.old.number side }
+    ensures output_later { O.faults output.old ≤ O.faults output.new }
+    ensures unwritten { result.1 ≡ Wrote.Failed → Rose (O.faults output.old) (O.faults output.new) }
+{
+    let mut teller = Teller::over(output, line, lines, session.number());
+    let turn = session.turn(hub, &mut teller);
+    (turn, teller.end())
+}
+
 /// The work goes on where the line of a session that ended was written.
 fn after_line(wrote: Wrote) -> Result<(), End>
     ensures all { wrote ≡ Wrote.All → (x : ⊤) × (result ≡ Ok x) }
@@ -75,30 +134,45 @@ fn after_line(wrote: Wrote) -> Result<(), End>
     }
 }
 
+/// The work goes on where each line of the session at a place was written.
+fn after_turn(wrote: Wrote, at: usize) -> Result<(), End>
+    ensures all { wrote ≡ Wrote.All → (x : ⊤) × (result ≡ Ok x) }
+    ensures failed { wrote ≡ Wrote.Failed → result ≡ Err (End.Unwritten at) }
+{
+    match wrote {
+        Wrote::All => Ok(()),
+        Wrote::Failed => Err(End::Unwritten(at)),
+    }
+}
+
 impl<J: Judge> Server<J> {
     /// Takes events until the hub stops or fails, a line can't be written or the budget is spent.
-    pub fn attend<H: Hub, O: Sink, P: Judges<J>>(
+    pub fn attend<H: Hub, O: Sink, P: Judges<J>, L: RefusalLines>(
         &mut self,
         alloc: Global,
         judges: &P,
+        lines: &L,
         hub: &mut H,
         output: &mut O,
     ) -> End
         requires room { LINE_ROOM ≤ self.old.line.room }
+        requires lines { L.room lines.now ≤ self.old.line.room }
         requires budget { self.old.spent ≤ self.old.limits.events }
         requires good { AreGood self.old.limits (P.longest judges.now) }
         ensures room { self.new.line.room ≡ self.old.line.room }
-        ensures goes { Attends J.rules (P.rules judges.now) self.old (seen H.Hub O.Sink hub.old output.old hub.new output.new) self.new result }
+        ensures goes { Attends J.rules (P.rules judges.now) (L.text lines.now) self.old
+            (seen H.Hub O.Sink hub.old output.old hub.new output.new) self.new result }
         ensures spends { SpendsBy (served_by result Wrote.All) self.new.spent self.old.limits.events }
         ensures later { Later (H.counts hub.old) (H.counts hub.new) }
         ensures kept { H.kept hub.new ≡ H.kept hub.old }
         ensures output_later { O.faults output.old ≤ O.faults output.new }
         ensures hub_cause { result ≡ End.HubFault → Rose (H.counts hub.old).faults (H.counts hub.new).faults }
         ensures cause { result ≡ End.WriteFault → Rose (O.faults output.old) (O.faults output.new) }
+        ensures unwritten { (at : ℕ) → result ≡ End.Unwritten at → Rose (O.faults output.old) (O.faults output.new) }
     {
         let events = self.limits.events;
         'serving: while self.spent < events {
-            match self.step(alloc, judges, hub, output) {
+            match self.step(alloc, judges, lines, hub, output) {
                 Ok(()) => (),
                 Err(ending) => return ending,
             }
@@ -172,18 +246,20 @@ impl<J: Judge> Server<J> {
         ensures later { Later (H.counts hub.old) (H.counts hub.new) }
         ensures kept { H.kept hub.new ≡ H.kept hub.old }
         ensures output_later { O.faults output.old ≤ O.faults output.new }
+        ensures written { (at : ℕ) → result ≡ Err (End.Unwritten at) → ⊥ }
         ensures cause { result ≡ Err End.WriteFault → Rose (O.faults output.old) (O.faults output.new) }
     {
         hub.close(number);
         after_line(tell(&mut self.line, output, number, Some(outcome)))
     }
 
-    /// Closes the session at a place, which has ended, and writes its line. Where it ended by a fault of a side, that was
-    /// counted since `from`.
+    /// Closes the session at a place, which has ended, and writes its line where no write has failed. Where it ended by a
+    /// fault of a side, that was counted since `from`.
     fn finish<H: Hub, O: Sink>(
         &mut self,
         at: usize,
         outcome: Outcome,
+        wrote: Wrote,
         hub: &mut H,
         output: &mut O,
     ) -> Result<(), End>
@@ -192,61 +268,82 @@ impl<J: Judge> Server<J> {
         ensures same { (self.new.limits ≡ self.old.limits) × (self.new.line.room ≡ self.old.line.room) }
         ensures spent { self.new.spent ≡ self.old.spent }
         ensures ends { WorkEnds result self.new.spent self.old.limits.events }
-        ensures goes { Finishes J.rules at outcome self.old (seen H.Hub O.Sink hub.old output.old hub.new output.new) self.new result }
+        ensures goes { Finishes J.rules at outcome wrote self.old (seen H.Hub O.Sink hub.old output.old hub.new output.new) self.new result }
         ensures later { Later (H.counts hub.old) (H.counts hub.new) }
         ensures kept { H.kept hub.new ≡ H.kept hub.old }
         ensures output_later { O.faults output.old ≤ O.faults output.new }
-        ensures cause { result ≡ Err End.WriteFault → Rose (O.faults output.old) (O.faults output.new) }
+        ensures cause { result ≡ Err End.WriteFault → (wrote ≡ Wrote.Failed) ⊎ Rose (O.faults output.old) (O.faults output.new) }
+        ensures written { (at : ℕ) → result ≡ Err (End.Unwritten at) → ⊥ }
     {
         let number = self.sessions[at].number();
         drop(self.sessions.remove(at));
         hub.close(number);
-        after_line(tell(&mut self.line, output, number, Some(outcome)))
+        after_line(tell_behind(wrote, &mut self.line, output, number, Some(outcome)))
     }
 
     /// Turns the session at a place until it is settled or has ended, or the budget is spent.
-    fn settle<H: Hub, O: Sink>(&mut self, at: usize, hub: &mut H, output: &mut O) -> Result<(), End>
+    fn settle<H: Hub, O: Sink, L: RefusalLines>(
+        &mut self,
+        at: usize,
+        lines: &L,
+        hub: &mut H,
+        output: &mut O,
+    ) -> Result<(), End>
         requires room { LINE_ROOM ≤ self.old.line.room }
+        requires lines { L.room lines.now ≤ self.old.line.room }
         requires budget { self.old.spent ≤ self.old.limits.events }
         requires within { at < length self.old.sessions.items }
         ensures carried { IsCarriedOn self.old.limits self.new.limits self.old.line.room self.new.line.room self.old.spent self.new.spent }
         ensures ends { WorkEnds result self.new.spent self.old.limits.events }
-        ensures goes { Settles J.rules at self.old (seen H.Hub O.Sink hub.old output.old hub.new output.new) self.new result }
+        ensures goes { Settles J.rules (L.text lines.now) at self.old (seen H.Hub O.Sink hub.old output.old hub.new output.new) self.new result }
         ensures later { Later (H.counts hub.old) (H.counts hub.new) }
         ensures kept { H.kept hub.new ≡ H.kept hub.old }
         ensures output_later { O.faults output.old ≤ O.faults output.new }
         ensures cause { result ≡ Err End.WriteFault → Rose (O.faults output.old) (O.faults output.new) }
+        ensures unwritten { (k : ℕ) → result ≡ Err (End.Unwritten k) → Rose (O.faults output.old) (O.faults output.new) }
     {
         let events = self.limits.events;
         'turns: while self.spent < events {
-            match self.sessions[at].turn(hub) {
-                Turn::Settled => return Ok(()),
-                Turn::Ended(outcome) => return self.finish(at, outcome, hub, output),
+            let (turn, wrote) = turn_telling(
+                &mut self.sessions[at],
+                lines,
+                hub,
+                output,
+                &mut self.line,
+            );
+            match turn {
+                Turn::Settled => return after_turn(wrote, at),
+                Turn::Ended(outcome) => return self.finish(at, outcome, wrote, hub, output),
                 Turn::More => self.spent += 1,
             }
+            after_turn(wrote, at)?;
         }
         Err(End::Budget(at))
     }
 
     /// Opens a session that was announced and turns it, or closes it.
-    fn admit<H: Hub, O: Sink, P: Judges<J>>(
+    fn admit<H: Hub, O: Sink, P: Judges<J>, L: RefusalLines>(
         &mut self,
         alloc: Global,
         judges: &P,
+        lines: &L,
         number: u64,
         hub: &mut H,
         output: &mut O,
     ) -> Result<(), End>
         requires room { LINE_ROOM ≤ self.old.line.room }
+        requires lines { L.room lines.now ≤ self.old.line.room }
         requires budget { self.old.spent ≤ self.old.limits.events }
         requires good { AreGood self.old.limits (P.longest judges.now) }
         ensures carried { IsCarriedOn self.old.limits self.new.limits self.old.line.room self.new.line.room self.old.spent self.new.spent }
         ensures ends { WorkEnds result self.new.spent self.old.limits.events }
-        ensures goes { Admits J.rules (P.rules judges.now) number self.old (seen H.Hub O.Sink hub.old output.old hub.new output.new) self.new result }
+        ensures goes { Admits J.rules (P.rules judges.now) (L.text lines.now) number self.old
+            (seen H.Hub O.Sink hub.old output.old hub.new output.new) self.new result }
         ensures later { Later (H.counts hub.old) (H.counts hub.new) }
         ensures kept { H.kept hub.new ≡ H.kept hub.old }
         ensures output_later { O.faults output.old ≤ O.faults output.new }
         ensures cause { result ≡ Err End.WriteFault → Rose (O.faults output.old) (O.faults output.new) }
+        ensures unwritten { (k : ℕ) → result ≡ Err (End.Unwritten k) → Rose (O.faults output.old) (O.faults output.new) }
     {
         if self.sessions.len() >= self.limits.sessions {
             return self.refuse(number, Outcome::Full, hub, output);
@@ -255,7 +352,7 @@ impl<J: Judge> Server<J> {
             return self.refuse(number, Outcome::NoMemory, hub, output);
         };
         match self.hold(number, session) {
-            Some(at) => self.settle(at, hub, output),
+            Some(at) => self.settle(at, lines, hub, output),
             None => self.refuse(number, Outcome::NoMemory, hub, output),
         }
     }
@@ -274,59 +371,66 @@ impl<J: Judge> Server<J> {
     }
 
     /// Turns a session that an event names.
-    fn resume<H: Hub, O: Sink>(
+    fn resume<H: Hub, O: Sink, L: RefusalLines>(
         &mut self,
+        lines: &L,
         number: u64,
         hub: &mut H,
         output: &mut O,
     ) -> Result<(), End>
         requires room { LINE_ROOM ≤ self.old.line.room }
+        requires lines { L.room lines.now ≤ self.old.line.room }
         requires budget { self.old.spent ≤ self.old.limits.events }
         ensures carried { IsCarriedOn self.old.limits self.new.limits self.old.line.room self.new.line.room self.old.spent self.new.spent }
         ensures ends { WorkEnds result self.new.spent self.old.limits.events }
-        ensures goes { Resumes J.rules number self.old (seen H.Hub O.Sink hub.old output.old hub.new output.new) self.new result }
+        ensures goes { Resumes J.rules (L.text lines.now) number self.old (seen H.Hub O.Sink hub.old output.old hub.new output.new) self.new result }
         ensures later { Later (H.counts hub.old) (H.counts hub.new) }
         ensures kept { H.kept hub.new ≡ H.kept hub.old }
         ensures output_later { O.faults output.old ≤ O.faults output.new }
         ensures cause { result ≡ Err End.WriteFault → Rose (O.faults output.old) (O.faults output.new) }
+        ensures unwritten { (k : ℕ) → result ≡ Err (End.Unwritten k) → Rose (O.faults output.old) (O.faults output.new) }
     {
         match find(self.sessions.as_slice(), number) {
-            Some(at) => self.settle(at, hub, output),
+            Some(at) => self.settle(at, lines, hub, output),
             None => Ok(()),
         }
     }
 
     /// Takes the next event, and turns the session that it names. Every open session is settled before.
-    pub fn step<H: Hub, O: Sink, P: Judges<J>>(
+    pub fn step<H: Hub, O: Sink, P: Judges<J>, L: RefusalLines>(
         &mut self,
         alloc: Global,
         judges: &P,
+        lines: &L,
         hub: &mut H,
         output: &mut O,
     ) -> Result<(), End>
         requires room { LINE_ROOM ≤ self.old.line.room }
+        requires lines { L.room lines.now ≤ self.old.line.room }
         requires budget { self.old.spent < self.old.limits.events }
         requires range { self.old.limits.events < 2 ^ 64 }
         requires good { AreGood self.old.limits (P.longest judges.now) }
         ensures carried { IsCarriedOn self.old.limits self.new.limits self.old.line.room self.new.line.room self.old.spent self.new.spent }
         ensures ends { StepEnds result self.old.spent self.new.spent self.old.limits.events }
-        ensures goes { Steps J.rules (P.rules judges.now) self.old (seen H.Hub O.Sink hub.old output.old hub.new output.new) self.new result }
+        ensures goes { Steps J.rules (P.rules judges.now) (L.text lines.now) self.old
+            (seen H.Hub O.Sink hub.old output.old hub.new output.new) self.new result }
         ensures later { Later (H.counts hub.old) (H.counts hub.new) }
         ensures kept { H.kept hub.new ≡ H.kept hub.old }
         ensures output_later { O.faults output.old ≤ O.faults output.new }
         ensures hub_cause { result ≡ Err End.HubFault → Rose (H.counts hub.old).faults (H.counts hub.new).faults }
         ensures cause { result ≡ Err End.WriteFault → Rose (O.faults output.old) (O.faults output.new) }
+        ensures unwritten { (k : ℕ) → result ≡ Err (End.Unwritten k) → Rose (O.faults output.old) (O.faults output.new) }
     {
         match hub.next() {
             HubNext::Stopped => Err(End::Stopped),
             HubNext::Failed => Err(End::HubFault),
             HubNext::Opened(number) => {
                 self.spent += 1;
-                self.admit(alloc, judges, number, hub, output)
+                self.admit(alloc, judges, lines, number, hub, output)
             }
             HubNext::Ready(number) => {
                 self.spent += 1;
-                self.resume(number, hub, output)
+                self.resume(lines, number, hub, output)
             }
         }
     }

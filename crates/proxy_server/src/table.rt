@@ -1,5 +1,5 @@
 //! The sessions that are open, in the order of their numbers.
-ghost use Rattle.std.specs.Prelude.{◌≡◌, ◌⊎◌, ◌<◌, ◌≤◌, length, Some, None, IfSome, IfOk, slice_get, ℕ, ◌^◌};
+ghost use Rattle.std.specs.Prelude.{◌≡◌, [], ◌⊎◌, ◌<◌, ◌≤◌, length, Some, None, IfSome, IfOk, slice_get, ℕ, ◌^◌};
 ghost use Rattle.gate_hub.specs.Hubs.{Later};
 ghost use Rattle.session_core.specs.Standing.{nothing};
 ghost use Rattle.session_core.specs.Session.{HoldsWithin, rooms_for};
@@ -15,7 +15,7 @@ use crate::turn_end::Turn;
 use crate::turning::turn;
 use gate_base::OutOfMemory;
 use gate_hub::{Hub, Side};
-use session_core::{Judge, Outcome, Session};
+use session_core::{Judge, Notes, Outcome, Session};
 use std::alloc::Global;
 use std::marker::Model;
 
@@ -48,8 +48,9 @@ impl<J: Judge> OpenSession<J> {
     }
 
     /// One turn of the session.
-    pub fn turn<H: Hub>(&mut self, hub: &mut H) -> Turn
-        ensures turned { TurnGoes J.rules self.old.number (H.tells hub.old) self.old.session (H.tells hub.new) self.new.session result }
+    pub fn turn<H: Hub, N: Notes>(&mut self, hub: &mut H, notes: &mut N) -> Turn
+        ensures turned { TurnGoes J.rules self.old.number (N.tells notes.old notes.new)
+            (H.tells hub.old) self.old.session (H.tells hub.new) self.new.session result }
         ensures number { self.new.number ≡ self.old.number }
         ensures ending { EndsAs self.new.session.outcome result }
         ensures same { IsSame J self.old.session self.new.session }
@@ -59,7 +60,7 @@ impl<J: Judge> OpenSession<J> {
         ensures cause { (side : Side) → result ≡ Turn.Ended (Outcome.LinkFault side) →
             LinkRose (H.counts hub.old) (H.counts hub.new) self.old.number side }
     {
-        turn(&mut self.session, hub, self.number)
+        turn(&mut self.session, hub, self.number, notes)
     }
 }
 
@@ -71,7 +72,7 @@ pub fn open_session<J: Judge, P: Judges<J>>(
 ) -> Result<Session<J>, OutOfMemory>
     requires { AreGood limits (P.longest judges.now) }
     ensures given { IfOk result (λ s. (J.rules s.judge ≡ P.rules judges.now) × (s.limit ≡ limits.frame) × (s.max_calls ≡ limits.calls)) }
-    ensures matches { IfOk result (λ s. Matches J J.rules s nothing) }
+    ensures matches { IfOk result (λ s. Matches J J.rules s [] nothing) }
     ensures going { IfOk result (λ s. s.outcome ≡ None) }
     ensures rooms { IfOk result (λ s. s.rooms ≡ rooms_for limits.frame limits.calls) }
     ensures holds { IfOk result (λ s. HoldsWithin s) }

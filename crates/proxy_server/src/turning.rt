@@ -9,7 +9,7 @@ ghost use Rattle.proxy_server.specs.Turning.{IsQuiet, EndsAs, KeepsMarks, wanted
 use crate::turn_end::Turn;
 use crate::waiting::Waits;
 use gate_hub::{Hub, LinkGot, LinkPut, Side};
-use session_core::{Judge, Outcome, Session};
+use session_core::{Judge, Notes, Outcome, Session};
 
 /// At most so many bytes are read or written by a call.
 const PIECE: usize = 4096;
@@ -27,8 +27,13 @@ const MOST_MOVES: u32 = 16;
 /// at most 4,096 bytes. A write is left out where nothing is due, a read where there is no room or the side has ended,
 /// and either once it answered in this turn that it isn't ready. A call that fails is the last, and ends the turn with
 /// `Outcome::LinkFault`. It takes no memory: the session keeps its rooms, and holds no more than it may, before and after.
-pub fn turn<H: Hub, J: Judge>(session: &mut Session<J>, hub: &mut H, k: u64) -> Turn
-    ensures turned { TurnGoesInOrder J.rules k (H.tells hub.old) session.old (H.tells hub.new) session.new result }
+pub fn turn<H: Hub, J: Judge, N: Notes>(
+    session: &mut Session<J>,
+    hub: &mut H,
+    k: u64,
+    notes: &mut N,
+) -> Turn
+    ensures turned { TurnGoesInOrder J.rules k (N.tells notes.old notes.new) (H.tells hub.old) session.old (H.tells hub.new) session.new result }
     ensures ending { EndsAs session.new.outcome result }
     ensures same { IsSame J session.old session.new }
     ensures holds { HoldsWithin session.old × HoldsWithin session.new }
@@ -49,7 +54,7 @@ pub fn turn<H: Hub, J: Judge>(session: &mut Session<J>, hub: &mut H, k: u64) -> 
         if let Some(outcome) = session.outcome() {
             return Turn::Ended(outcome);
         }
-        match round(session, hub, k, &mut waits, &mut piece) {
+        match round(session, hub, k, &mut waits, &mut piece, notes) {
             Err(side) => return Turn::Ended(Outcome::LinkFault(side)),
             Ok(0) => return Turn::Settled,
             Ok(count) => moved += count,
@@ -62,15 +67,17 @@ pub fn turn<H: Hub, J: Judge>(session: &mut Session<J>, hub: &mut H, k: u64) -> 
 }
 
 /// Writes to both sides and reads both, and answers how many calls moved something, or the side whose call failed.
-fn round<H: Hub, J: Judge>(
+fn round<H: Hub, J: Judge, N: Notes>(
     session: &mut Session<J>,
     hub: &mut H,
     k: u64,
     waits: &mut Waits,
     piece: &mut [u8],
+    notes: &mut N,
 ) -> Result<u32, Side>
     requires { length piece.old ≡ piece_length }
-    ensures goes { Calls J.rules k wanted (H.tells hub.old) session.old waits.old (H.tells hub.new) session.new waits.new result }
+    ensures goes { Calls J.rules k wanted (N.tells notes.old notes.new)
+        (H.tells hub.old) session.old waits.old (H.tells hub.new) session.new waits.new result }
     ensures idle { wanted waits.old session.old ≡ None → (session.new ≡ session.old) × (waits.new ≡ waits.old) }
     ensures same { IsSame J session.old session.new }
     ensures holds { HoldsWithin session.new }
@@ -82,10 +89,10 @@ fn round<H: Hub, J: Judge>(
     ensures few { IfOk result (λ n. n ≤ 4) }
     ensures piece { length piece.new ≡ length piece.old }
 {
-    let written = write(session, hub, k, Side::Client, waits)?;
-    let passed_on = write(session, hub, k, Side::Upstream, waits)?;
-    let answered = read_behind(session, hub, k, Side::Upstream, waits, piece)?;
-    let taken = read_behind(session, hub, k, Side::Client, waits, piece)?;
+    let written = write(session, hub, k, Side::Client, waits, notes)?;
+    let passed_on = write(session, hub, k, Side::Upstream, waits, notes)?;
+    let answered = read_behind(session, hub, k, Side::Upstream, waits, piece, notes)?;
+    let taken = read_behind(session, hub, k, Side::Client, waits, piece, notes)?;
     Ok(written + passed_on + answered + taken)
 }
 
@@ -110,16 +117,18 @@ fn most_read(due_to_other: &[u8]) -> usize
 }
 
 /// Reads a side, in a smaller piece while something is due to the other.
-fn read_behind<H: Hub, J: Judge>(
+fn read_behind<H: Hub, J: Judge, N: Notes>(
     session: &mut Session<J>,
     hub: &mut H,
     k: u64,
     side: Side,
     waits: &mut Waits,
     piece: &mut [u8],
+    notes: &mut N,
 ) -> Result<u32, Side>
     requires { length piece.old ≡ piece_length }
-    ensures goes { Calls J.rules k (to_read side) (H.tells hub.old) session.old waits.old (H.tells hub.new) session.new waits.new result }
+    ensures goes { Calls J.rules k (to_read side) (N.tells notes.old notes.new)
+        (H.tells hub.old) session.old waits.old (H.tells hub.new) session.new waits.new result }
     ensures idle { to_read side waits.old session.old ≡ None → (session.new ≡ session.old) × (waits.new ≡ waits.old) }
     ensures same { IsSame J session.old session.new }
     ensures holds { HoldsWithin session.new }
@@ -133,18 +142,20 @@ fn read_behind<H: Hub, J: Judge>(
     ensures piece { length piece.new ≡ length piece.old }
 {
     let most = most_read(session.due(other(side)));
-    read(session, hub, k, side, waits, &mut piece[..most])
+    read(session, hub, k, side, waits, &mut piece[..most], notes)
 }
 
 /// Writes what is due to a side.
-fn write<H: Hub, J: Judge>(
+fn write<H: Hub, J: Judge, N: Notes>(
     session: &mut Session<J>,
     hub: &mut H,
     k: u64,
     side: Side,
     waits: &mut Waits,
+    notes: &mut N,
 ) -> Result<u32, Side>
-    ensures goes { Calls J.rules k (to_write side) (H.tells hub.old) session.old waits.old (H.tells hub.new) session.new waits.new result }
+    ensures goes { Calls J.rules k (to_write side) (N.tells notes.old notes.new)
+        (H.tells hub.old) session.old waits.old (H.tells hub.new) session.new waits.new result }
     ensures idle { to_write side waits.old session.old ≡ None → (session.new ≡ session.old) × (waits.new ≡ waits.old) }
     ensures same { IsSame J session.old session.new }
     ensures holds { HoldsWithin session.new }
@@ -163,7 +174,7 @@ fn write<H: Hub, J: Judge>(
     let count = due.len().min(PIECE);
     match hub.write(k, side, &due[..count]) {
         LinkPut::Took(count) => {
-            pass_on(session, side, count);
+            pass_on(session, side, count, notes);
             Ok(1)
         }
         LinkPut::NotReady => {
@@ -175,17 +186,18 @@ fn write<H: Hub, J: Judge>(
 }
 
 /// Reads what the session has room for.
-fn read<H: Hub, J: Judge>(
+fn read<H: Hub, J: Judge, N: Notes>(
     session: &mut Session<J>,
     hub: &mut H,
     k: u64,
     side: Side,
     waits: &mut Waits,
     piece: &mut [u8],
+    notes: &mut N,
 ) -> Result<u32, Side>
     requires some { 0 < length piece.old }
     requires few { length piece.old ≤ piece_length }
-    ensures goes { Calls J.rules k (wanted_read (length piece.old) side)
+    ensures goes { Calls J.rules k (wanted_read (length piece.old) side) (N.tells notes.old notes.new)
         (H.tells hub.old) session.old waits.old (H.tells hub.new) session.new waits.new result }
     ensures idle { wanted_read (length piece.old) side waits.old session.old ≡ None →
         (session.new ≡ session.old) × (waits.new ≡ waits.old) }
@@ -206,11 +218,11 @@ fn read<H: Hub, J: Judge>(
     }
     match hub.read(k, side, &mut piece[..room]) {
         LinkGot::Bytes(count) => {
-            give(session, side, &piece[..count]);
+            give(session, side, &piece[..count], notes);
             Ok(1)
         }
         LinkGot::End => {
-            finish(session, side);
+            finish(session, side, notes);
             Ok(1)
         }
         LinkGot::NotReady => {
@@ -222,33 +234,34 @@ fn read<H: Hub, J: Judge>(
 }
 
 /// Gives the session bytes of a side that it has room for.
-fn give<J: Judge>(session: &mut Session<J>, side: Side, bytes: &[u8])
+fn give<J: Judge, N: Notes>(session: &mut Session<J>, side: Side, bytes: &[u8], notes: &mut N)
     requires room { length bytes.now ≤ room_of session.old.limit session.old.standing (is_some session.old.outcome) side }
-    ensures matches { MatchesOn J.rules session.old session.new (λ h. and_received side h bytes.now) }
+    ensures matches { MatchesOn J.rules session.old session.new (N.tells notes.old notes.new) (λ h. and_received side h bytes.now) }
     ensures same { IsSame J session.old session.new }
     ensures holds { HoldsWithin session.new }
 {
     match side {
-        Side::Client => session.take_client(bytes),
-        Side::Upstream => session.take_upstream(bytes),
+        Side::Client => session.take_client(bytes, notes),
+        Side::Upstream => session.take_upstream(bytes, notes),
     };
 }
 
 /// So many bytes that were due to a side were sent to it.
-fn pass_on<J: Judge>(session: &mut Session<J>, side: Side, count: usize)
+fn pass_on<J: Judge, N: Notes>(session: &mut Session<J>, side: Side, count: usize, notes: &mut N)
     requires due { count ≤ length (due_to side session.old.standing) }
-    ensures matches { MatchesOn J.rules session.old session.new (λ h. and_sent side h (take count (due_to side session.old.standing))) }
+    ensures matches { MatchesOn J.rules session.old session.new (N.tells notes.old notes.new)
+        (λ h. and_sent side h (take count (due_to side session.old.standing))) }
     ensures same { IsSame J session.old session.new }
     ensures holds { HoldsWithin session.new }
 {
-    session.sent(side, count);
+    session.sent(side, count, notes);
 }
 
 /// A side has ended.
-fn finish<J: Judge>(session: &mut Session<J>, side: Side)
-    ensures matches { MatchesOn J.rules session.old session.new (λ h. and_ended side h) }
+fn finish<J: Judge, N: Notes>(session: &mut Session<J>, side: Side, notes: &mut N)
+    ensures matches { MatchesOn J.rules session.old session.new (N.tells notes.old notes.new) (λ h. and_ended side h) }
     ensures same { IsSame J session.old session.new }
     ensures holds { HoldsWithin session.new }
 {
-    session.end(side);
+    session.end(side, notes);
 }

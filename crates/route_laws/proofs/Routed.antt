@@ -57,7 +57,7 @@ unserved_none (client.Opens call) out = refl
 unserved_none client.Goes out = refl
 unserved_none (client.Halts h) out = refl
 unserved_none (client.Refused cause) out = refl
-unserved_none client.Dropped out = refl
+unserved_none (client.Dropped cause) out = refl
 
 frame_none : (r : Routing) (u : ℕ) (x out : List ℕ) → length r.targets ≤ u → (if or_first (target_in r x) == u then sent_on (judged_client r x) out else []) ≡ []
 frame_none r u x out over = by (target_in r x) (λ t e. named_within r.targets _ t e)
@@ -117,7 +117,7 @@ held_fits : (set : Setting) (r : Seen) (told : Told) → IsHeld set r told → F
 held_fits set r told h =
     subst (λ (rules : RouteRules). Fits rules set.limit set.max_calls (history_of told) r.standing) h.judged
     (subst (λ (n : ℕ). Fits (rules_in r) n set.max_calls (history_of told) r.standing) h.limited
-    (subst (λ (n : ℕ). Fits (rules_in r) r.limit n (history_of told) r.standing) h.calls h.matches.fits))
+    (subst (λ (n : ℕ). Fits (rules_in r) r.limit n (history_of told) r.standing) h.calls h.matches.told.fits))
 
 held_rest : (set : Setting) (r : Seen) (told : Told) → IsHeld set r told → IsAtRest set.rules set.limit set.max_calls r.standing r.outcome
 held_rest set r told h =

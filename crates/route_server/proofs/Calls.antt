@@ -98,8 +98,8 @@ outcome_at : (set : Setting) (rules : RouteRules) (limit max_calls : ℕ) (s : S
 outcome_at set rules limit max_calls s a b d = ap (λ (r : RouteRules). outcome_of r.judging limit max_calls s) a ∙ (ap (λ (k : ℕ). outcome_of set.rules.judging k max_calls s) b ∙ ap (λ (k : ℕ). outcome_of set.rules.judging set.limit k s) d)
 
 ends_so : (set : Setting) (router : Seen) (k : ℕ) (o : RouteOutcome) (made : List FanCall) (s t : Told) → IsHeld set router t → ((x : ℕ) → HasFailed x s → ⊥) → EndsBy k router.outcome o made s t → IsOutcome set o t
-ends_so set router k o made s t h calm (ByLink x is last f others) = LinkFailed x router.standing is f (λ y other g. calm y (others y other g)) (fits_at set (rules_in router) router.limit router.max_calls _ _ h.judged h.limited h.calls h.matches.fits)
-ends_so set router k o made s t h calm (ByRouter is own none) = OfItself router.standing (sym (outcome_at set (rules_in router) router.limit router.max_calls router.standing h.judged h.limited h.calls) ∙ (sym h.matches.rest.outcome_is ∙ is)) (λ x f. calm x (was_failed s t none x f)) (fits_at set (rules_in router) router.limit router.max_calls _ _ h.judged h.limited h.calls h.matches.fits)
+ends_so set router k o made s t h calm (ByLink x is last f others) = LinkFailed x router.standing is f (λ y other g. calm y (others y other g)) (fits_at set (rules_in router) router.limit router.max_calls _ _ h.judged h.limited h.calls h.matches.told.fits)
+ends_so set router k o made s t h calm (ByRouter is own none) = OfItself router.standing (sym (outcome_at set (rules_in router) router.limit router.max_calls router.standing h.judged h.limited h.calls) ∙ (sym h.matches.rest.outcome_is ∙ is)) (λ x f. calm x (was_failed s t none x f)) (fits_at set (rules_in router) router.limit router.max_calls _ _ h.judged h.limited h.calls h.matches.told.fits)
 
 abbrev is_link : RouteOutcome → Bool
 is_link outcome.Clean = false

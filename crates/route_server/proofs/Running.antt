@@ -13,13 +13,19 @@ use Rattle.gate_hub.specs.declared.hub.LinkGot.TheVariants as got
 use Rattle.gate_hub.specs.declared.hub.LinkPut.{LinkPut}
 use Rattle.gate_hub.specs.declared.hub.LinkPut.TheVariants as put
 use Rattle.framed_transport.specs.Front.{Part, Whole, Large, front, is_part}
-use Rattle.service_router.specs.Standing.{History, inbox_of, due_to, room_of, but_at, and_received, and_sent, and_ended}
-use Rattle.service_router.specs.Router.{Seen, rules_in, targets_of, IsSame}
+use Rattle.service_router.specs.Standing.{Standing, History, inbox_of, due_to, room_of, but_at, and_received, and_sent, and_ended}
+use Rattle.session_core.specs.Notes.{Note}
+use Rattle.service_router.specs.Routing.{Routing}
+use Rattle.service_router.specs.Judging.{rules_of}
+use Rattle.service_router.specs.Telling.{FitsTold}
+use Rattle.service_router.specs.Ends.{IsAtRest}
+use Rattle.service_router.specs.declared.outcome.RouteOutcome.{RouteOutcome}
+use Rattle.service_router.specs.Router.{Seen, rules_in, targets_of, IsSame, RestsBy, FitsAndTells}
 use Rattle.service_router.proofs.Feeding.{fits_as}
 use Rattle.session_core.specs.Steps.{is_none}
 use Rattle.session_core.proofs.Endings.{is_none_tests}
 use Rattle.route_server.specs.Calling.{piece_length, IsPiece, ArePieces, Fails, EndsFailing, Wanted, ToWrite, ToRead}
-use Rattle.route_server.specs.Matching.{history_of, Matches}
+use Rattle.route_server.specs.Matching.{history_of, Matches, MatchesOn}
 use Rattle.route_server.specs.Turning.{Begins, wanted, to_write, to_read, room_in, or_else, first_of, first_port, write_waits, read_waits, with_write, with_read, IsMarked, KeepsMarks, link_amount, amount_below, Grows, AllGrow, NoneFailed, Runs, Breaks, Goes, HasFailed, CallDoes, IsWritten, IsRead, AreDone, AllDone, IsQuiet, IsSettled, ReadsNoMore, HasEnded, IsNotReady, HoldsFrame, no_waits}
 use Rattle.route_server.specs.declared.waiting.Waits.{Waits}
 
@@ -27,7 +33,23 @@ use Rattle.route_server.specs.declared.waiting.Waits.{Waits}
 
 -- a history that is the same at each port
 pub matches_as : (r : Seen) (h k : History) → ((port : ℕ) → k.received port ≡ h.received port) → ((port : ℕ) → k.sent port ≡ h.sent port) → ((port : ℕ) → k.ended port ≡ h.ended port) → Matches r h → Matches r k
-matches_as r h k received sent ends m = record { fits = fits_as (rules_in r) r.limit r.max_calls h k r.standing received sent ends m.fits; rest = m.rest }
+matches_as r h k received sent ends m = record { notes = m.notes; told = fits_as (rules_in r) r.limit r.max_calls h k m.notes r.standing received sent ends m.told; rest = m.rest }
+
+-- by a router that is the same
+told_at : (r r' : Routing) (limit limit' max_calls max_calls' : ℕ) (h : History) (notes : List Note) (s : Standing) → r' ≡ r → limit' ≡ limit → max_calls' ≡ max_calls → FitsTold (rules_of r) limit max_calls h notes s → FitsTold (rules_of r') limit' max_calls' h notes s
+told_at r r' limit limit' max_calls max_calls' h notes s a b d f =
+    subst (λ (q : Routing). FitsTold (rules_of q) limit' max_calls' h notes s) (sym a) (subst (λ (n : ℕ). FitsTold (rules_of r) n max_calls' h notes s) (sym b) (subst (λ (n : ℕ). FitsTold (rules_of r) limit n h notes s) (sym d) f))
+
+rest_at : (r r' : Routing) (limit limit' max_calls max_calls' : ℕ) (s : Standing) (o : Option RouteOutcome) → r' ≡ r → limit' ≡ limit → max_calls' ≡ max_calls → IsAtRest (rules_of r) limit max_calls s o → IsAtRest (rules_of r') limit' max_calls' s o
+rest_at r r' limit limit' max_calls max_calls' s o a b d f =
+    subst (λ (q : Routing). IsAtRest (rules_of q) limit' max_calls' s o) (sym a) (subst (λ (n : ℕ). IsAtRest (rules_of r) n max_calls' s o) (sym b) (subst (λ (n : ℕ). IsAtRest (rules_of r) limit n s o) (sym d) f))
+
+pub matches_later : (old new : Seen) (tells : List Note → Type 0) (on : History → History) → IsSame old new → RestsBy old new → FitsAndTells old new tells on → MatchesOn old new on
+matches_later old new tells on same rest fits h m = record {
+  notes = m.notes ++ fits.0;
+  told = told_at old.routing new.routing old.limit new.limit old.max_calls new.max_calls (on h) (m.notes ++ fits.0) new.standing same.routing same.limit same.max_calls (fits.2 h m.notes m.told);
+  rest = rest_at old.routing new.routing old.limit new.limit old.max_calls new.max_calls new.standing new.outcome same.routing same.limit same.max_calls rest;
+}
 
 pub all_taken : (n : ℕ) (bytes : List ℕ) → n ≡ length bytes → take n bytes ≡ bytes
 all_taken n bytes is = take_all n bytes (omega (arith, is))
@@ -480,7 +502,7 @@ off_by true over room some = absurd (omega (arith, some))
 off_by false over room some = refl
 
 pub not_ended : (x : ℕ) (r : Seen) (s : Told) → Matches r (history_of s) → 0 < room_of r.limit r.standing (is_some r.outcome) x → (s.link x).ended ≡ false
-not_ended x r s m some = sym (m.fits.ended x) ∙ off_by (inbox_of x r.standing).ended (is_some r.outcome) _ some
+not_ended x r s m some = sym (m.told.fits.ended x) ∙ off_by (inbox_of x r.standing).ended (is_some r.outcome) _ some
 
 -- ---- the marks
 
@@ -609,7 +631,7 @@ no_room limit held false false link off is none = HoldsFrame (full_front limit h
 
 reads_no_more : (x : ℕ) (r : Seen) (t : Told) → r.outcome ≡ None → Matches r (history_of t) → (room_in r x ≡ 0) ⊎ ((t.link x).last_read ≡ Some got.NotReady) → ReadsNoMore r.limit (inbox_of x r.standing).held (t.link x)
 reads_no_more x r t going m (inr waits) = IsNotReady waits
-reads_no_more x r t going m (inl none) = no_room r.limit (inbox_of x r.standing).held (inbox_of x r.standing).ended (is_some r.outcome) (t.link x) (ap is_some going) (m.fits.ended x) none
+reads_no_more x r t going m (inl none) = no_room r.limit (inbox_of x r.standing).held (inbox_of x r.standing).ended (is_some r.outcome) (t.link x) (ap is_some going) (m.told.fits.ended x) none
 
 or_by : {A B C : Type 0} → A ⊎ B → (B → C) → A ⊎ C
 or_by (inl a) f = inl a

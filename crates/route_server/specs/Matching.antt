@@ -1,7 +1,9 @@
 -- A router matches what a fan tells of its session.
+use Rattle.std.specs.Prelude.{List}
 use Rattle.gate_fan.specs.Meaning.{Told}
+use Rattle.session_core.specs.Notes.{Note}
 use Rattle.service_router.specs.Standing.{History}
-use Rattle.service_router.specs.Fits.{Fits}
+use Rattle.service_router.specs.Telling.{FitsTold}
 use Rattle.service_router.specs.Ends.{IsAtRest}
 use Rattle.service_router.specs.Router.{Seen, rules_in}
 
@@ -13,9 +15,10 @@ history_of told = record {
   ended = λ port. (told.link port).ended;
 }
 
--- the router fits what came and went, and no step is left to it
+-- the router fits what came and went, with what its rules tell of the frames that were refused, and no step is left to it
 pub record Matches (router : Seen) (h : History) : Type 0 where
-  pub fits : Fits (rules_in router) router.limit router.max_calls h router.standing
+  pub notes : List Note
+  pub told : FitsTold (rules_in router) router.limit router.max_calls h notes router.standing
   pub rest : IsAtRest (rules_in router) router.limit router.max_calls router.standing router.outcome
 
 -- where a router matched what came and went, it matches that with what was added on the way

@@ -12,6 +12,7 @@ use crate::waiting::{MOST_PORTS, Waits};
 use gate_fan::Fan;
 use gate_hub::{LinkGot, LinkPut};
 use service_router::{RouteOutcome, Router};
+use session_core::Silent;
 
 /// At most so many bytes are read or written by a call.
 const PIECE: usize = 4096;
@@ -236,7 +237,8 @@ fn give(router: &mut Router<'_>, port: usize, bytes: &[u8])
     ensures same { IsSame router.old router.new }
     ensures holds { HoldsWithin router.new }
 {
-    router.take(port, bytes);
+    let mut silent = Silent;
+    router.take(port, bytes, &mut silent);
 }
 
 /// So many bytes that were due to a port were sent to it.
@@ -246,7 +248,8 @@ fn pass_on(router: &mut Router<'_>, port: usize, count: usize)
     ensures same { IsSame router.old router.new }
     ensures holds { HoldsWithin router.new }
 {
-    router.sent(port, count);
+    let mut silent = Silent;
+    router.sent(port, count, &mut silent);
 }
 
 /// A port has ended.
@@ -256,5 +259,6 @@ fn finish(router: &mut Router<'_>, port: usize)
     ensures same { IsSame router.old router.new }
     ensures holds { HoldsWithin router.new }
 {
-    router.end(port);
+    let mut silent = Silent;
+    router.end(port, &mut silent);
 }

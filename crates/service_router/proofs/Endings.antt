@@ -3,6 +3,7 @@ use Rattle.std.proofs.Common.{◌≡◌, ◌⊎◌, inl, inr, ℕ, zero, suc, �
 use Rattle.std.specs.Prelude.{slice_set, get_or}
 use Rattle.std.specs.List.{position}
 use Rattle.framed_transport.specs.Frames.{framed, IsCut}
+use Rattle.session_core.specs.Notes.{Note}
 use Rattle.session_core.specs.Rules.{Rules}
 use Rattle.session_core.specs.Standing as session
 use Rattle.session_core.specs.Fits.{told}
@@ -34,11 +35,11 @@ pub none_mapped : (calls : List OpenCall) → is_none (map call_of calls) ≡ is
 none_mapped [] = refl
 none_mapped (c ∷ cs) = refl
 
-pub still_at : (rules : RouteRules) (limit max_calls : ℕ) (s t : Standing) (why : Standstill) → Goes rules limit max_calls s t (Some why) → IsStill rules.judging limit max_calls t
-still_at rules limit max_calls s t why goes = still rules.judging limit max_calls (as_session t) why (subst (λ (x : Standing). StandsStill rules.judging limit max_calls (as_session x) why) (sym goes.0) goes.1)
+pub still_at : (rules : RouteRules) (limit max_calls : ℕ) (s t : Standing) (added : List Note) (why : Standstill) → Goes rules limit max_calls s t added (Some why) → IsStill rules.judging limit max_calls t
+still_at rules limit max_calls s t added why goes = still rules.judging limit max_calls (as_session t) why (subst (λ (x : Standing). StandsStill rules.judging limit max_calls (as_session x) why) (sym goes.0) goes.1)
 
-pub outcome_at : (rules : RouteRules) (limit k max_calls : ℕ) (s t : Standing) (why : Standstill) (result : Option RouteOutcome) → Goes rules limit max_calls s t (Some why) → k ≡ limit → result ≡ with_port t (ending_of k (as_session t) why) → result ≡ outcome_of rules.judging limit max_calls t
-outcome_at rules limit k max_calls s t why result goes e is =
+pub outcome_at : (rules : RouteRules) (limit k max_calls : ℕ) (s t : Standing) (added : List Note) (why : Standstill) (result : Option RouteOutcome) → Goes rules limit max_calls s t added (Some why) → k ≡ limit → result ≡ with_port t (ending_of k (as_session t) why) → result ≡ outcome_of rules.judging limit max_calls t
+outcome_at rules limit k max_calls s t added why result goes e is =
     is ∙ (ap (λ n. with_port t (ending_of n (as_session t) why)) e
     ∙ ap (with_port t) (ended_by rules.judging limit max_calls (as_session t) why (subst (λ (x : Standing). StandsStill rules.judging limit max_calls (as_session x) why) (sym goes.0) goes.1)))
 
@@ -51,8 +52,8 @@ pub halts_open : (rules : Rules) (limit : ℕ) (s : Standing) (h : Halt) → of_
 unfolding of_upstream
 halts_open rules limit s h e = open_by rules limit (as_session s) s.calls h e
 
-pub asked_one : (rules : RouteRules) (limit max_calls : ℕ) (s t : Standing) (why : Standstill) (h : Halt) → Goes rules limit max_calls s t (Some why) → why ≡ standstill.Upstream h → 0 < length t.calls
-asked_one rules limit max_calls s t why h goes is =
+pub asked_one : (rules : RouteRules) (limit max_calls : ℕ) (s t : Standing) (added : List Note) (why : Standstill) (h : Halt) → Goes rules limit max_calls s t added (Some why) → why ≡ standstill.Upstream h → 0 < length t.calls
+asked_one rules limit max_calls s t added why h goes is =
     halts_open rules.judging limit t h
     (subst (λ (x : Standing). of_upstream rules.judging limit (as_session x) ≡ Halts h) (sym goes.0)
     (subst (λ (w : Standstill). StandsStill rules.judging limit max_calls (as_session s) w) is goes.1))
@@ -77,22 +78,22 @@ takes_less (client.Halts h) target output answer rest s t m less = absurd m
 takes_less (client.Opens call) target output answer rest s t m less = subst (λ (x : Standing). all_held x < all_held s) (sym m) (omega (arith, less))
 takes_less client.Goes target output answer rest s t m less = subst (λ (x : Standing). all_held x < all_held s) (sym m) (omega (arith, less))
 takes_less (client.Refused cause) target output answer rest s t m less = subst (λ (x : Standing). all_held x < all_held s) (sym m.2) (omega (arith, less))
-takes_less client.Dropped target output answer rest s t m less = subst (λ (x : Standing). all_held x < all_held s) (sym m) (omega (arith, less))
+takes_less (client.Dropped cause) target output answer rest s t m less = subst (λ (x : Standing). all_held x < all_held s) (sym m) (omega (arith, less))
 
-pub falls : (rules : RouteRules) (limit max_calls : ℕ) (s t : Standing) → (Answers rules.judging limit s t ⊎ Asks rules limit max_calls s t) → all_held t < all_held s
-falls rules limit max_calls s t (inl a) =
+pub falls : (rules : RouteRules) (limit max_calls : ℕ) (s t : Standing) (added : List Note) → (Answers rules.judging limit s t added ⊎ Asks rules limit max_calls s t added) → all_held t < all_held s
+falls rules limit max_calls s t added (inl a) =
     let inbox = inbox_of (suc a.call.target) s in
     subst (λ (x : Standing). all_held x < all_held s) (sym a.after)
     (omega (arith, framed_longer limit inbox.held a.frame a.rest a.cut, set_held s.upstreams a.call.target (record inbox { held = a.rest; taken = told (inbox.taken + 1) }) (silent 0) a.known))
-falls rules limit max_calls s t (inr a) = takes_less (rules.judging.judged a.frame) (rules.target a.frame) (rules.judging.output a.frame) (rules.judging.answer a.frame) a.rest s t a.takes (framed_longer limit s.client.held a.frame a.rest a.cut)
+falls rules limit max_calls s t added (inr a) = takes_less (rules.judging.judged a.frame) (rules.target a.frame) (rules.judging.output a.frame) (rules.judging.answer a.frame) a.rest s t a.takes (framed_longer limit s.client.held a.frame a.rest a.cut)
 
 -- ---- at the limits of the call
 
-pub goes_at : (rules others : RouteRules) (limit k max_calls m : ℕ) (s t : Standing) (why : Option Standstill) → others ≡ rules → k ≡ limit → m ≡ max_calls → Goes others k m s t why → Goes rules limit max_calls s t why
-goes_at rules others limit k max_calls m s t why a b d h =
-    subst (λ (r : RouteRules). Goes r limit max_calls s t why) a
-    (subst (λ (n : ℕ). Goes others n max_calls s t why) b
-    (subst (λ (n : ℕ). Goes others k n s t why) d h))
+pub goes_at : (rules others : RouteRules) (limit k max_calls m : ℕ) (s t : Standing) (added : List Note) (why : Option Standstill) → others ≡ rules → k ≡ limit → m ≡ max_calls → Goes others k m s t added why → Goes rules limit max_calls s t added why
+goes_at rules others limit k max_calls m s t added why a b d h =
+    subst (λ (r : RouteRules). Goes r limit max_calls s t added why) a
+    (subst (λ (n : ℕ). Goes others n max_calls s t added why) b
+    (subst (λ (n : ℕ). Goes others k n s t added why) d h))
 
 -- ---- once there is an outcome nothing is due
 

@@ -31,14 +31,15 @@ use Rattle.service_router.proofs.Ordered.{Ordered, ordered, calls_further, calle
 
 -- ---- no frame of the oldest call's target is left
 
-is_answer : (v : UpstreamJudged) → ((halt : Halt) → v ≡ upstream.Halts halt → ⊥) → v ≡ upstream.Answers
+is_answer : (v : UpstreamJudged) → ((halt : Halt) → v ≡ upstream.Halts halt → ⊥) → (refused : Option Cause) × (v ≡ upstream.Answers refused)
 is_answer (upstream.Halts halt) quiet = absurd (quiet halt refl)
-is_answer upstream.Answers quiet = refl
+is_answer (upstream.Answers refused) quiet = (refused, refl)
 
 no_answer_left : (rules : Rules) (limit max_calls : ℕ) (s : Standing) (call : OpenCall) (calls : List OpenCall) (y rest : List ℕ) → IsStill rules limit max_calls s → s.calls ≡ call ∷ calls → s.to_client ≡ [] → front limit (inbox_of (suc call.target) s).held ≡ Whole y rest → ((halt : Halt) → rules.replied call.call y ≡ upstream.Halts halt → ⊥) → ⊥
 no_answer_left rules limit max_calls s call calls y rest still open_is none whole quiet =
-    still _ (ByUpstream (answers rules limit (as_session s) call.call (map call_of calls) y rest upstream.Answers (ap (map call_of) open_is) none
-    (ap (λ (cs : List OpenCall). front limit (asked cs s.upstreams).held) open_is ∙ whole) (is_answer (rules.replied call.call y) quiet)))
+    let a = is_answer (rules.replied call.call y) quiet in
+    still _ (ByUpstream (answers rules limit (as_session s) call.call (map call_of calls) y rest (upstream.Answers a.0) (ap (map call_of) open_is) none
+    (ap (λ (cs : List OpenCall). front limit (asked cs s.upstreams).held) open_is ∙ whole) a.1))
 
 -- ---- no frame of the client is left
 
@@ -66,7 +67,7 @@ taken_by (client.Refused cause) s output answer rest quiet turn due =
       record s { client = rest; to_client = framed answer; taken = told (s.taken + 1) },
       ap (λ t. if t && is_none s.to_client then took else Waits) (ap is_none (turn cause refl)) ∙ ap (λ t. if t then took else Waits) (ap is_none due),
     )
-taken_by client.Dropped s output answer rest quiet turn due = (_, refl)
+taken_by (client.Dropped cause) s output answer rest quiet turn due = (_, refl)
 
 no_call_left : (rules : RouteRules) (limit max_calls : ℕ) (s : Standing) (x rest : List ℕ) → IsAtRest rules limit max_calls s None → s.to_client ≡ [] → s.to_upstream ≡ [] → length s.calls < max_calls → front limit s.client.held ≡ Whole x rest → ((halt : Halt) → rules.judging.judged x ≡ client.Halts halt → ⊥) → ((cause : Cause) → rules.judging.judged x ≡ client.Refused cause → s.calls ≡ []) → ⊥
 no_call_left rules limit max_calls s x rest at due other few whole quiet turn =

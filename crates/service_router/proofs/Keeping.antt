@@ -1,8 +1,8 @@
 -- What each step keeps of a router in the program.
-use Rattle.std.proofs.Common.{◌≡◌, ℕ, zero, suc, ◌+◌, ◌-◌, ◌==◌, ◌<◌, ◌≤◌, List, [], length, length-append, take, drop, min, arith, refl, sym, ◌∙◌, ap, subst, Bool, true, false, if◌then◌else◌, Option}
+use Rattle.std.proofs.Common.{◌≡◌, ℕ, zero, suc, ◌+◌, ◌-◌, ◌==◌, ◌<◌, ◌≤◌, List, [], ◌++◌, length, length-append, append_assoc, take, drop, min, arith, refl, sym, ◌∙◌, ap, subst, Bool, true, false, if◌then◌else◌, Option}
 use Rattle.std.specs.List.{All}
 use Rattle.std.specs.Vec.{with_item}
-use Rattle.std.proofs.lemmas.List.{length-take-le, length-drop}
+use Rattle.std.proofs.lemmas.List.{append-nil, length-take-le, length-drop}
 use Rattle.gate_io.specs.Buffer.{Buffer}
 use Rattle.circular_buffer.specs.Buffer.{Buffer as Ring}
 use Rattle.session_core.proofs.Lengths.{behind_within}
@@ -11,13 +11,15 @@ use Rattle.session_core.specs.declared.state.Waiting.{Waiting}
 use Rattle.service_router.specs.declared.call.OpenCall.{OpenCall}
 use Rattle.service_router.specs.declared.outcome.RouteOutcome.{RouteOutcome}
 use Rattle.service_router.specs.declared.state.State.{State}
+use Rattle.service_router.specs.Rules.{RouteRules}
 use Rattle.service_router.specs.Routing.{Routing}
 use Rattle.service_router.specs.Judging.{rules_of}
 use Rattle.service_router.specs.Standing.{Standing, History, Inbox, with_inbox, due_to, and_received, and_sent, and_ended}
 use Rattle.service_router.specs.Inboxes.{HasRoom, fed, ended, without_frame}
-use Rattle.service_router.specs.Fits.{Fits}
+use Rattle.session_core.specs.Notes.{Note}
+use Rattle.service_router.specs.Telling.{FitsTold}
 use Rattle.service_router.specs.Ends.{IsAtRest}
-use Rattle.service_router.specs.Working.{standing, inbox_in, with_inbox_in, let_go_in, IsReady, IsSound, Knows, Works, Keeps, FitsOn, IsSettledBy}
+use Rattle.service_router.specs.Working.{standing, inbox_in, with_inbox_in, let_go_in, IsReady, IsSound, Knows, Works, Keeps, FitsTelling, FitsOn, IsSettledBy}
 use Rattle.service_router.proofs.Ports.{set_length, all_set, all_at}
 use Rattle.service_router.proofs.Feeding.{fed_on, ended_on, sent_on, let_go}
 
@@ -229,10 +231,10 @@ settled_on r a b c k h =
     subst (λ (n : ℕ). IsAtRest (rules_of r) n a.calls.capacity (standing c) c.outcome) k.ready.client.limit_is
     (subst (λ (n : ℕ). IsAtRest (rules_of r) b.client.limit n (standing c) c.outcome) k.ready.capacity h)
 
-pub fits_through : (r : Routing) (a b c : State) → Keeps r a b → FitsOn r b c (λ h. h) → (h : History) → Fits (rules_of r) a.client.limit a.calls.capacity h (standing b) → Fits (rules_of r) a.client.limit a.calls.capacity h (standing c)
-fits_through r a b c k go =
-    subst (λ (n : ℕ). (h : History) → Fits (rules_of r) n a.calls.capacity h (standing b) → Fits (rules_of r) n a.calls.capacity h (standing c)) k.ready.client.limit_is
-    (subst (λ (n : ℕ). (h : History) → Fits (rules_of r) b.client.limit n h (standing b) → Fits (rules_of r) b.client.limit n h (standing c)) k.ready.capacity go)
+pub fits_through : (r : Routing) (a b c : State) (added : List Note) → Keeps r a b → FitsTelling r b c added (λ h. h) → (h : History) (past : List Note) → FitsTold (rules_of r) a.client.limit a.calls.capacity h past (standing b) → FitsTold (rules_of r) a.client.limit a.calls.capacity h (past ++ added) (standing c)
+fits_through r a b c added k go =
+    subst (λ (n : ℕ). (h : History) (past : List Note) → FitsTold (rules_of r) n a.calls.capacity h past (standing b) → FitsTold (rules_of r) n a.calls.capacity h (past ++ added) (standing c)) k.ready.client.limit_is
+    (subst (λ (n : ℕ). (h : History) (past : List Note) → FitsTold (rules_of r) b.client.limit n h past (standing b) → FitsTold (rules_of r) b.client.limit n h (past ++ added) (standing c)) k.ready.capacity go)
 
 -- by a judge that is the same
 pub works_at : (r q : Routing) (s : State) → q ≡ r → Works r s → Works q s
@@ -244,8 +246,19 @@ keeps_by r q a b same kept = subst (λ (x : Routing). Keeps x a b) same kept
 pub settled_by : (r q : Routing) (a b : State) → q ≡ r → IsSettledBy q a b → IsSettledBy r a b
 settled_by r q a b same settled = subst (λ (x : Routing). IsSettledBy x a b) same settled
 
-pub fits_by : (r q : Routing) (a b : State) → q ≡ r → FitsOn q a b (λ h. h) → FitsOn r a b (λ h. h)
-fits_by r q a b same fits = subst (λ (x : Routing). FitsOn x a b (λ h. h)) same fits
+pub fits_by : (r q : Routing) (a b : State) (tells : List Note → Type 0) → q ≡ r → FitsOn q a b tells (λ h. h) → FitsOn r a b tells (λ h. h)
+fits_by r q a b tells same fits = subst (λ (x : Routing). FitsOn x a b tells (λ h. h)) same fits
+
+pub stood_still : (rules : RouteRules) (limit max_calls : ℕ) (h : History) (past : List Note) (s t : Standing) → t ≡ s → FitsTold rules limit max_calls h past s → FitsTold rules limit max_calls h past t
+stood_still rules limit max_calls h past s t same f = subst (λ (x : Standing). FitsTold rules limit max_calls h past x) (sym same) f
+
+-- nothing was told
+pub none_told : (rules : RouteRules) (limit max_calls : ℕ) (h : History) (past : List Note) (s : Standing) → FitsTold rules limit max_calls h past s → FitsTold rules limit max_calls h (past ++ []) s
+none_told rules limit max_calls h past s f = subst (λ (n : List Note). FitsTold rules limit max_calls h n s) (sym (append-nil past)) f
+
+-- this was told, and then that
+pub told_then : (rules : RouteRules) (limit max_calls : ℕ) (h : History) (past xs ys : List Note) (s : Standing) → FitsTold rules limit max_calls h ((past ++ xs) ++ ys) s → FitsTold rules limit max_calls h (past ++ (xs ++ ys)) s
+told_then rules limit max_calls h past xs ys s f = subst (λ (n : List Note). FitsTold rules limit max_calls h n s) (append_assoc past xs ys) f
 
 -- ---- at a port
 
@@ -300,17 +313,17 @@ stands_left (suc u) n s = by (s.toward == u)
     by true = refl
     by false = refl
 
-pub fits_fed : (port : ℕ) (r : Routing) (limit max_calls : ℕ) (s mid : State) (piece : List ℕ) (h : History) → port ≤ length s.ports.items → mid ≡ with_inbox_in port (fed (inbox_in port s) piece) s → Fits (rules_of r) limit max_calls h (standing s) → Fits (rules_of r) limit max_calls (and_received port h piece) (standing mid)
-fits_fed port r limit max_calls s mid piece h within e f =
-    subst (λ (t : Standing). Fits (rules_of r) limit max_calls (and_received port h piece) t) (sym (ap standing e ∙ stands_with port _ s))
-    (fed_on (rules_of r) limit max_calls h (standing s) port piece within f)
+pub fits_fed : (port : ℕ) (r : Routing) (limit max_calls : ℕ) (s mid : State) (piece : List ℕ) (h : History) (past : List Note) → port ≤ length s.ports.items → mid ≡ with_inbox_in port (fed (inbox_in port s) piece) s → FitsTold (rules_of r) limit max_calls h past (standing s) → FitsTold (rules_of r) limit max_calls (and_received port h piece) past (standing mid)
+fits_fed port r limit max_calls s mid piece h past within e f =
+    subst (λ (t : Standing). FitsTold (rules_of r) limit max_calls (and_received port h piece) past t) (sym (ap standing e ∙ stands_with port _ s))
+    (fed_on (rules_of r) limit max_calls h past (standing s) port piece within f)
 
-pub fits_ended : (port : ℕ) (r : Routing) (limit max_calls : ℕ) (s mid : State) (h : History) → port ≤ length s.ports.items → mid ≡ with_inbox_in port (ended (inbox_in port s)) s → Fits (rules_of r) limit max_calls h (standing s) → Fits (rules_of r) limit max_calls (and_ended port h) (standing mid)
-fits_ended port r limit max_calls s mid h within e f =
-    subst (λ (t : Standing). Fits (rules_of r) limit max_calls (and_ended port h) t) (sym (ap standing e ∙ stands_with port _ s))
-    (ended_on (rules_of r) limit max_calls h (standing s) port within f)
+pub fits_ended : (port : ℕ) (r : Routing) (limit max_calls : ℕ) (s mid : State) (h : History) (past : List Note) → port ≤ length s.ports.items → mid ≡ with_inbox_in port (ended (inbox_in port s)) s → FitsTold (rules_of r) limit max_calls h past (standing s) → FitsTold (rules_of r) limit max_calls (and_ended port h) past (standing mid)
+fits_ended port r limit max_calls s mid h past within e f =
+    subst (λ (t : Standing). FitsTold (rules_of r) limit max_calls (and_ended port h) past t) (sym (ap standing e ∙ stands_with port _ s))
+    (ended_on (rules_of r) limit max_calls h past (standing s) port within f)
 
-pub fits_sent : (port : ℕ) (r : Routing) (limit max_calls : ℕ) (s mid : State) (n : ℕ) (h : History) → mid ≡ let_go_in port n s → Fits (rules_of r) limit max_calls h (standing s) → Fits (rules_of r) limit max_calls (and_sent port h (take n (due_to port (standing s)))) (standing mid)
-fits_sent port r limit max_calls s mid n h e f =
-    subst (λ (t : Standing). Fits (rules_of r) limit max_calls (and_sent port h (take n (due_to port (standing s)))) t) (sym (ap standing e ∙ stands_left port n s))
-    (sent_on (rules_of r) limit max_calls h (standing s) port n f)
+pub fits_sent : (port : ℕ) (r : Routing) (limit max_calls : ℕ) (s mid : State) (n : ℕ) (h : History) (past : List Note) → mid ≡ let_go_in port n s → FitsTold (rules_of r) limit max_calls h past (standing s) → FitsTold (rules_of r) limit max_calls (and_sent port h (take n (due_to port (standing s)))) past (standing mid)
+fits_sent port r limit max_calls s mid n h past e f =
+    subst (λ (t : Standing). FitsTold (rules_of r) limit max_calls (and_sent port h (take n (due_to port (standing s)))) past t) (sym (ap standing e ∙ stands_left port n s))
+    (sent_on (rules_of r) limit max_calls h past (standing s) port n f)

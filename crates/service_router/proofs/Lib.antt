@@ -1,6 +1,7 @@
 -- Lemmas.
 pub mod Ports
 pub mod Walks
+pub mod Telling
 pub mod Fronts
 pub mod Ordered
 pub mod Greatest

@@ -1,6 +1,8 @@
 -- What a look at a port comes to.
-use Rattle.std.proofs.Common.{◌≡◌, ℕ, suc, ◌<◌, ◌≤◌, List, [], ◌∷◌, length, map, arith, refl, sym, ◌∙◌, ap, subst, Bool, true, false, ◌&&◌, if◌then◌else◌, Option, Some, None, IfSome}
+use Rattle.std.proofs.Common.{◌≡◌, ℕ, suc, ◌<◌, ◌≤◌, List, [], ◌∷◌, ◌++◌, length, map, arith, refl, sym, ◌∙◌, ap, subst, Bool, true, false, ◌&&◌, if◌then◌else◌, Option, Some, None, IfSome}
+use Rattle.std.proofs.lemmas.List.{append-nil}
 use Rattle.framed_transport.specs.Front.{Front, Part, Whole, front, is_part}
+use Rattle.session_core.specs.Notes.{Note}
 use Rattle.session_core.specs.Rules.{Rules}
 use Rattle.session_core.specs.Steps.{Move, Waits, Halts, of_upstream, of_client, upstream_front, client_front, by_judged, is_none}
 use Rattle.session_core.specs.Working.{Comes, ends_step, IsFound, judged_as}
@@ -39,24 +41,24 @@ at_front limit s first calls inbox f e is same g =
 pub none_open : (rules : Rules) (limit : ℕ) (s : Standing) → s.calls ≡ [] → of_upstream rules limit (as_session s) ≡ Waits
 none_open rules limit s e = no_call rules limit (as_session s) (ap (map call_of) e)
 
-by_ends : (rules : Rules) (limit : ℕ) (s : Standing) (part ended : Bool) → Comes (ends_step part ended) (of_upstream rules limit (as_session s)) (as_session s) (as_session s) → LooksUp rules limit (ends_step part ended) s s
-by_ends rules limit s true true h = (h.0, refl)
-by_ends rules limit s true false h = (h.0, refl)
-by_ends rules limit s false ended h = (h.0, refl)
+by_ends : (rules : Rules) (limit : ℕ) (s : Standing) (part ended : Bool) → Comes (ends_step part ended) (of_upstream rules limit (as_session s)) (as_session s) (as_session s) → LooksUp rules limit (ends_step part ended) s s []
+by_ends rules limit s true true h = (h.0, refl, refl)
+by_ends rules limit s true false h = (h.0, refl, refl)
+by_ends rules limit s false ended h = (h.0, refl, refl)
 
-ends_as : (rules : Rules) (limit : ℕ) (s : Standing) (first : OpenCall) (calls : List OpenCall) (inbox : Inbox) (came : SessionStep) → s.calls ≡ first ∷ calls → inbox ≡ inbox_of (suc first.target) s → inbox.limit ≡ limit → came ≡ ends_step (is_part (front inbox.limit inbox.held)) inbox.ended → Comes (ends_step (is_part (front limit (as_session s).upstream)) (as_session s).upstream_ended) (of_upstream rules limit (as_session s)) (as_session s) (as_session s) → LooksUp rules limit came s s
+ends_as : (rules : Rules) (limit : ℕ) (s : Standing) (first : OpenCall) (calls : List OpenCall) (inbox : Inbox) (came : SessionStep) → s.calls ≡ first ∷ calls → inbox ≡ inbox_of (suc first.target) s → inbox.limit ≡ limit → came ≡ ends_step (is_part (front inbox.limit inbox.held)) inbox.ended → Comes (ends_step (is_part (front limit (as_session s).upstream)) (as_session s).upstream_ended) (of_upstream rules limit (as_session s)) (as_session s) (as_session s) → LooksUp rules limit came s s []
 ends_as rules limit s first calls inbox came e is same came_is h =
     let there : inbox ≡ asked s.calls s.upstreams = is ∙ sym (asked_is s first calls e) in
     let all : came ≡ ends_step (is_part (front limit (as_session s).upstream)) (as_session s).upstream_ended =
     came_is ∙ (ap (λ n. ends_step (is_part (front n inbox.held)) inbox.ended) same ∙ ap (λ (i : Inbox). ends_step (is_part (front limit i.held)) i.ended) there) in
-    subst (λ (u : SessionStep). LooksUp rules limit u s s) (sym all) (by_ends rules limit s (is_part (front limit (as_session s).upstream)) (as_session s).upstream_ended h)
+    subst (λ (u : SessionStep). LooksUp rules limit u s s []) (sym all) (by_ends rules limit s (is_part (front limit (as_session s).upstream)) (as_session s).upstream_ended h)
 
 -- while something is due to the client its end alone halts
-pub ends_first : (rules : Rules) (limit : ℕ) (s : Standing) (first : OpenCall) (calls : List OpenCall) (inbox : Inbox) (came : SessionStep) → s.calls ≡ first ∷ calls → inbox ≡ inbox_of (suc first.target) s → inbox.limit ≡ limit → came ≡ ends_step (is_part (front inbox.limit inbox.held)) inbox.ended → 0 < length s.to_client → LooksUp rules limit came s s
+pub ends_first : (rules : Rules) (limit : ℕ) (s : Standing) (first : OpenCall) (calls : List OpenCall) (inbox : Inbox) (came : SessionStep) → s.calls ≡ first ∷ calls → inbox ≡ inbox_of (suc first.target) s → inbox.limit ≡ limit → came ≡ ends_step (is_part (front inbox.limit inbox.held)) inbox.ended → 0 < length s.to_client → LooksUp rules limit came s s []
 ends_first rules limit s first calls inbox came e is same came_is some =
     ends_as rules limit s first calls inbox came e is same came_is (due_first rules limit (as_session s) first.call (map call_of calls) (open_session s first calls e) some)
 
-pub ends_part : (rules : Rules) (limit : ℕ) (s : Standing) (first : OpenCall) (calls : List OpenCall) (inbox : Inbox) (came : SessionStep) → s.calls ≡ first ∷ calls → inbox ≡ inbox_of (suc first.target) s → inbox.limit ≡ limit → came ≡ ends_step (is_part (front inbox.limit inbox.held)) inbox.ended → s.to_client ≡ [] → front inbox.limit inbox.held ≡ Part → LooksUp rules limit came s s
+pub ends_part : (rules : Rules) (limit : ℕ) (s : Standing) (first : OpenCall) (calls : List OpenCall) (inbox : Inbox) (came : SessionStep) → s.calls ≡ first ∷ calls → inbox ≡ inbox_of (suc first.target) s → inbox.limit ≡ limit → came ≡ ends_step (is_part (front inbox.limit inbox.held)) inbox.ended → s.to_client ≡ [] → front inbox.limit inbox.held ≡ Part → LooksUp rules limit came s s []
 ends_part rules limit s first calls inbox came e is same came_is none part =
     ends_as rules limit s first calls inbox came e is same came_is (no_reply rules limit (as_session s) first.call (map call_of calls) (open_session s first calls e) none (at_front limit s first calls inbox Part e is same part))
 
@@ -108,12 +110,27 @@ found_of rules s w known k = subst (λ (o : Option Waiting). IfSome o (λ found.
 
 -- ---- after a look at a target that changed nothing
 
-pub asks_after : (rules others : RouteRules) (limit k max_calls m : ℕ) (s mid t : Standing) → others ≡ rules → k ≡ limit → m ≡ max_calls → mid ≡ s → Asks others k m mid t → Asks rules limit max_calls s t
-asks_after rules others limit k max_calls m s mid t a b d e h =
-    subst (λ (r : RouteRules). Asks r limit max_calls s t) a
-    (subst (λ (n : ℕ). Asks others n max_calls s t) b
-    (subst (λ (n : ℕ). Asks others k n s t) d
-    (subst (λ (x : Standing). Asks others k m x t) e h)))
+pub asks_after : (rules others : RouteRules) (limit k max_calls m : ℕ) (s mid t : Standing) (added : List Note) → others ≡ rules → k ≡ limit → m ≡ max_calls → mid ≡ s → Asks others k m mid t added → Asks rules limit max_calls s t added
+asks_after rules others limit k max_calls m s mid t added a b d e h =
+    subst (λ (r : RouteRules). Asks r limit max_calls s t added) a
+    (subst (λ (n : ℕ). Asks others n max_calls s t added) b
+    (subst (λ (n : ℕ). Asks others k n s t added) d
+    (subst (λ (x : Standing). Asks others k m x t added) e h)))
+
+-- nothing was told before, and then this
+pub after_none : {X : Type 0} {tells : X → X → List Note → Type 0} {a b c : X} → ((p q r : X) (xs ys : List Note) → tells p q xs → tells q r ys → tells p r (xs ++ ys)) → (xs ys : List Note) → xs ≡ [] → tells a b xs → tells b c ys → tells a c ys
+after_none {tells = tells} {a = a} {b = b} {c = c} follows xs ys none first second = subst (λ (n : List Note). tells a c n) (ap (λ (n : List Note). n ++ ys) none) (follows a b c xs ys first second)
+
+-- this was told, and then nothing
+pub then_none : {X : Type 0} {tells : X → X → List Note → Type 0} {a b c : X} → ((p q r : X) (xs ys : List Note) → tells p q xs → tells q r ys → tells p r (xs ++ ys)) → (xs ys : List Note) → ys ≡ [] → tells a b xs → tells b c ys → tells a c xs
+then_none {tells = tells} {a = a} {b = b} {c = c} follows xs ys none first second = subst (λ (n : List Note). tells a c n) (ap (λ (n : List Note). xs ++ n) none ∙ append-nil xs) (follows a b c xs ys first second)
+
+pub client_after : (rules others : RouteRules) (limit k max_calls m : ℕ) (s mid : Standing) (move : Move) → others ≡ rules → k ≡ limit → m ≡ max_calls → mid ≡ s → of_client others.judging k m (as_session mid) ≡ move → of_client rules.judging limit max_calls (as_session s) ≡ move
+client_after rules others limit k max_calls m s mid move a b d e h =
+    subst (λ (r : RouteRules). of_client r.judging limit max_calls (as_session s) ≡ move) a
+    (subst (λ (n : ℕ). of_client others.judging n max_calls (as_session s) ≡ move) b
+    (subst (λ (n : ℕ). of_client others.judging k n (as_session s) ≡ move) d
+    (subst (λ (x : Standing). of_client others.judging k m (as_session x) ≡ move) e h)))
 
 -- by a judge that is the same
 pub found_by : (r q : Routing) (limit : ℕ) (held : List ℕ) (w : Waiting) → q ≡ r → IsFound (rules_of r).judging limit held w → IsFound (rules_of q).judging limit held w

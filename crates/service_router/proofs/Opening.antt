@@ -8,7 +8,8 @@ use Rattle.service_router.specs.declared.outcome.RouteOutcome.{RouteOutcome}
 use Rattle.service_router.specs.Rules.{RouteRules}
 use Rattle.service_router.specs.Standing.{Standing, begun, nothing, silent, inbox_of, due_to}
 use Rattle.session_core.specs.Fits.{told}
-use Rattle.service_router.specs.Fits.{Fits, frames_of, written_to}
+use Rattle.service_router.specs.Fits.{frames_of, written_to}
+use Rattle.service_router.specs.Telling.{FitsTold}
 use Rattle.service_router.specs.Steps.{as_session, with_port}
 use Rattle.service_router.specs.Ends.{IsAtRest}
 
@@ -41,22 +42,29 @@ none_due : (b : Bool) (xs : List ℕ) → xs ≡ [] → (if b then xs else []) �
 none_due true xs none = none
 none_due false xs none = refl
 
-begun_fits : (rules : RouteRules) (limit max_calls targets : ℕ) → Fits rules limit max_calls nothing (begun limit targets)
+begun_fits : (rules : RouteRules) (limit max_calls targets : ℕ) → FitsTold rules limit max_calls nothing [] (begun limit targets)
 begun_fits rules limit max_calls targets = record {
-  xs = [];
-  ys = [];
-  lawful = record {
-    passes = λ early late x h e j. none_before early late x e;
-    few = λ early late x e. absurd (none_before early late x e);
-    in_turn = λ early late x k e j. absurd (none_before early late x e);
-    paired = omega arith;
-    replies = λ early late y k h e at j. none_before early late y e;
+  fits = record {
+    xs = [];
+    ys = [];
+    lawful = record {
+      passes = λ early late x h e j. none_before early late x e;
+      few = λ early late x e. absurd (none_before early late x e);
+      in_turn = λ early late x k e j. absurd (none_before early late x e);
+      paired = omega arith;
+      replies = λ early late y k h e at j. none_before early late y e;
+    };
+    came = came_by;
+    went = went_by;
+    calls = refl;
+    counted = counted_by;
+    ended = ended_by;
   };
-  came = came_by;
-  went = went_by;
+  course = [];
+  asked = refl;
+  answered = refl;
   calls = refl;
-  counted = counted_by;
-  ended = ended_by;
+  notes_are = refl;
 }
   where
     came_by : (port : ℕ) → IsTaken limit [] (frames_of rules [] [] port) (inbox_of port (begun limit targets)).held
@@ -75,8 +83,8 @@ begun_fits rules limit max_calls targets = record {
     ended_by zero = refl
     ended_by (suc u) = not_ended targets u limit
 
-pub opened_fits : (rules : RouteRules) (limit max_calls targets : ℕ) (s : Standing) → s ≡ begun limit targets → Fits rules limit max_calls nothing s
-opened_fits rules limit max_calls targets s e = subst (λ (x : Standing). Fits rules limit max_calls nothing x) (sym e) (begun_fits rules limit max_calls targets)
+pub opened_fits : (rules : RouteRules) (limit max_calls targets : ℕ) (s : Standing) → s ≡ begun limit targets → FitsTold rules limit max_calls nothing [] s
+opened_fits rules limit max_calls targets s e = subst (λ (x : Standing). FitsTold rules limit max_calls nothing [] x) (sym e) (begun_fits rules limit max_calls targets)
 
 pub opened_rest : (rules : RouteRules) (limit max_calls targets : ℕ) (s : Standing) (o : Option RouteOutcome) → 0 < max_calls → s ≡ begun limit targets → o ≡ None → IsAtRest rules limit max_calls s o
 opened_rest rules limit max_calls targets s o some e none =

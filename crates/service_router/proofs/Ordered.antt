@@ -102,7 +102,7 @@ longer_by rules client.Goes answer next ys w h = h ys
 longer_by rules (client.Refused cause) answer next ys w h =
     let r = h ys in
     (r.0, ap (λ t. framed answer ++ t) r.1 ∙ sym (append_assoc (framed answer) (next ys) r.0))
-longer_by rules client.Dropped answer next ys w h = h ys
+longer_by rules (client.Dropped cause) answer next ys w h = h ys
 
 back_longer : (rules : Rules) (xs ys w : List (List ℕ)) → IsFrontOf (back rules xs ys) (back rules xs (ys ++ w))
 back_longer rules [] ys w = ([], refl)
@@ -118,7 +118,7 @@ further_by rules client.Goes answer next other ys h = h ys
 further_by rules (client.Refused cause) answer next other ys h =
     let r = h ys in
     (r.0, ap (λ t. framed answer ++ t) r.1 ∙ sym (append_assoc (framed answer) (other ys) r.0))
-further_by rules client.Dropped answer next other ys h = h ys
+further_by rules (client.Dropped cause) answer next other ys h = h ys
 
 back_further : (rules : Rules) (xs more ys : List (List ℕ)) → IsFrontOf (back rules xs ys) (back rules (xs ++ more) ys)
 back_further rules [] more ys = (back rules more ys, refl)

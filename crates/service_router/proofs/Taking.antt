@@ -1,11 +1,13 @@
 -- A frame of the client is taken, or waits.
-use Rattle.std.proofs.Common.{◌≡◌, ℕ, ◌==◌, ◌<◌, ◌≤◌, List, [], ◌∷◌, ◌++◌, length, length-append, map, arith, refl, sym, ◌∙◌, ap, subst, Bool, true, false, ◌&&◌, Some, None}
+use Rattle.std.proofs.Common.{◌≡◌, ℕ, ◌+◌, ◌==◌, ◌<◌, ◌≤◌, List, [], ◌∷◌, ◌++◌, length, length-append, map, arith, refl, sym, ◌∙◌, ap, subst, Bool, true, false, ◌&&◌, Some, None}
 use Rattle.std.specs.List.{All}
 use Rattle.std.proofs.lemmas.Bool.Decides.{nat_tests}
 use Rattle.std.proofs.lemmas.List.Elements.{All-append, All-nil, All-cons}
 use Rattle.gate_io.specs.Buffer.{Buffer}
 use Rattle.framed_transport.specs.Frames.{IsCut}
 use Rattle.framed_transport.specs.Front.{Whole, front}
+use Rattle.session_core.specs.Fits.{told}
+use Rattle.session_core.specs.Notes.{call_notes}
 use Rattle.session_core.specs.Steps.{is_none}
 use Rattle.session_core.specs.Working.{IsFound}
 use Rattle.session_core.specs.declared.judge.Call.{Call}
@@ -25,7 +27,7 @@ use Rattle.service_router.proofs.Keeping.{ready_client, ready_to_upstream, ready
 
 -- ---- it is taken
 
-pub asks_in : (rules : RouteRules) (limit max_calls : ℕ) (s t : Standing) (frame rest : List ℕ) (v : ClientJudged) → s.to_upstream ≡ [] → length s.calls < max_calls → front limit s.client.held ≡ Whole frame rest → IsCut limit s.client.held frame rest → rules.judging.judged frame ≡ v → TakesBy v (rules.target frame) (rules.judging.output frame) (rules.judging.answer frame) rest s t → Asks rules limit max_calls s t
+pub asks_in : (rules : RouteRules) (limit max_calls : ℕ) (s t : Standing) (frame rest : List ℕ) (v : ClientJudged) → s.to_upstream ≡ [] → length s.calls < max_calls → front limit s.client.held ≡ Whole frame rest → IsCut limit s.client.held frame rest → rules.judging.judged frame ≡ v → TakesBy v (rules.target frame) (rules.judging.output frame) (rules.judging.answer frame) rest s t → Asks rules limit max_calls s t (call_notes v (told (s.client.taken + 1)) frame)
 asks_in rules limit max_calls s t frame rest v none few whole cut j takes = record {
   frame = frame;
   rest = rest;
@@ -34,6 +36,7 @@ asks_in rules limit max_calls s t frame rest v none few whole cut j takes = reco
   whole = whole;
   cut = cut;
   takes = subst (λ (w : ClientJudged). TakesBy w (rules.target frame) (rules.judging.output frame) (rules.judging.answer frame) rest s t) (sym j) takes;
+  noted = ap (λ w. call_notes w (told (s.client.taken + 1)) frame) (sym j);
 }
 
 -- what stands once it is let go

@@ -1,5 +1,5 @@
 -- What an index into the targets reads and writes.
-use Rattle.std.proofs.Common.{◌≡◌, ℕ, zero, suc, ◌+◌, ◌-◌, ◌<◌, ◌≤◌, List, [], ◌∷◌, length, drop, arith, refl, sym, ◌∙◌, ap, subst}
+use Rattle.std.proofs.Common.{◌≡◌, ℕ, zero, suc, ◌+◌, ◌-◌, ◌<◌, ◌≤◌, List, [], ◌∷◌, length, drop, arith, refl, sym, ◌∙◌, ap, subst, Option}
 use Rattle.std.specs.Prelude.{get_or, slice_set}
 use Rattle.std.specs.List.{All}
 use Rattle.std.specs.Vec.{with_item}
@@ -8,6 +8,8 @@ use Rattle.std.proofs.lemmas.List.Elements.{All-head}
 use Rattle.gate_io.specs.Buffer.{Buffer}
 use Rattle.framed_transport.specs.Frames.{IsCut, framed}
 use Rattle.framed_transport.specs.Front.{Front, Whole, front, behind}
+use Rattle.translate_core.specs.declared.verdict.Cause.{Cause}
+use Rattle.session_core.specs.Notes.{reply_notes, reply_notes_by}
 use Rattle.session_core.specs.Rules.{Rules}
 use Rattle.session_core.specs.Fits.{told}
 use Rattle.session_core.specs.declared.judge.UpstreamJudged.TheVariants as upstream
@@ -74,8 +76,8 @@ keeps_answered r s t out u room fits within e w =
       known = w.known;
     })
 
-pub answers_in : (rules : Rules) (limit : ℕ) (s t : State) (first : OpenCall) (inbox : Inbox) (frame rest : List ℕ) (out : Buffer) → s.calls.items ≡ first ∷ drop 1 s.calls.items → first.target < length s.ports.items → inbox ≡ inbox_in (suc first.target) s → inbox.limit ≡ limit → s.to_client.bytes ≡ [] → front inbox.limit inbox.held ≡ Whole frame rest → IsCut inbox.limit inbox.held frame rest → rules.replied first.call frame ≡ upstream.Answers → out.bytes ≡ framed (rules.reply first.call frame) → t ≡ answered_in s out first.target → Answers rules limit (standing s) (standing t)
-answers_in rules limit s t first inbox frame rest out opened within is same none whole cut judged written e =
+pub answers_in : (rules : Rules) (limit : ℕ) (s t : State) (first : OpenCall) (inbox : Inbox) (frame rest : List ℕ) (out : Buffer) (refused : Option Cause) → s.calls.items ≡ first ∷ drop 1 s.calls.items → first.target < length s.ports.items → inbox ≡ inbox_in (suc first.target) s → inbox.limit ≡ limit → s.to_client.bytes ≡ [] → front inbox.limit inbox.held ≡ Whole frame rest → IsCut inbox.limit inbox.held frame rest → rules.replied first.call frame ≡ upstream.Answers refused → out.bytes ≡ framed (rules.reply first.call frame) → t ≡ answered_in s out first.target → Answers rules limit (standing s) (standing t) (reply_notes_by (suc first.target) refused (told (inbox.taken + 1)) frame)
+answers_in rules limit s t first inbox frame rest out refused opened within is same none whole cut judged written e =
     let there = inbox_in (suc first.target) s in
     let left : behind there.held (front there.limit there.held) ≡ rest = subst (λ (i : Inbox). behind i.held (front i.limit i.held) ≡ rest) is (behind_whole inbox.limit inbox.held frame rest whole) in
     record {
@@ -88,7 +90,9 @@ answers_in rules limit s t first inbox frame rest out opened within is same none
       none = none;
       whole = target_front limit s first inbox (Whole frame rest) is same whole;
       cut = target_cut limit s first inbox frame rest is same cut;
+      refused = refused;
       answers = judged;
+      noted = ap (λ (i : Inbox). reply_notes_by (suc first.target) refused (told (i.taken + 1)) frame) is ∙ ap (λ v. reply_notes (suc first.target) v (told (there.taken + 1)) frame) (sym judged);
       after = ap standing e
           ∙ (ap (λ (b : List ℕ). let x : Standing = record (standing s) { to_client = b; calls = drop 1 s.calls.items; upstreams = slice_set s.ports.items first.target (without_frame there) } in x) written
           ∙ ap (λ (b : List ℕ). let x : Standing = record (standing s) { to_client = framed (rules.reply first.call frame); calls = drop 1 s.calls.items; upstreams = slice_set s.ports.items first.target (record there { held = b; taken = told (there.taken + 1) }) } in x) left);

@@ -32,15 +32,15 @@ goes_on (client.Opens call) = true
 goes_on client.Goes = true
 goes_on (client.Halts h) = false
 goes_on (client.Refused cause) = false
-goes_on client.Dropped = false
+goes_on (client.Dropped cause) = false
 
 -- what passes goes to its target; without a target a call is refused, and what waits for no answer is dropped
 abbrev pub unserved : ClientJudged → ClientJudged
 unserved (client.Opens call) = client.Refused NoRoute
-unserved client.Goes = client.Dropped
+unserved client.Goes = client.Dropped NoRoute
 unserved (client.Halts h) = client.Halts h
 unserved (client.Refused cause) = client.Refused cause
-unserved client.Dropped = client.Dropped
+unserved (client.Dropped cause) = client.Dropped cause
 
 abbrev pub by_target : Option ℕ → ClientJudged → ClientJudged
 by_target (Some u) v = v

@@ -3,6 +3,7 @@ pub mod Rules
 pub mod Standing
 pub mod Inboxes
 pub mod Fits
+pub mod Telling
 pub mod Stands
 pub mod Steps
 pub mod Ends

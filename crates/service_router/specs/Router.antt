@@ -1,11 +1,12 @@
 -- A router as its callers see it.
-use Rattle.std.specs.Prelude.{◌≡◌, ℕ, ◌+◌, ◌≤◌, List, length, replicate, Option}
+use Rattle.std.specs.Prelude.{◌≡◌, ℕ, ◌+◌, ◌≤◌, List, ◌++◌, length, replicate, Option}
 use Rattle.session_core.specs.Rooms.{due_room}
+use Rattle.session_core.specs.Notes.{Note}
 use Rattle.service_router.specs.Rules.{RouteRules}
 use Rattle.service_router.specs.Routing.{Routing}
 use Rattle.service_router.specs.Judging.{rules_of}
 use Rattle.service_router.specs.Standing.{Standing, History, inbox_of}
-use Rattle.service_router.specs.Fits.{Fits}
+use Rattle.service_router.specs.Telling.{FitsTold}
 use Rattle.service_router.specs.Ends.{IsAtRest, TakesNoMore, bytes_held, most_held}
 use Rattle.service_router.specs.declared.outcome.RouteOutcome.{RouteOutcome}
 
@@ -55,10 +56,11 @@ pub record IsSame (old new : Seen) : Type 0 where
 abbrev pub RestsBy : Seen → Seen → Type 0
 RestsBy old new = IsAtRest (rules_in old) old.limit old.max_calls new.standing new.outcome
 
--- what came and went fits the later router too, with what was added on the way
-abbrev pub FitsLater : Seen → Seen → (History → History) → Type 0
-FitsLater old new on =
-    (h : History) → Fits (rules_in old) old.limit old.max_calls h old.standing → Fits (rules_in old) old.limit old.max_calls (on h) new.standing
+-- some notes were made, and the later router fits what was told before and these, with what was added on the way
+abbrev pub FitsAndTells : Seen → Seen → (List Note → Type 0) → (History → History) → Type 0
+FitsAndTells old new tells on =
+    (added : List Note) × tells added
+    × ((h : History) (past : List Note) → FitsTold (rules_in old) old.limit old.max_calls h past old.standing → FitsTold (rules_in old) old.limit old.max_calls (on h) (past ++ added) new.standing)
 
 -- no more of a port was taken, for one of the reasons
 abbrev pub TakesNoMoreOf : ℕ → Seen → Seen → Type 0

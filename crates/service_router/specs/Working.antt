@@ -4,6 +4,7 @@ use Rattle.std.specs.List.{All}
 use Rattle.std.specs.Vec.{with_item}
 use Rattle.framed_transport.specs.Frames.{IsCut, framed}
 use Rattle.framed_transport.specs.Front.{Whole, front}
+use Rattle.session_core.specs.Notes.{Note, call_notes, reply_notes}
 use Rattle.session_core.specs.Rules.{Rules}
 use Rattle.session_core.specs.Fits.{told}
 use Rattle.session_core.specs.Rooms.{due_room}
@@ -13,6 +14,7 @@ use Rattle.session_core.specs.declared.state.SessionStep.{SessionStep}
 use Rattle.session_core.specs.declared.state.SessionStep.TheVariants as step
 use Rattle.session_core.specs.declared.state.Standstill.{Standstill}
 use Rattle.session_core.specs.declared.state.TheConstants.{MOST_CALLS}
+use Rattle.translate_core.specs.declared.verdict.Cause.{Cause}
 use Rattle.session_core.specs.declared.judge.ClientJudged.{ClientJudged}
 use Rattle.session_core.specs.declared.judge.ClientJudged.TheVariants as client
 use Rattle.session_core.specs.declared.judge.UpstreamJudged.TheVariants as upstream
@@ -21,7 +23,8 @@ use Rattle.service_router.specs.Routing.{Routing}
 use Rattle.service_router.specs.Judging.{rules_of}
 use Rattle.service_router.specs.Standing.{Standing, History, Inbox, inbox_of}
 use Rattle.service_router.specs.Inboxes.{HasRoom, without_frame}
-use Rattle.service_router.specs.Fits.{Fits, led}
+use Rattle.service_router.specs.Fits.{led}
+use Rattle.service_router.specs.Telling.{FitsTold}
 use Rattle.service_router.specs.Steps.{as_session}
 use Rattle.service_router.specs.Ends.{IsAtRest}
 use Rattle.service_router.specs.Router.{Rooms}
@@ -105,13 +108,17 @@ pub record Keeps (r : Routing) (old new : State) : Type 0 where
   pub ready : IsReady old.client.limit old.calls.capacity (length old.ports.items) new
   pub known : Knows (rules_of r) new
 
--- what came and went fits the later state too, with what was added on the way
-abbrev pub FitsOn : Routing → State → State → (History → History) → Type 0
-FitsOn r old new on =
-    (h : History) → Fits (rules_of r) old.client.limit old.calls.capacity h (standing old) → Fits (rules_of r) old.client.limit old.calls.capacity (on h) (standing new)
+-- the later state fits what was told before and these notes, with what was added on the way
+abbrev pub FitsTelling : Routing → State → State → List Note → (History → History) → Type 0
+FitsTelling r old new added on =
+    (h : History) (past : List Note) → FitsTold (rules_of r) old.client.limit old.calls.capacity h past (standing old) → FitsTold (rules_of r) old.client.limit old.calls.capacity (on h) (past ++ added) (standing new)
 
--- the front frame of the oldest call's target has answered it
-pub record Answers (rules : Rules) (limit : ℕ) (s t : Standing) : Type 0 where
+-- some notes were made, and it fits with these
+abbrev pub FitsOn : Routing → State → State → (List Note → Type 0) → (History → History) → Type 0
+FitsOn r old new tells on = (added : List Note) × tells added × FitsTelling r old new added on
+
+-- the front frame of the oldest call's target has answered it, and this is told of it
+pub record Answers (rules : Rules) (limit : ℕ) (s t : Standing) (added : List Note) : Type 0 where
   pub call : OpenCall
   pub calls : List OpenCall
   pub frame : List ℕ
@@ -121,7 +128,9 @@ pub record Answers (rules : Rules) (limit : ℕ) (s t : Standing) : Type 0 where
   pub none : s.to_client ≡ []
   pub whole : front limit (inbox_of (suc call.target) s).held ≡ Whole frame rest
   pub cut : IsCut limit (inbox_of (suc call.target) s).held frame rest
-  pub answers : rules.replied call.call frame ≡ upstream.Answers
+  pub refused : Option Cause
+  pub answers : rules.replied call.call frame ≡ upstream.Answers refused
+  pub noted : added ≡ reply_notes (suc call.target) (rules.replied call.call frame) (told ((inbox_of (suc call.target) s).taken + 1)) frame
   pub after :
       let inbox = inbox_of (suc call.target) s in
       t ≡ record s {
@@ -143,10 +152,10 @@ TakesBy client.Goes target output answer rest s t =
     t ≡ record s { client = asked_once s.client rest; to_upstream = framed output; toward = target }
 TakesBy (client.Refused cause) target output answer rest s t =
     (s.calls ≡ []) × (s.to_client ≡ []) × (t ≡ record s { client = asked_once s.client rest; to_client = framed answer })
-TakesBy client.Dropped target output answer rest s t = t ≡ record s { client = asked_once s.client rest }
+TakesBy (client.Dropped cause) target output answer rest s t = t ≡ record s { client = asked_once s.client rest }
 
--- the client's front frame has been taken
-pub record Asks (rules : RouteRules) (limit max_calls : ℕ) (s t : Standing) : Type 0 where
+-- the client's front frame has been taken, and this is told of it
+pub record Asks (rules : RouteRules) (limit max_calls : ℕ) (s t : Standing) (added : List Note) : Type 0 where
   pub frame : List ℕ
   pub rest : List ℕ
   pub none : s.to_upstream ≡ []
@@ -154,33 +163,34 @@ pub record Asks (rules : RouteRules) (limit max_calls : ℕ) (s t : Standing) : 
   pub whole : front limit s.client.held ≡ Whole frame rest
   pub cut : IsCut limit s.client.held frame rest
   pub takes : TakesBy (rules.judging.judged frame) (rules.target frame) (rules.judging.output frame) (rules.judging.answer frame) rest s t
+  pub noted : added ≡ call_notes (rules.judging.judged frame) (told (s.client.taken + 1)) frame
 
--- what came of a look at the target of the oldest call
-abbrev pub LooksUp : Rules → ℕ → SessionStep → Standing → Standing → Type 0
-LooksUp rules limit step.Waits s t = (of_upstream rules limit (as_session s) ≡ Waits) × (t ≡ s)
-LooksUp rules limit (step.Halts h) s t = (of_upstream rules limit (as_session s) ≡ Halts h) × (t ≡ s)
-LooksUp rules limit step.Takes s t = Answers rules limit s t
+-- what came of a look at the target of the oldest call, and what is told of it
+abbrev pub LooksUp : Rules → ℕ → SessionStep → Standing → Standing → List Note → Type 0
+LooksUp rules limit step.Waits s t added = (of_upstream rules limit (as_session s) ≡ Waits) × (t ≡ s) × (added ≡ [])
+LooksUp rules limit (step.Halts h) s t added = (of_upstream rules limit (as_session s) ≡ Halts h) × (t ≡ s) × (added ≡ [])
+LooksUp rules limit step.Takes s t added = Answers rules limit s t added
 
--- what came of a look at the client
-abbrev pub LooksDown : RouteRules → ℕ → ℕ → SessionStep → Standing → Standing → Type 0
-LooksDown rules limit max_calls step.Waits s t = (of_client rules.judging limit max_calls (as_session s) ≡ Waits) × (t ≡ s)
-LooksDown rules limit max_calls (step.Halts h) s t = (of_client rules.judging limit max_calls (as_session s) ≡ Halts h) × (t ≡ s)
-LooksDown rules limit max_calls step.Takes s t = Asks rules limit max_calls s t
+-- what came of a look at the client, and what is told of it
+abbrev pub LooksDown : RouteRules → ℕ → ℕ → SessionStep → Standing → Standing → List Note → Type 0
+LooksDown rules limit max_calls step.Waits s t added = (of_client rules.judging limit max_calls (as_session s) ≡ Waits) × (t ≡ s) × (added ≡ [])
+LooksDown rules limit max_calls (step.Halts h) s t added = (of_client rules.judging limit max_calls (as_session s) ≡ Halts h) × (t ≡ s) × (added ≡ [])
+LooksDown rules limit max_calls step.Takes s t added = Asks rules limit max_calls s t added
 
 -- the same of a state, by its own limits
-abbrev pub LooksUpIn : Routing → State → State → SessionStep → Type 0
-LooksUpIn r old new came = LooksUp (rules_of r).judging old.client.limit came (standing old) (standing new)
+abbrev pub LooksUpIn : Routing → State → State → (List Note → Type 0) → SessionStep → Type 0
+LooksUpIn r old new tells came = (added : List Note) × tells added × LooksUp (rules_of r).judging old.client.limit came (standing old) (standing new) added
 
-abbrev pub LooksDownIn : Routing → State → State → SessionStep → Type 0
-LooksDownIn r old new came = LooksDown (rules_of r) old.client.limit old.calls.capacity came (standing old) (standing new)
+abbrev pub LooksDownIn : Routing → State → State → (List Note → Type 0) → SessionStep → Type 0
+LooksDownIn r old new tells came = (added : List Note) × tells added × LooksDown (rules_of r) old.client.limit old.calls.capacity came (standing old) (standing new) added
 
--- a frame was taken, or none can be
-abbrev pub Goes : RouteRules → ℕ → ℕ → Standing → Standing → Option Standstill → Type 0
-Goes rules limit max_calls s t None = Answers rules.judging limit s t ⊎ Asks rules limit max_calls s t
-Goes rules limit max_calls s t (Some why) = (t ≡ s) × StandsStill rules.judging limit max_calls (as_session s) why
+-- a frame was taken and this is told of it, or none can be
+abbrev pub Goes : RouteRules → ℕ → ℕ → Standing → Standing → List Note → Option Standstill → Type 0
+Goes rules limit max_calls s t added None = Answers rules.judging limit s t added ⊎ Asks rules limit max_calls s t added
+Goes rules limit max_calls s t added (Some why) = (t ≡ s) × StandsStill rules.judging limit max_calls (as_session s) why × (added ≡ [])
 
-abbrev pub GoesOn : Routing → State → State → Option Standstill → Type 0
-GoesOn r old new why = Goes (rules_of r) old.client.limit old.calls.capacity (standing old) (standing new) why
+abbrev pub GoesOn : Routing → State → State → (List Note → Type 0) → Option Standstill → Type 0
+GoesOn r old new tells why = (added : List Note) × tells added × Goes (rules_of r) old.client.limit old.calls.capacity (standing old) (standing new) added why
 
 -- between two calls the router is at rest, by the limits that it began with
 abbrev pub IsSettledBy : Routing → State → State → Type 0

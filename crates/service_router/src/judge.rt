@@ -210,8 +210,8 @@ fn unserved(judged: ClientJudged) -> ClientJudged
 {
     match judged {
         ClientJudged::Opens(_) => ClientJudged::Refused(Cause::NoRoute),
-        ClientJudged::Goes => ClientJudged::Dropped,
-        ClientJudged::Halts(_) | ClientJudged::Refused(_) | ClientJudged::Dropped => judged,
+        ClientJudged::Goes => ClientJudged::Dropped(Cause::NoRoute),
+        ClientJudged::Halts(_) | ClientJudged::Refused(_) | ClientJudged::Dropped(_) => judged,
     }
 }
 

@@ -8,6 +8,7 @@
 mod call;
 mod judge;
 mod laws;
+mod noting;
 mod outcome;
 mod port;
 mod router;

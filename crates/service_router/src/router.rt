@@ -3,16 +3,16 @@ ghost use Rattle.std.specs.Prelude.{◌≡◌, ◌^◌, ◌<◌, ◌≤◌, [], 
 ghost use Rattle.session_core.specs.Rooms.{due_room};
 ghost use Rattle.service_router.specs.Setups.{routing_of};
 ghost use Rattle.service_router.specs.Standing.{nothing, and_received, and_sent, and_ended, inbox_of, due_to, room_of};
-ghost use Rattle.service_router.specs.Fits.{Fits};
+ghost use Rattle.service_router.specs.Telling.{FitsTold};
 ghost use Rattle.service_router.specs.Ends.{IsAtRest, is_own, bytes_held, most_held};
-ghost use Rattle.service_router.specs.Router.{rules_in, IsSame, RestsBy, FitsLater, TakesNoMoreOf, HoldsWithin, rooms_for, targets_of};
+ghost use Rattle.service_router.specs.Router.{rules_in, IsSame, RestsBy, FitsAndTells, TakesNoMoreOf, HoldsWithin, rooms_for, targets_of};
 
 use crate::judge::RouteJudge;
 use crate::outcome::RouteOutcome;
 use crate::state::State;
 use gate_base::OutOfMemory;
 use gate_fan::Target;
-use session_core::MOST_CALLS;
+use session_core::{MOST_CALLS, Notes};
 use session_judge::Setup;
 use std::alloc::Global;
 use std::marker::Model;
@@ -63,7 +63,7 @@ impl<'s> Router<'s> {
         requires few_targets { length targets.now ≤ MOST_TARGETS }
         ensures given { IfOk result (λ r. (r.routing ≡ routing_of setup.entry targets.now) × (r.limit ≡ setup.entry.limit) × (r.max_calls ≡ setup.entry.calls)) }
         ensures targets { IfOk result (λ r. targets_of r ≡ length targets.now) }
-        ensures fits { IfOk result (λ r. Fits (rules_in r) r.limit r.max_calls nothing r.standing) }
+        ensures fits { IfOk result (λ r. FitsTold (rules_in r) r.limit r.max_calls nothing [] r.standing) }
         ensures rest { IfOk result (λ r. IsAtRest (rules_in r) r.limit r.max_calls r.standing r.outcome) }
         ensures going { IfOk result (λ r. r.outcome ≡ None) }
         ensures rooms { IfOk result (λ r. r.rooms ≡ rooms_for setup.entry.limit setup.entry.calls (length targets.now)) }
@@ -86,19 +86,19 @@ impl<'s> Router<'s> {
     /// Takes bytes that came of a port, does all that can be done, and says how many were taken.
     ///
     /// Fewer than given are taken only where that port's buffer is full afterwards, the port had ended, or there is an outcome.
-    pub fn take(&mut self, port: usize, bytes: &[u8]) -> usize
+    pub fn take<N: Notes>(&mut self, port: usize, bytes: &[u8], notes: &mut N) -> usize
         requires port { port ≤ targets_of self.old }
         ensures same { IsSame self.old self.new }
         ensures rest { RestsBy self.old self.new }
         ensures holds { HoldsWithin self.new }
         ensures count { result ≤ length bytes.now }
-        ensures fits { FitsLater self.old self.new (λ h. and_received port h (take result bytes.now)) }
+        ensures fits { FitsAndTells self.old self.new (N.tells notes.old notes.new) (λ h. and_received port h (take result bytes.now)) }
         ensures fewer { result < length bytes.now → TakesNoMoreOf port self.old self.new }
         ensures whole { length bytes.now ≤ room_of self.old.limit self.old.standing (is_some self.old.outcome) port → result ≡ length bytes.now }
         ensures ended { (inbox_of port self.old.standing).ended ≡ true → result ≡ 0 }
         ensures over { is_some self.old.outcome ≡ true → result ≡ 0 }
     {
-        self.state.take(&mut self.judge, port, bytes)
+        self.state.take(&mut self.judge, port, bytes, notes)
     }
 
     /// The bytes that are due to a port.
@@ -112,25 +112,25 @@ impl<'s> Router<'s> {
     }
 
     /// So many of the bytes that are due to a port were sent.
-    pub fn sent(&mut self, port: usize, n: usize)
+    pub fn sent<N: Notes>(&mut self, port: usize, n: usize, notes: &mut N)
         requires due { n ≤ length (due_to port self.old.standing) }
         ensures same { IsSame self.old self.new }
         ensures rest { RestsBy self.old self.new }
         ensures holds { HoldsWithin self.new }
-        ensures fits { FitsLater self.old self.new (λ h. and_sent port h (take n (due_to port self.old.standing))) }
+        ensures fits { FitsAndTells self.old self.new (N.tells notes.old notes.new) (λ h. and_sent port h (take n (due_to port self.old.standing))) }
     {
-        self.state.sent(&mut self.judge, port, n);
+        self.state.sent(&mut self.judge, port, n, notes);
     }
 
     /// A port sends nothing more. A second time nothing changes.
-    pub fn end(&mut self, port: usize)
+    pub fn end<N: Notes>(&mut self, port: usize, notes: &mut N)
         requires port { port ≤ targets_of self.old }
         ensures same { IsSame self.old self.new }
         ensures rest { RestsBy self.old self.new }
         ensures holds { HoldsWithin self.new }
-        ensures fits { FitsLater self.old self.new (λ h. and_ended port h) }
+        ensures fits { FitsAndTells self.old self.new (N.tells notes.old notes.new) (λ h. and_ended port h) }
     {
-        self.state.end(&mut self.judge, port);
+        self.state.end(&mut self.judge, port, notes);
     }
 
     /// How many more bytes of a port can be taken.

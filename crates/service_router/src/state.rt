@@ -17,6 +17,7 @@ ghost use Rattle.service_router.specs.Working.{standing, inbox_in, with_inbox_in
 
 use crate::call::OpenCall;
 use crate::judge::RouteJudge;
+use crate::noting::{note_answer, note_call};
 use crate::outcome::RouteOutcome;
 use crate::port::Port;
 use crate::router::MOST_TARGETS;
@@ -25,7 +26,7 @@ use framed_transport::{Next, frame_stands_at_the_front};
 use gate_base::OutOfMemory;
 use gate_io::Out;
 use session_core::{
-    Call, ClientJudged, Halt, MOST_CALLS, SessionStep, Standstill, UpstreamJudged, Waiting,
+    Call, ClientJudged, Halt, MOST_CALLS, Notes, SessionStep, Standstill, UpstreamJudged, Waiting,
     due_room,
 };
 use std::alloc::Global;
@@ -103,11 +104,11 @@ impl State {
     }
 
     /// Takes the front frame of the oldest call's target, once nothing is due to the client.
-    fn upstream_step(&mut self, judge: &mut RouteJudge<'_>) -> SessionStep
+    fn upstream_step<N: Notes>(&mut self, judge: &mut RouteJudge<'_>, notes: &mut N) -> SessionStep
         requires works { Works judge.old self.old }
         ensures same { judge.new ≡ judge.old }
         ensures keeps { Keeps judge.old self.old self.new }
-        ensures comes { LooksUpIn judge.old self.old self.new result }
+        ensures comes { LooksUpIn judge.old self.old self.new (N.tells notes.old notes.new) result }
     {
         let Some(&open) = self.calls.front() else {
             return SessionStep::Waits;
@@ -124,7 +125,8 @@ impl State {
                     self.to_client.cut(0);
                     SessionStep::Halts(halt)
                 }
-                UpstreamJudged::Answers => {
+                UpstreamJudged::Answers(refused) => {
+                    note_answer(notes, open.target, port.taken(), refused, frame);
                     self.close_call(open.target);
                     SessionStep::Takes
                 }
@@ -142,45 +144,50 @@ impl State {
     }
 
     /// Takes the client's front frame, while nothing is due to a target and a call may open.
-    fn client_step(&mut self, judge: &mut RouteJudge<'_>) -> SessionStep
+    fn client_step<N: Notes>(&mut self, judge: &mut RouteJudge<'_>, notes: &mut N) -> SessionStep
         requires works { Works judge.old self.old }
         ensures same { judge.new ≡ judge.old }
         ensures keeps { Keeps judge.old self.old self.new }
-        ensures comes { LooksDownIn judge.old self.old self.new result }
+        ensures comes { LooksDownIn judge.old self.old self.new (N.tells notes.old notes.new) result }
     {
         if !self.to_upstream.bytes().is_empty() || self.calls.len() >= self.calls.capacity() {
             return SessionStep::Waits;
         }
         let Some(waiting) = self.known else {
-            return self.judge_step(judge);
+            return self.judge_step(judge, notes);
         };
-        self.stored_step(judge, waiting)
+        self.stored_step(judge, waiting, notes)
     }
 
     /// Continues with the client's front frame by its stored verdict.
-    fn stored_step(&mut self, judge: &mut RouteJudge<'_>, waiting: Waiting) -> SessionStep
+    fn stored_step<N: Notes>(
+        &mut self,
+        judge: &mut RouteJudge<'_>,
+        waiting: Waiting,
+        notes: &mut N,
+    ) -> SessionStep
         requires works { Works judge.old self.old }
         requires empty { self.old.to_upstream.bytes ≡ [] }
         requires few { length self.old.calls.items < self.old.calls.capacity }
         requires found { IsFound (rules_of judge.old).judging self.old.client.limit self.old.client.held waiting }
         ensures same { judge.new ≡ judge.old }
         ensures keeps { Keeps judge.old self.old self.new }
-        ensures comes { LooksDownIn judge.old self.old self.new result }
+        ensures comes { LooksDownIn judge.old self.old self.new (N.tells notes.old notes.new) result }
     {
         match waiting {
             Waiting::Halts(halt) => SessionStep::Halts(halt),
-            Waiting::Refused(cause) => self.answer_step(judge, cause),
+            Waiting::Refused(cause) => self.answer_step(judge, cause, notes),
         }
     }
 
     /// Judges the client's front frame, and takes it or stores the verdict.
-    fn judge_step(&mut self, judge: &mut RouteJudge<'_>) -> SessionStep
+    fn judge_step<N: Notes>(&mut self, judge: &mut RouteJudge<'_>, notes: &mut N) -> SessionStep
         requires works { Works judge.old self.old }
         requires empty { self.old.to_upstream.bytes ≡ [] }
         requires few { length self.old.calls.items < self.old.calls.capacity }
         ensures same { judge.new ≡ judge.old }
         ensures keeps { Keeps judge.old self.old self.new }
-        ensures comes { LooksDownIn judge.old self.old self.new result }
+        ensures comes { LooksDownIn judge.old self.old self.new (N.tells notes.old notes.new) result }
     {
         match self.client.frame() {
             Next::NeedMore => SessionStep::Waits,
@@ -197,7 +204,8 @@ impl State {
                         self.count_frame();
                         SessionStep::Takes
                     }
-                    ClientJudged::Dropped => {
+                    ClientJudged::Dropped(cause) => {
+                        note_call(notes, self.client.taken(), cause, true, frame);
                         self.to_upstream.cut(0);
                         self.count_frame();
                         SessionStep::Takes
@@ -205,7 +213,7 @@ impl State {
                     ClientJudged::Refused(cause) => {
                         self.to_upstream.cut(0);
                         self.known = Some(Waiting::Refused(cause));
-                        self.answer_step(judge, cause)
+                        self.answer_step(judge, cause, notes)
                     }
                     ClientJudged::Halts(halt) => {
                         self.to_upstream.cut(0);
@@ -238,20 +246,26 @@ impl State {
     }
 
     /// Answers the client's front frame in its turn.
-    fn answer_step(&mut self, judge: &mut RouteJudge<'_>, cause: Cause) -> SessionStep
+    fn answer_step<N: Notes>(
+        &mut self,
+        judge: &mut RouteJudge<'_>,
+        cause: Cause,
+        notes: &mut N,
+    ) -> SessionStep
         requires works { Works judge.old self.old }
         requires empty { self.old.to_upstream.bytes ≡ [] }
         requires few { length self.old.calls.items < self.old.calls.capacity }
         requires found { IsFound (rules_of judge.old).judging self.old.client.limit self.old.client.held (Waiting.Refused cause) }
         ensures same { judge.new ≡ judge.old }
         ensures keeps { Keeps judge.old self.old self.new }
-        ensures comes { LooksDownIn judge.old self.old self.new result }
+        ensures comes { LooksDownIn judge.old self.old self.new (N.tells notes.old notes.new) result }
     {
         if !self.calls.is_empty() || !self.to_client.bytes().is_empty() {
             return SessionStep::Waits;
         }
         if let Next::Frame(frame) = self.client.frame() {
             judge.answer(frame, cause, &mut self.to_client);
+            note_call(notes, self.client.taken(), cause, false, frame);
             self.count_frame();
             return SessionStep::Takes;
         }
@@ -259,16 +273,16 @@ impl State {
     }
 
     /// Takes a frame, or says why none can be taken.
-    fn step(&mut self, judge: &mut RouteJudge<'_>) -> Option<Standstill>
+    fn step<N: Notes>(&mut self, judge: &mut RouteJudge<'_>, notes: &mut N) -> Option<Standstill>
         requires works { Works judge.old self.old }
         ensures same { judge.new ≡ judge.old }
         ensures keeps { Keeps judge.old self.old self.new }
-        ensures goes { GoesOn judge.old self.old self.new result }
+        ensures goes { GoesOn judge.old self.old self.new (N.tells notes.old notes.new) result }
     {
-        match self.upstream_step(judge) {
+        match self.upstream_step(judge, notes) {
             SessionStep::Takes => None,
             SessionStep::Halts(halt) => Some(Standstill::Upstream(halt)),
-            SessionStep::Waits => match self.client_step(judge) {
+            SessionStep::Waits => match self.client_step(judge, notes) {
                 SessionStep::Takes => None,
                 SessionStep::Halts(halt) => Some(Standstill::Client(halt)),
                 SessionStep::Waits => Some(Standstill::Waits),
@@ -277,16 +291,16 @@ impl State {
     }
 
     /// Takes all that can be taken, and answers the outcome.
-    fn advance(&mut self, judge: &mut RouteJudge<'_>) -> Option<RouteOutcome>
+    fn advance<N: Notes>(&mut self, judge: &mut RouteJudge<'_>, notes: &mut N) -> Option<RouteOutcome>
         requires works { Works judge.old self.old }
         ensures same { judge.new ≡ judge.old }
         ensures keeps { Keeps judge.old self.old self.new }
         ensures still { IsStill (rules_of judge.old).judging self.old.client.limit self.old.calls.capacity (standing self.new) }
         ensures outcome { result ≡ outcome_of (rules_of judge.old).judging self.old.client.limit self.old.calls.capacity (standing self.new) }
-        ensures fits { FitsOn judge.old self.old self.new (λ h. h) }
+        ensures fits { FitsOn judge.old self.old self.new (N.tells notes.old notes.new) (λ h. h) }
     {
         'frames: loop {
-            if let Some(standstill) = self.step(judge) {
+            if let Some(standstill) = self.step(judge, notes) {
                 return self.ending(standstill);
             }
         }
@@ -385,18 +399,24 @@ impl State {
     }
 
     /// Takes all that can be taken, and keeps the outcome.
-    pub fn settle(&mut self, judge: &mut RouteJudge<'_>)
+    pub fn settle<N: Notes>(&mut self, judge: &mut RouteJudge<'_>, notes: &mut N)
         requires works { Works judge.old self.old }
         ensures same { judge.new ≡ judge.old }
         ensures keeps { Keeps judge.old self.old self.new }
         ensures settled { IsSettledBy judge.old self.old self.new }
-        ensures fits { FitsOn judge.old self.old self.new (λ h. h) }
+        ensures fits { FitsOn judge.old self.old self.new (N.tells notes.old notes.new) (λ h. h) }
     {
-        self.outcome = self.advance(judge);
+        self.outcome = self.advance(judge, notes);
     }
 
     /// Takes bytes of a port, as long as there is room and no outcome.
-    pub fn take(&mut self, judge: &mut RouteJudge<'_>, port: usize, bytes: &[u8]) -> usize
+    pub fn take<N: Notes>(
+        &mut self,
+        judge: &mut RouteJudge<'_>,
+        port: usize,
+        bytes: &[u8],
+        notes: &mut N,
+    ) -> usize
         requires works { Works judge.old self.old }
         requires settled { IsSettledBy judge.old self.old self.old }
         requires port { port ≤ length self.old.ports.items }
@@ -404,7 +424,7 @@ impl State {
         ensures keeps { Keeps judge.old self.old self.new }
         ensures settled { IsSettledBy judge.old self.old self.new }
         ensures count { result ≤ length bytes.now }
-        ensures fits { FitsOn judge.old self.old self.new (λ h. and_received port h (take result bytes.now)) }
+        ensures fits { FitsOn judge.old self.old self.new (N.tells notes.old notes.new) (λ h. and_received port h (take result bytes.now)) }
         ensures fewer { result < length bytes.now →
             TakesNoMore self.old.client.limit (inbox_in port self.new).held (inbox_in port self.old).ended self.new.outcome }
         ensures whole { length bytes.now ≤ room_of self.old.client.limit (standing self.old) (is_some self.old.outcome) port → result ≡ length bytes.now }
@@ -418,7 +438,7 @@ impl State {
         let mut taken = 0;
         'pieces: while taken < bytes.len() && self.outcome.is_none() && self.port(port).room() > 0 {
             taken += self.feed(port, &bytes[taken..]);
-            self.settle(judge);
+            self.settle(judge, notes);
         }
         taken
     }
@@ -437,18 +457,24 @@ impl State {
     }
 
     /// So many of the bytes that were due to a port were sent. While some are left, no more can be taken than before.
-    pub fn sent(&mut self, judge: &mut RouteJudge<'_>, port: usize, n: usize)
+    pub fn sent<N: Notes>(
+        &mut self,
+        judge: &mut RouteJudge<'_>,
+        port: usize,
+        n: usize,
+        notes: &mut N,
+    )
         requires works { Works judge.old self.old }
         requires due { n ≤ length (due_to port (standing self.old)) }
         requires settled { IsSettledBy judge.old self.old self.old }
         ensures same { judge.new ≡ judge.old }
         ensures keeps { Keeps judge.old self.old self.new }
         ensures settled { IsSettledBy judge.old self.old self.new }
-        ensures fits { FitsOn judge.old self.old self.new (λ h. and_sent port h (take n (due_to port (standing self.old)))) }
+        ensures fits { FitsOn judge.old self.old self.new (N.tells notes.old notes.new) (λ h. and_sent port h (take n (due_to port (standing self.old)))) }
     {
         self.let_go(port, n);
         if self.due(port).is_empty() {
-            self.settle(judge);
+            self.settle(judge, notes);
         }
     }
 
@@ -465,16 +491,16 @@ impl State {
     }
 
     /// A port sends nothing more.
-    pub fn end(&mut self, judge: &mut RouteJudge<'_>, port: usize)
+    pub fn end<N: Notes>(&mut self, judge: &mut RouteJudge<'_>, port: usize, notes: &mut N)
         requires works { Works judge.old self.old }
         requires port { port ≤ length self.old.ports.items }
         ensures same { judge.new ≡ judge.old }
         ensures keeps { Keeps judge.old self.old self.new }
         ensures settled { IsSettledBy judge.old self.old self.new }
-        ensures fits { FitsOn judge.old self.old self.new (λ h. and_ended port h) }
+        ensures fits { FitsOn judge.old self.old self.new (N.tells notes.old notes.new) (λ h. and_ended port h) }
     {
         self.mark_ended(port);
-        self.settle(judge);
+        self.settle(judge, notes);
     }
 
     fn mark_ended(&mut self, port: usize)

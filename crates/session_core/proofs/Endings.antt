@@ -5,6 +5,7 @@ use Rattle.framed_transport.specs.Frames.{framed, IsCut}
 use Rattle.session_core.specs.Rules.{Rules}
 use Rattle.session_core.specs.Standing.{Standing}
 use Rattle.session_core.specs.Fits.{told}
+use Rattle.session_core.specs.Notes.{Note}
 use Rattle.session_core.specs.Steps.{Waits, is_none, of_client, of_upstream, ByUpstream, ByClient, IsStill, outcome_of, by_both}
 use Rattle.session_core.specs.Working.{StandsStill, Goes, Took, ending_of, ending_by}
 use Rattle.session_core.specs.Working.{ByUpstream as took_upstream, ByClient as took_client}
@@ -42,28 +43,28 @@ framed_longer : (limit : ℕ) (held frame rest : List ℕ) → IsCut limit held 
 unfolding framed
 framed_longer limit held frame rest cut = rw (cut.whole) (omega (arith, length-append frame rest))
 
-pub falls : (rules : Rules) (limit max_calls : ℕ) (s t : Standing) → Took rules limit max_calls s t → length t.client + length t.upstream < length s.client + length s.upstream
-falls rules limit max_calls s t (took_upstream e cuts) =
+pub falls : (rules : Rules) (limit max_calls : ℕ) (s t : Standing) (notes : List Note) → Took rules limit max_calls s t notes → length t.client + length t.upstream < length s.client + length s.upstream
+falls rules limit max_calls s t notes (took_upstream e cuts told_are) =
     let r = upstream_took_rests rules limit s t e in
     omega (arith, framed_longer limit s.upstream r.0 r.1 (cuts r.0 r.1 r.2), ap length r.3, ap length r.4)
-falls rules limit max_calls s t (took_client w e cuts) =
+falls rules limit max_calls s t notes (took_client w e cuts told_are) =
     let r = client_took_rests rules limit max_calls s t e in
     omega (arith, framed_longer limit s.client r.0 r.1 (cuts r.0 r.1 r.2), ap length r.3, ap length r.4)
 
 -- ---- at the limits of the call
 
-pub goes_at : (rules others : Rules) (limit k max_calls m : ℕ) (s t : Standing) (why : Option Standstill) → others ≡ rules → k ≡ limit → m ≡ max_calls → Goes others k m s t why → Goes rules limit max_calls s t why
-goes_at rules others limit k max_calls m s t why a b d h =
-    subst (λ (r : Rules). Goes r limit max_calls s t why) a
-    (subst (λ (n : ℕ). Goes others n max_calls s t why) b
-    (subst (λ (n : ℕ). Goes others k n s t why) d h))
+pub goes_at : (rules others : Rules) (limit k max_calls m : ℕ) (s t : Standing) (notes : List Note) (why : Option Standstill) → others ≡ rules → k ≡ limit → m ≡ max_calls → Goes others k m s t notes why → Goes rules limit max_calls s t notes why
+goes_at rules others limit k max_calls m s t notes why a b d h =
+    subst (λ (r : Rules). Goes r limit max_calls s t notes why) a
+    (subst (λ (n : ℕ). Goes others n max_calls s t notes why) b
+    (subst (λ (n : ℕ). Goes others k n s t notes why) d h))
 
-pub outcome_at : (rules : Rules) (limit k max_calls : ℕ) (s t : Standing) (why : Standstill) (result : Option Outcome) → Goes rules limit max_calls s t (Some why) → k ≡ limit → result ≡ ending_of k t why → result ≡ outcome_of rules limit max_calls t
-outcome_at rules limit k max_calls s t why result goes e is =
+pub outcome_at : (rules : Rules) (limit k max_calls : ℕ) (s t : Standing) (notes : List Note) (why : Standstill) (result : Option Outcome) → Goes rules limit max_calls s t notes (Some why) → k ≡ limit → result ≡ ending_of k t why → result ≡ outcome_of rules limit max_calls t
+outcome_at rules limit k max_calls s t notes why result goes e is =
     is ∙ (ap (λ n. ending_of n t why) e ∙ ended_by rules limit max_calls t why (subst (λ (x : Standing). StandsStill rules limit max_calls x why) (sym goes.0) goes.1))
 
-pub still_at : (rules : Rules) (limit max_calls : ℕ) (s t : Standing) (why : Standstill) → Goes rules limit max_calls s t (Some why) → IsStill rules limit max_calls t
-still_at rules limit max_calls s t why goes = still rules limit max_calls t why (subst (λ (x : Standing). StandsStill rules limit max_calls x why) (sym goes.0) goes.1)
+pub still_at : (rules : Rules) (limit max_calls : ℕ) (s t : Standing) (notes : List Note) (why : Standstill) → Goes rules limit max_calls s t notes (Some why) → IsStill rules limit max_calls t
+still_at rules limit max_calls s t notes why goes = still rules limit max_calls t why (subst (λ (x : Standing). StandsStill rules limit max_calls x why) (sym goes.0) goes.1)
 
 -- ---- once there is an outcome nothing is due
 

@@ -1,5 +1,5 @@
 -- A session that fits takes bytes, has bytes sent and meets an end.
-use Rattle.std.proofs.Common.{◌≡◌, ℕ, zero, suc, ◌+◌, ◌-◌, ◌<◌, ◌≤◌, List, [], ◌∷◌, ◌++◌, length, append_assoc, take, drop, min, arith, refl, sym, ◌∙◌, ap, subst, true}
+use Rattle.std.proofs.Common.{◌≡◌, ℕ, zero, suc, ◌+◌, ◌-◌, ◌<◌, ◌≤◌, List, [], ◌∷◌, ◌++◌, length, append_assoc, take, drop, min, arith, refl, sym, ◌∙◌, ap, true}
 use Rattle.std.specs.List.{flat_map}
 use Rattle.std.proofs.lemmas.List.{take-append-drop, take_all, length-drop}
 use Rattle.framed_transport.specs.Frames.{framed}
@@ -8,10 +8,10 @@ use Rattle.session_core.specs.Standing.{Standing, History}
 use Rattle.session_core.specs.Stands.{IsTaken}
 use Rattle.session_core.specs.Fits.{Fits}
 
-taken_fed : (limit : ℕ) (bytes : List ℕ) (xs : List (List ℕ)) (rest more : List ℕ) → IsTaken limit bytes xs rest → IsTaken limit (bytes ++ more) xs (rest ++ more)
+pub taken_fed : (limit : ℕ) (bytes : List ℕ) (xs : List (List ℕ)) (rest more : List ℕ) → IsTaken limit bytes xs rest → IsTaken limit (bytes ++ more) xs (rest ++ more)
 taken_fed limit bytes xs rest more t = record { each = t.each; whole = ap (λ b. b ++ more) t.whole ∙ append_assoc (flat_map framed xs) rest more }
 
-pub fed_client : (rules : Rules) (limit max_calls : ℕ) (h : History) (s : Standing) (piece : List ℕ) → Fits rules limit max_calls h s → Fits rules limit max_calls (record h { from_client = h.from_client ++ piece }) (record s { client = s.client ++ piece })
+abbrev pub fed_client : (rules : Rules) (limit max_calls : ℕ) (h : History) (s : Standing) (piece : List ℕ) → Fits rules limit max_calls h s → Fits rules limit max_calls (record h { from_client = h.from_client ++ piece }) (record s { client = s.client ++ piece })
 fed_client rules limit max_calls h s piece f = record {
   xs = f.xs;
   ys = f.ys;
@@ -27,7 +27,7 @@ fed_client rules limit max_calls h s piece f = record {
   upstream_ended = f.upstream_ended;
 }
 
-pub fed_upstream : (rules : Rules) (limit max_calls : ℕ) (h : History) (s : Standing) (piece : List ℕ) → Fits rules limit max_calls h s → Fits rules limit max_calls (record h { from_upstream = h.from_upstream ++ piece }) (record s { upstream = s.upstream ++ piece })
+abbrev pub fed_upstream : (rules : Rules) (limit max_calls : ℕ) (h : History) (s : Standing) (piece : List ℕ) → Fits rules limit max_calls h s → Fits rules limit max_calls (record h { from_upstream = h.from_upstream ++ piece }) (record s { upstream = s.upstream ++ piece })
 fed_upstream rules limit max_calls h s piece f = record {
   xs = f.xs;
   ys = f.ys;
@@ -43,10 +43,10 @@ fed_upstream rules limit max_calls h s piece f = record {
   upstream_ended = f.upstream_ended;
 }
 
-moved : (before due : List ℕ) (n : ℕ) → (before ++ take n due) ++ drop n due ≡ before ++ due
+pub moved : (before due : List ℕ) (n : ℕ) → (before ++ take n due) ++ drop n due ≡ before ++ due
 moved before due n = append_assoc before (take n due) (drop n due) ∙ ap (λ b. before ++ b) (take-append-drop n due)
 
-pub sent_client : (rules : Rules) (limit max_calls : ℕ) (h : History) (s : Standing) (n : ℕ) → Fits rules limit max_calls h s → Fits rules limit max_calls (record h { to_client = h.to_client ++ take n s.to_client }) (record s { to_client = drop n s.to_client })
+abbrev pub sent_client : (rules : Rules) (limit max_calls : ℕ) (h : History) (s : Standing) (n : ℕ) → Fits rules limit max_calls h s → Fits rules limit max_calls (record h { to_client = h.to_client ++ take n s.to_client }) (record s { to_client = drop n s.to_client })
 sent_client rules limit max_calls h s n f = record {
   xs = f.xs;
   ys = f.ys;
@@ -62,7 +62,7 @@ sent_client rules limit max_calls h s n f = record {
   upstream_ended = f.upstream_ended;
 }
 
-pub sent_upstream : (rules : Rules) (limit max_calls : ℕ) (h : History) (s : Standing) (n : ℕ) → Fits rules limit max_calls h s → Fits rules limit max_calls (record h { to_upstream = h.to_upstream ++ take n s.to_upstream }) (record s { to_upstream = drop n s.to_upstream })
+abbrev pub sent_upstream : (rules : Rules) (limit max_calls : ℕ) (h : History) (s : Standing) (n : ℕ) → Fits rules limit max_calls h s → Fits rules limit max_calls (record h { to_upstream = h.to_upstream ++ take n s.to_upstream }) (record s { to_upstream = drop n s.to_upstream })
 sent_upstream rules limit max_calls h s n f = record {
   xs = f.xs;
   ys = f.ys;
@@ -78,7 +78,7 @@ sent_upstream rules limit max_calls h s n f = record {
   upstream_ended = f.upstream_ended;
 }
 
-pub ended_client : (rules : Rules) (limit max_calls : ℕ) (h : History) (s : Standing) → Fits rules limit max_calls h s → Fits rules limit max_calls (record h { client_ended = true }) (record s { client_ended = true })
+abbrev pub ended_client : (rules : Rules) (limit max_calls : ℕ) (h : History) (s : Standing) → Fits rules limit max_calls h s → Fits rules limit max_calls (record h { client_ended = true }) (record s { client_ended = true })
 ended_client rules limit max_calls h s f = record {
   xs = f.xs;
   ys = f.ys;
@@ -94,7 +94,7 @@ ended_client rules limit max_calls h s f = record {
   upstream_ended = f.upstream_ended;
 }
 
-pub ended_upstream : (rules : Rules) (limit max_calls : ℕ) (h : History) (s : Standing) → Fits rules limit max_calls h s → Fits rules limit max_calls (record h { upstream_ended = true }) (record s { upstream_ended = true })
+abbrev pub ended_upstream : (rules : Rules) (limit max_calls : ℕ) (h : History) (s : Standing) → Fits rules limit max_calls h s → Fits rules limit max_calls (record h { upstream_ended = true }) (record s { upstream_ended = true })
 ended_upstream rules limit max_calls h s f = record {
   xs = f.xs;
   ys = f.ys;

@@ -1,5 +1,5 @@
 -- A session at rest with nothing due stands at the greatest stand.
-use Rattle.std.proofs.Common.{◌≡◌, ℕ, ◌+◌, ◌<◌, ◌≤◌, ◌^◌, ◌⊎◌, inl, inr, List, [], ◌∷◌, ◌++◌, length, length-append, append_assoc, arith, refl, sym, ◌∙◌, ap, Some, None, slice_get, true, ◌&&◌, if◌then◌else◌}
+use Rattle.std.proofs.Common.{◌≡◌, ℕ, ◌+◌, ◌<◌, ◌≤◌, ◌^◌, ◌⊎◌, inl, inr, List, [], ◌∷◌, ◌++◌, length, length-append, append_assoc, arith, refl, sym, ◌∙◌, ap, Option, Some, None, slice_get, true, ◌&&◌, if◌then◌else◌}
 use Rattle.std.specs.List.{flat_map}
 use Rattle.std.proofs.lemmas.List.{append-nil, length-drop}
 use Rattle.std.proofs.lemmas.List.Elements.{All-head, All-tail}
@@ -56,13 +56,14 @@ calls_append rules (x ∷ xs) ys = ap (λ t. opened (rules.judged x) ++ t) (call
 
 -- ---- no frame of the upstream is left
 
-is_answer : (v : UpstreamJudged) → ((halt : Halt) → v ≡ upstream.Halts halt → ⊥) → v ≡ upstream.Answers
+is_answer : (v : UpstreamJudged) → ((halt : Halt) → v ≡ upstream.Halts halt → ⊥) → (refused : Option Cause) × (v ≡ upstream.Answers refused)
 is_answer (upstream.Halts halt) quiet = absurd (quiet halt refl)
-is_answer upstream.Answers quiet = refl
+is_answer (upstream.Answers refused) quiet = (refused, refl)
 
 no_reply_left : (rules : Rules) (limit max_calls : ℕ) (s : Standing) (call : Call) (calls : List Call) (y rest : List ℕ) → IsStill rules limit max_calls s → s.calls ≡ call ∷ calls → s.to_client ≡ [] → front limit s.upstream ≡ Whole y rest → ((halt : Halt) → rules.replied call y ≡ upstream.Halts halt → ⊥) → ⊥
 no_reply_left rules limit max_calls s call calls y rest still open_is none whole quiet =
-    still _ (ByUpstream (answers rules limit s call calls y rest upstream.Answers open_is none whole (is_answer (rules.replied call y) quiet)))
+    let answer = is_answer (rules.replied call y) quiet in
+    still _ (ByUpstream (answers rules limit s call calls y rest (upstream.Answers answer.0) open_is none whole answer.1))
 
 -- ---- no frame of the client is left
 
@@ -86,7 +87,7 @@ taken_by (client.Refused cause) s output answer rest quiet turn due =
       record s { client = rest; to_client = framed answer; taken = told (s.taken + 1) },
       ap (λ t. if t && is_none s.to_client then took else Waits) (ap is_none (turn cause refl)) ∙ ap (λ t. if t then took else Waits) (ap is_none due),
     )
-taken_by client.Dropped s output answer rest quiet turn due = (_, refl)
+taken_by (client.Dropped cause) s output answer rest quiet turn due = (_, refl)
 
 no_call_left : (rules : Rules) (limit max_calls : ℕ) (s : Standing) (x rest : List ℕ) → IsAtRest rules limit max_calls s None → s.to_client ≡ [] → s.to_upstream ≡ [] → length s.calls < max_calls → front limit s.client ≡ Whole x rest → ((halt : Halt) → rules.judged x ≡ client.Halts halt → ⊥) → ((cause : Cause) → rules.judged x ≡ client.Refused cause → s.calls ≡ []) → ⊥
 no_call_left rules limit max_calls s x rest at due other few whole quiet turn =

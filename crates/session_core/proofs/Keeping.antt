@@ -1,16 +1,18 @@
 -- What a session keeps while bytes come and go.
-use Rattle.std.proofs.Common.{◌≡◌, ℕ, ◌+◌, ◌-◌, ◌≤◌, ◌^◌, ◌<◌, List, [], ◌++◌, length, length-append, take, drop, min, arith, refl, sym, ◌∙◌, ap, subst, true, append_assoc, Option}
+use Rattle.std.proofs.Common.{◌≡◌, ℕ, ◌+◌, ◌-◌, ◌≤◌, List, [], ◌++◌, length, length-append, take, min, arith, refl, sym, ◌∙◌, ap, subst, append_assoc, Option, Some}
 use Rattle.std.proofs.lemmas.List.{length-take-le, length-drop, append-nil}
 use Rattle.session_core.specs.Rules.{Rules}
 use Rattle.session_core.specs.Standing.{Standing, History}
-use Rattle.session_core.specs.Fits.{Fits}
+use Rattle.session_core.specs.Notes.{Note}
+use Rattle.session_core.specs.Telling.{FitsTold}
 use Rattle.session_core.specs.Session.{and_came, and_sent, and_ended}
 use Rattle.session_core.specs.Halves.{HasRooms, fed, let_go, ended, without_frame}
-use Rattle.session_core.specs.Working.{standing, limit_of, half_of, with_half, IsReady, Works, Keeps, IsSettled, IsSettledBy, FitsOn}
+use Rattle.session_core.specs.Working.{standing, limit_of, half_of, with_half, IsReady, Works, Keeps, IsSettled, IsSettledBy, FitsOn, Goes}
 use Rattle.session_core.specs.declared.half.Half.{Half}
 use Rattle.session_core.specs.declared.judge.Call.{Call}
 use Rattle.session_core.specs.declared.outcome.Outcome.{Outcome}
 use Rattle.session_core.specs.declared.state.Waiting.{Waiting}
+use Rattle.session_core.specs.declared.state.Standstill.{Standstill}
 use Rattle.gate_io.specs.Buffer.{Buffer}
 use Rattle.circular_buffer.specs.Buffer.{Buffer as Ring}
 use Rattle.session_core.specs.declared.state.State.{State}
@@ -18,6 +20,7 @@ use Rattle.gate_hub.specs.declared.hub.Side.{Side}
 use Rattle.gate_hub.specs.declared.hub.Side.TheVariants as side
 use Rattle.session_core.proofs.Lengths.{behind_within}
 use Rattle.session_core.proofs.Moves.{StandsAtFront, fed_by}
+use Rattle.session_core.proofs.Courses.{told_like}
 use Rattle.session_core.proofs.Feeding.{fed_client, fed_upstream, sent_client, sent_upstream, ended_client, ended_upstream}
 
 -- ---- the rooms of a half
@@ -181,33 +184,63 @@ settled_on rules a b c k h =
     subst (λ (n : ℕ). IsSettled rules n a.calls.capacity c) k.ready.client.limit_is
     (subst (λ (n : ℕ). IsSettled rules (limit_of b) n c) k.ready.capacity h)
 
-pub fits_through : (rules : Rules) (a b c : State) → Keeps rules a b → FitsOn rules b c (λ h. h) → (h : History) → Fits rules (limit_of a) a.calls.capacity h (standing b) → Fits rules (limit_of a) a.calls.capacity h (standing c)
-fits_through rules a b c k go =
-    subst (λ (n : ℕ). (h : History) → Fits rules n a.calls.capacity h (standing b) → Fits rules n a.calls.capacity h (standing c)) k.ready.client.limit_is
-    (subst (λ (n : ℕ). (h : History) → Fits rules (limit_of b) n h (standing b) → Fits rules (limit_of b) n h (standing c)) k.ready.capacity go)
+-- the same over what stands, by its limit and its number of calls
+abbrev pub FitsThrough : Rules → ℕ → ℕ → Standing → Standing → (List Note → Type 0) → Type 0
+FitsThrough rules limit max_calls s t tells =
+    (added : List Note) × tells added ×
+    ((h : History) (past : List Note) → FitsTold rules limit max_calls h past s → FitsTold rules limit max_calls h (past ++ added) t)
+
+pub fits_through : (rules : Rules) (a b c : State) (tells : List Note → Type 0) → Keeps rules a b → FitsOn rules b c tells (λ h. h) → FitsThrough rules (limit_of a) a.calls.capacity (standing b) (standing c) tells
+fits_through rules a b c tells k go =
+    subst (λ (n : ℕ). FitsThrough rules n a.calls.capacity (standing b) (standing c) tells) k.ready.client.limit_is
+    (subst (λ (n : ℕ). FitsThrough rules (limit_of b) n (standing b) (standing c) tells) k.ready.capacity go)
+
+-- nothing was told
+pub fits_quietly : (rules : Rules) (a b : State) (tells : List Note → Type 0) (on : History → History) → tells [] → ((h : History) (past : List Note) → FitsTold rules (limit_of a) a.calls.capacity h past (standing a) → FitsTold rules (limit_of a) a.calls.capacity (on h) past (standing b)) → FitsOn rules a b tells on
+fits_quietly rules a b tells on none by =
+    ([], none, λ h past f. subst (λ (ns : List Note). FitsTold rules (limit_of a) a.calls.capacity (on h) ns (standing b)) (sym (append-nil past)) (by h past f))
+
+-- some was told, and then some more
+pub fits_then : (rules : Rules) (a b c : State) (first second both : List Note → Type 0) (on : History → History) → ((xs ys : List Note) → first xs → second ys → both (xs ++ ys)) → FitsOn rules a b first on → FitsThrough rules (limit_of a) a.calls.capacity (standing b) (standing c) second → FitsOn rules a c both on
+fits_then rules a b c first second both on follows p q = (
+  p.0 ++ q.0,
+  follows p.0 q.0 p.1 q.1,
+  λ h past f.
+      subst (λ (ns : List Note). FitsTold rules (limit_of a) a.calls.capacity (on h) ns (standing c)) (append_assoc past p.0 q.0) (q.2 (on h) (past ++ p.0) (p.2 h past f)),
+)
+
+-- where nothing more can be taken nothing is told
+pub stood : (rules : Rules) (limit max_calls : ℕ) (s t : Standing) (notes : List Note) (why : Standstill) (tells : List Note → Type 0) → Goes rules limit max_calls s t notes (Some why) → tells notes → FitsThrough rules limit max_calls s t tells
+stood rules limit max_calls s t notes why tells goes told_are = (
+  notes,
+  told_are,
+  λ h past f.
+      subst (λ (u : Standing). FitsTold rules limit max_calls h (past ++ notes) u) (sym goes.0)
+      (subst (λ (ns : List Note). FitsTold rules limit max_calls h ns s) (sym (ap (λ ns. past ++ ns) goes.2 ∙ append-nil past)) f),
+)
 
 -- ---- what came and went
 
-pub fits_fed : (x : Side) (rules : Rules) (limit max_calls : ℕ) (s mid : State) (piece : List ℕ) (h : History) → mid ≡ with_half x s (fed (half_of x s) piece) → Fits rules limit max_calls h (standing s) → Fits rules limit max_calls (and_came x h piece) (standing mid)
-fits_fed x rules limit max_calls s mid piece h e f = subst (λ (t : State). Fits rules limit max_calls (and_came x h piece) (standing t)) (sym e) (by x)
+pub fits_fed : (x : Side) (rules : Rules) (limit max_calls : ℕ) (s mid : State) (piece : List ℕ) (h : History) (past : List Note) → mid ≡ with_half x s (fed (half_of x s) piece) → FitsTold rules limit max_calls h past (standing s) → FitsTold rules limit max_calls (and_came x h piece) past (standing mid)
+fits_fed x rules limit max_calls s mid piece h past e f = subst (λ (t : State). FitsTold rules limit max_calls (and_came x h piece) past (standing t)) (sym e) (by x)
   where
-    by : (y : Side) → Fits rules limit max_calls (and_came y h piece) (standing (with_half y s (fed (half_of y s) piece)))
-    by side.Client = fed_client rules limit max_calls h (standing s) piece f
-    by side.Upstream = fed_upstream rules limit max_calls h (standing s) piece f
+    by : (y : Side) → FitsTold rules limit max_calls (and_came y h piece) past (standing (with_half y s (fed (half_of y s) piece)))
+    by side.Client = told_like rules limit max_calls h _ past (standing s) _ f (fed_client rules limit max_calls h (standing s) piece f.fits) refl refl refl
+    by side.Upstream = told_like rules limit max_calls h _ past (standing s) _ f (fed_upstream rules limit max_calls h (standing s) piece f.fits) refl refl refl
 
-pub fits_sent : (x : Side) (rules : Rules) (limit max_calls : ℕ) (s mid : State) (n : ℕ) (h : History) → mid ≡ with_half x s (let_go (half_of x s) n) → Fits rules limit max_calls h (standing s) → Fits rules limit max_calls (and_sent x h (take n (half_of x s).due.bytes)) (standing mid)
-fits_sent x rules limit max_calls s mid n h e f = subst (λ (t : State). Fits rules limit max_calls (and_sent x h (take n (half_of x s).due.bytes)) (standing t)) (sym e) (by x)
+pub fits_sent : (x : Side) (rules : Rules) (limit max_calls : ℕ) (s mid : State) (n : ℕ) (h : History) (past : List Note) → mid ≡ with_half x s (let_go (half_of x s) n) → FitsTold rules limit max_calls h past (standing s) → FitsTold rules limit max_calls (and_sent x h (take n (half_of x s).due.bytes)) past (standing mid)
+fits_sent x rules limit max_calls s mid n h past e f = subst (λ (t : State). FitsTold rules limit max_calls (and_sent x h (take n (half_of x s).due.bytes)) past (standing t)) (sym e) (by x)
   where
-    by : (y : Side) → Fits rules limit max_calls (and_sent y h (take n (half_of y s).due.bytes)) (standing (with_half y s (let_go (half_of y s) n)))
-    by side.Client = sent_client rules limit max_calls h (standing s) n f
-    by side.Upstream = sent_upstream rules limit max_calls h (standing s) n f
+    by : (y : Side) → FitsTold rules limit max_calls (and_sent y h (take n (half_of y s).due.bytes)) past (standing (with_half y s (let_go (half_of y s) n)))
+    by side.Client = told_like rules limit max_calls h _ past (standing s) _ f (sent_client rules limit max_calls h (standing s) n f.fits) refl refl refl
+    by side.Upstream = told_like rules limit max_calls h _ past (standing s) _ f (sent_upstream rules limit max_calls h (standing s) n f.fits) refl refl refl
 
-pub fits_ended : (x : Side) (rules : Rules) (limit max_calls : ℕ) (s mid : State) (h : History) → mid ≡ with_half x s (ended (half_of x s)) → Fits rules limit max_calls h (standing s) → Fits rules limit max_calls (and_ended x h) (standing mid)
-fits_ended x rules limit max_calls s mid h e f = subst (λ (t : State). Fits rules limit max_calls (and_ended x h) (standing t)) (sym e) (by x)
+pub fits_ended : (x : Side) (rules : Rules) (limit max_calls : ℕ) (s mid : State) (h : History) (past : List Note) → mid ≡ with_half x s (ended (half_of x s)) → FitsTold rules limit max_calls h past (standing s) → FitsTold rules limit max_calls (and_ended x h) past (standing mid)
+fits_ended x rules limit max_calls s mid h past e f = subst (λ (t : State). FitsTold rules limit max_calls (and_ended x h) past (standing t)) (sym e) (by x)
   where
-    by : (y : Side) → Fits rules limit max_calls (and_ended y h) (standing (with_half y s (ended (half_of y s))))
-    by side.Client = ended_client rules limit max_calls h (standing s) f
-    by side.Upstream = ended_upstream rules limit max_calls h (standing s) f
+    by : (y : Side) → FitsTold rules limit max_calls (and_ended y h) past (standing (with_half y s (ended (half_of y s))))
+    by side.Client = told_like rules limit max_calls h _ past (standing s) _ f (ended_client rules limit max_calls h (standing s) f.fits) refl refl refl
+    by side.Upstream = told_like rules limit max_calls h _ past (standing s) _ f (ended_upstream rules limit max_calls h (standing s) f.fits) refl refl refl
 
 -- pieces that came one after another
 pub came_on : (x : Side) (h : History) (a b : List ℕ) → and_came x (and_came x h a) b ≡ and_came x h (a ++ b)
@@ -228,5 +261,5 @@ keeps_by J rules j k a b same kept = subst (λ (x : J). Keeps (rules x) a b) sam
 pub settled_by : (J : Type 0) (rules : J → Rules) (j k : J) (a b : State) → k ≡ j → IsSettledBy (rules k) a b → IsSettledBy (rules j) a b
 settled_by J rules j k a b same settled = subst (λ (x : J). IsSettledBy (rules x) a b) same settled
 
-pub fits_by : (J : Type 0) (rules : J → Rules) (j k : J) (a b : State) → k ≡ j → FitsOn (rules k) a b (λ h. h) → FitsOn (rules j) a b (λ h. h)
-fits_by J rules j k a b same fits = subst (λ (x : J). FitsOn (rules x) a b (λ h. h)) same fits
+pub fits_by : (J : Type 0) (rules : J → Rules) (j k : J) (a b : State) (tells : List Note → Type 0) → k ≡ j → FitsOn (rules k) a b tells (λ h. h) → FitsOn (rules j) a b tells (λ h. h)
+fits_by J rules j k a b tells same fits = subst (λ (x : J). FitsOn (rules x) a b tells (λ h. h)) same fits

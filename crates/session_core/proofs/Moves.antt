@@ -7,7 +7,9 @@ use Rattle.session_core.specs.Standing.{Standing}
 use Rattle.session_core.specs.Steps.{Move, Waits, Halts, Takes, is_none, of_client, client_front, by_judged, of_upstream, upstream_by, upstream_front, upstream_move, by_reply}
 use Rattle.session_core.specs.Fits.{told}
 use Rattle.framed_transport.specs.Frames.{framed, IsCut}
-use Rattle.session_core.specs.Working.{limit_of, Comes, ends_step, Cuts, Took, ByUpstream, ByClient, Knows, IsFound, judged_as}
+use Rattle.session_core.specs.Working.{limit_of, Comes, ends_step, Cuts, Took, ByUpstream, ByClient, Knows, IsFound, judged_as, told_if, reply_front_notes, call_front_notes}
+use Rattle.session_core.specs.Notes.{Note, call_notes, reply_notes, reply_notes_by}
+use Rattle.session_core.specs.Telling.{answer_notes}
 use Rattle.session_core.specs.declared.half.Half.{Half}
 use Rattle.session_core.specs.declared.state.State.{State}
 use Rattle.session_core.specs.declared.state.Waiting.{Waiting}
@@ -19,6 +21,7 @@ use Rattle.session_core.specs.declared.judge.ClientJudged.TheVariants as client
 use Rattle.session_core.specs.declared.judge.Call.{Call}
 use Rattle.session_core.specs.declared.judge.ClientJudged.{ClientJudged}
 use Rattle.session_core.specs.declared.judge.UpstreamJudged.{UpstreamJudged}
+use Rattle.session_core.specs.declared.judge.UpstreamJudged.TheVariants as upstream
 
 -- a frame on the stream stands at its front
 abbrev pub StandsAtFront : Type 0
@@ -152,13 +155,41 @@ refused_step came rules limit max_calls s mid t frame rest answer cause none few
 
 -- ---- a step was taken
 
-pub took_upstream : (rules : Rules) (limit other max_calls : ℕ) (s t : Standing) → other ≡ limit → of_upstream rules limit s ≡ Takes t → Cuts other s.upstream → Took rules limit max_calls s t
-took_upstream rules limit other max_calls s t same e cut = ByUpstream e (subst (λ (k : ℕ). Cuts k s.upstream) same cut)
+pub took_upstream : (rules : Rules) (limit other max_calls : ℕ) (s t : Standing) → other ≡ limit → of_upstream rules limit s ≡ Takes t → Cuts other s.upstream → Took rules limit max_calls s t (reply_front_notes rules s (front limit s.upstream))
+took_upstream rules limit other max_calls s t same e cut = ByUpstream e (subst (λ (k : ℕ). Cuts k s.upstream) same cut) refl
 
-pub took_client : (rules others : Rules) (limit k max_calls m : ℕ) (s mid t : Standing) → of_upstream rules limit s ≡ Waits → mid ≡ s → others ≡ rules → k ≡ limit → m ≡ max_calls → of_client others k m mid ≡ Takes t → Cuts k mid.client → Took rules limit max_calls s t
+pub took_client : (rules others : Rules) (limit k max_calls m : ℕ) (s mid t : Standing) → of_upstream rules limit s ≡ Waits → mid ≡ s → others ≡ rules → k ≡ limit → m ≡ max_calls → of_client others k m mid ≡ Takes t → Cuts k mid.client → Took rules limit max_calls s t (call_front_notes others mid.taken (front k mid.client))
 took_client rules others limit k max_calls m s mid t waits same judge limits many e cut =
     ByClient waits (cc)
     (subst (λ (n : ℕ). Cuts n s.client) limits (subst (λ (x : Standing). Cuts k x.client) same cut))
+    (ap (λ (x : Standing). call_front_notes others x.taken (front k x.client)) same
+    ∙ (ap (λ (r : Rules). call_front_notes r s.taken (front k s.client)) judge ∙ ap (λ (n : ℕ). call_front_notes rules s.taken (front n s.client)) limits))
+
+pub client_at : (rules others : Rules) (limit k max_calls m : ℕ) (s mid : Standing) → mid ≡ s → others ≡ rules → k ≡ limit → m ≡ max_calls → of_client rules limit max_calls s ≡ of_client others k m mid
+client_at rules others limit k max_calls m s mid same judge limits many =
+    sym (ap (λ (x : Standing). of_client others k m x) same
+    ∙ (ap (λ (r : Rules). of_client r k m s) judge ∙ (ap (λ (n : ℕ). of_client rules n m s) limits ∙ ap (λ (n : ℕ). of_client rules limit n s) many)))
+
+-- ---- what is told at a step
+
+pub told_ends : (came : SessionStep) (part ended : Bool) (notes : List Note) → came ≡ ends_step part ended → [] ≡ told_if came notes
+told_ends came part ended notes is = none part ended ∙ ap (λ (c : SessionStep). told_if c notes) (sym is)
+  where
+    none : (part ended : Bool) → [] ≡ told_if (ends_step part ended) notes
+    none true true = refl
+    none true false = refl
+    none false ended = refl
+
+pub reply_told : (rules : Rules) (limit : ℕ) (s : Standing) (call : Call) (calls : List Call) (frame rest : List ℕ) (refused : Option Cause) (n : ℕ) → s.calls ≡ call ∷ calls → front limit s.upstream ≡ Whole frame rest → rules.replied call frame ≡ upstream.Answers refused → n ≡ told (s.answered + 1) → reply_notes_by 0 refused n frame ≡ reply_front_notes rules s (front limit s.upstream)
+reply_told rules limit s call calls frame rest refused n open_is whole replied number =
+    ap (λ (k : ℕ). reply_notes_by 0 refused k frame) number
+    ∙ sym (ap (reply_front_notes rules s) whole
+    ∙ (ap (λ (cs : List Call). answer_notes rules cs (told (s.answered + 1)) frame) open_is ∙ ap (λ (v : UpstreamJudged). reply_notes 0 v (told (s.answered + 1)) frame) replied))
+
+pub call_told : (rules : Rules) (limit taken : ℕ) (held frame rest : List ℕ) (v : ClientJudged) (n : ℕ) → front limit held ≡ Whole frame rest → rules.judged frame ≡ v → n ≡ told (taken + 1) → call_notes v n frame ≡ call_front_notes rules taken (front limit held)
+call_told rules limit taken held frame rest v n whole judged number =
+    ap (λ (k : ℕ). call_notes v k frame) number
+    ∙ sym (ap (call_front_notes rules taken) whole ∙ ap (λ (u : ClientJudged). call_notes u (told (taken + 1)) frame) judged)
 
 -- ---- what is known of a frame that waits
 

@@ -6,6 +6,7 @@ use Rattle.session_core.specs.Rules.{Rules}
 use Rattle.session_core.specs.Standing.{Standing, begun, nothing}
 use Rattle.session_core.specs.Stands.{IsTaken}
 use Rattle.session_core.specs.Fits.{Fits}
+use Rattle.session_core.specs.Telling.{FitsTold}
 use Rattle.session_core.specs.Steps.{Waits, of_upstream, ByUpstream, ByClient, IsStill, outcome_of}
 use Rattle.session_core.specs.Ends.{IsAtRest}
 use Rattle.session_core.specs.declared.outcome.Outcome.{Outcome}
@@ -17,7 +18,7 @@ none_before early late x e = omega (arith, ap length e, length-append early (x �
 taken_none : (limit : ℕ) → IsTaken limit [] [] []
 taken_none limit = record { each = All-nil (λ frame. length frame ≤ limit); whole = refl }
 
-begun_fits : (rules : Rules) (limit max_calls : ℕ) → Fits rules limit max_calls nothing begun
+abbrev begun_fits : (rules : Rules) (limit max_calls : ℕ) → Fits rules limit max_calls nothing begun
 begun_fits rules limit max_calls = record {
   xs = [];
   ys = [];
@@ -55,8 +56,11 @@ open_begun : (rules : Rules) (limit max_calls : ℕ) → 0 < max_calls → None 
 unfolding outcome_of
 open_begun rules limit max_calls some = rw (upstream_waits rules limit, looks rules limit max_calls begun Part refl some (nothing_stands limit)) refl
 
-pub opened_fits : (rules : Rules) (limit max_calls : ℕ) (s : Standing) → s ≡ begun → Fits rules limit max_calls nothing s
-opened_fits rules limit max_calls s e = subst (λ (x : Standing). Fits rules limit max_calls nothing x) (sym e) (begun_fits rules limit max_calls)
+begun_told : (rules : Rules) (limit max_calls : ℕ) → FitsTold rules limit max_calls nothing [] begun
+begun_told rules limit max_calls = record { fits = begun_fits rules limit max_calls; course = []; asked = refl; answered = refl; open_calls = refl; notes_are = refl }
+
+pub opened_fits : (rules : Rules) (limit max_calls : ℕ) (s : Standing) → s ≡ begun → FitsTold rules limit max_calls nothing [] s
+opened_fits rules limit max_calls s e = subst (λ (x : Standing). FitsTold rules limit max_calls nothing [] x) (sym e) (begun_told rules limit max_calls)
 
 pub opened_rests : (rules : Rules) (limit max_calls : ℕ) (s : Standing) (outcome : Option Outcome) → 0 < max_calls → s ≡ begun → outcome ≡ None → IsAtRest rules limit max_calls s outcome
 opened_rests rules limit max_calls s outcome some e o =

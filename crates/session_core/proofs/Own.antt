@@ -1,5 +1,5 @@
 -- The outcomes that a session comes to by itself.
-use Rattle.std.proofs.Common.{◌≡◌, ℕ, Option, None, Some, IfSome, Bool, true, false, if◌then◌else◌, ◌&&◌, ap, sym, subst, refl}
+use Rattle.std.proofs.Common.{◌≡◌, ℕ, Option, None, Some, IfSome, Bool, true, false, if◌then◌else◌, ◌&&◌, sym, subst, refl}
 use Rattle.framed_transport.specs.Front.{front, is_part}
 use Rattle.session_core.specs.Rules.{Rules}
 use Rattle.session_core.specs.Standing.{Standing}

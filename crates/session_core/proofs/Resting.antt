@@ -45,7 +45,7 @@ by_verdict (client.Halts h) s due output answer rest some t e = absurd (cc)
 by_verdict (client.Opens call) s due output answer rest some t e = (_, refl)
 by_verdict client.Goes s due output answer rest some t e = (_, refl)
 by_verdict (client.Refused cause) s due output answer rest some t e = absurd (no_take _ t (second_fails (is_none s.calls) (is_none due) _ Waits some) e)
-by_verdict client.Dropped s due output answer rest some t e = (_, refl)
+by_verdict (client.Dropped cause) s due output answer rest some t e = (_, refl)
 
 by_front : (rules : Rules) (s : Standing) (due : List ℕ) (f : Front) → is_none due ≡ false → TakesToo (client_front rules (owing_client s due) f) (client_front rules s f)
 by_front rules s due Part some t e = absurd (cc)
@@ -101,7 +101,7 @@ owing_upstream s due = record s { to_upstream = due }
 
 by_reply_too : (v : UpstreamJudged) (s : Standing) (due : List ℕ) (calls : List Call) (reply rest : List ℕ) → TakesToo (by_reply v (owing_upstream s due) calls reply rest) (by_reply v s calls reply rest)
 by_reply_too (upstream.Halts h) s due calls reply rest t e = absurd (cc)
-by_reply_too upstream.Answers s due calls reply rest t e = (_, refl)
+by_reply_too (upstream.Answers refused) s due calls reply rest t e = (_, refl)
 
 part_too : (b : Bool) (h : Move) (n : Move) → ((t : Standing) → h ≡ Takes t → ⊥) → TakesToo (if b then h else Waits) n
 part_too true h n none t e = absurd (none t e)

@@ -37,14 +37,14 @@ same_by rules (client.Opens call) answer next other n [] le h = refl
 same_by rules (client.Opens call) answer next other n (y ∷ ys) le h = ap (λ t. framed (rules.reply call y) ++ t) (h ys (omega arith))
 same_by rules client.Goes answer next other n ys le h = h ys (omega arith)
 same_by rules (client.Refused cause) answer next other n ys le h = ap (λ t. framed answer ++ t) (h ys (omega arith))
-same_by rules client.Dropped answer next other n ys le h = h ys (omega arith)
+same_by rules (client.Dropped cause) answer next other n ys le h = h ys (omega arith)
 
 last_by : (rules : Rules) (v : ClientJudged) (answer : List ℕ) → ((cause : Cause) → v ≡ client.Refused cause → ⊥) → back_by rules v answer (λ zs. []) [] ≡ []
 last_by rules (client.Halts halt) answer quiet = refl
 last_by rules (client.Opens call) answer quiet = refl
 last_by rules client.Goes answer quiet = refl
 last_by rules (client.Refused cause) answer quiet = absurd (quiet cause refl)
-last_by rules client.Dropped answer quiet = refl
+last_by rules (client.Dropped cause) answer quiet = refl
 
 none_left : {X : Type 0} (xs : List X) → length xs ≤ 0 → xs ≡ []
 none_left [] h = refl
@@ -65,7 +65,7 @@ more_by rules (client.Opens call) answer next other more n [] le h = absurd (ome
 more_by rules (client.Opens call) answer next other more n (y ∷ ys) le h = ap (λ t. framed (rules.reply call y) ++ t) (h ys (omega arith)) ∙ sym (append_assoc (framed (rules.reply call y)) (other ys) more)
 more_by rules client.Goes answer next other more n ys le h = h ys (omega arith)
 more_by rules (client.Refused cause) answer next other more n ys le h = ap (λ t. framed answer ++ t) (h ys (omega arith)) ∙ sym (append_assoc (framed answer) (other ys) more)
-more_by rules client.Dropped answer next other more n ys le h = h ys (omega arith)
+more_by rules (client.Dropped cause) answer next other more n ys le h = h ys (omega arith)
 
 pub back_answered : (rules : Rules) (xs ys : List (List ℕ)) (x : List ℕ) (cause : Cause) → rules.judged x ≡ client.Refused cause → length ys ≡ length (calls_of rules xs) → back rules (xs ++ x ∷ []) ys ≡ back rules xs ys ++ framed (rules.answer x)
 back_answered rules [] ys x cause j le =
@@ -92,7 +92,7 @@ silent_by rules w xs (client.Halts halt) j quiet h = h
 silent_by rules w xs (client.Opens call) j quiet h = refl
 silent_by rules w xs client.Goes j quiet h = h
 silent_by rules w xs (client.Refused cause) j quiet h = absurd (quiet cause refl)
-silent_by rules w xs client.Dropped j quiet h = h
+silent_by rules w xs (client.Dropped cause) j quiet h = h
 
 -- with no refused call nothing is answered before the first reply
 silent : (rules : Rules) (xs : List (List ℕ)) → ((early late : List (List ℕ)) (x : List ℕ) (cause : Cause) → xs ≡ early ++ x ∷ late → rules.judged x ≡ client.Refused cause → ⊥) → back rules xs [] ≡ []
@@ -124,7 +124,7 @@ replied_by rules w xs ys y call calls client.Goes j e turn h = h ys e (later rul
 replied_by rules w xs ys y call calls (client.Refused cause) j e turn h =
     ap (λ t. framed (rules.answer w) ++ t) (h ys e (later rules w xs ys ys (client.Refused cause) j (omega arith) turn))
     ∙ sym (append_assoc (framed (rules.answer w)) (back rules xs ys) (framed (rules.reply call y)))
-replied_by rules w xs ys y call calls client.Dropped j e turn h = h ys e (later rules w xs ys ys client.Dropped j (omega arith) turn)
+replied_by rules w xs ys y call calls (client.Dropped cause) j e turn h = h ys e (later rules w xs ys ys (client.Dropped cause) j (omega arith) turn)
 
 pub back_replied : (rules : Rules) (xs ys : List (List ℕ)) (y : List ℕ) (call : Call) (calls : List Call) → drop (length ys) (calls_of rules xs) ≡ call ∷ calls → InTurn rules xs ys → back rules xs (ys ++ y ∷ []) ≡ back rules xs ys ++ framed (rules.reply call y)
 back_replied rules [] ys y call calls e turn = absurd (no_call (length ys) call calls e)

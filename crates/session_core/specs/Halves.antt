@@ -1,5 +1,5 @@
 -- What a session holds of one side in the program.
-use Rattle.std.specs.Prelude.{◌≡◌, ℕ, ◌+◌, ◌*◌, ◌≤◌, List, [], ◌++◌, length, drop, true, false}
+use Rattle.std.specs.Prelude.{◌≡◌, ℕ, ◌+◌, ◌≤◌, List, [], ◌++◌, length, drop, true, false}
 use Rattle.framed_transport.specs.Front.{front, behind}
 use Rattle.session_core.specs.Fits.{told}
 use Rattle.session_core.specs.Rooms.{due_room}

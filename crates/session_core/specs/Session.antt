@@ -1,8 +1,6 @@
 -- A session as its callers see it.
-use Rattle.std.specs.Prelude.{ℕ, ◌+◌, ◌*◌, ◌-◌, ◌≤◌, List, ◌++◌, length, Bool, true, ◌||◌, if◌then◌else◌, Option}
-use Rattle.session_core.specs.Rules.{Rules}
+use Rattle.std.specs.Prelude.{ℕ, ◌+◌, ◌-◌, ◌≤◌, List, ◌++◌, length, Bool, true, ◌||◌, if◌then◌else◌, Option}
 use Rattle.session_core.specs.Standing.{Standing, History}
-use Rattle.session_core.specs.Fits.{Fits}
 use Rattle.session_core.specs.Ends.{held_of, most_held}
 use Rattle.session_core.specs.Rooms.{due_room}
 use Rattle.session_core.specs.declared.outcome.Outcome.{Outcome}
@@ -62,8 +60,3 @@ room_of limit s over side.Upstream = if s.upstream_ended || over then 0 else lim
 -- the session holds no more than it may
 abbrev pub HoldsWithin : {J : Type 0} → Seen J → Type 0
 HoldsWithin s = held_of s.limit s.standing s.outcome ≤ most_held s.limit s.max_calls
-
--- what came and went fits the later session too, with what was added on the way
-abbrev pub FitsLater : {J : Type 0} → (J → Rules) → Seen J → Seen J → (History → History) → Type 0
-FitsLater rules old new on =
-    (h : History) → Fits (rules old.judge) old.limit old.max_calls h old.standing → Fits (rules old.judge) old.limit old.max_calls (on h) new.standing

@@ -17,7 +17,7 @@ opened (client.Halts halt) = []
 opened (client.Opens call) = call ∷ []
 opened client.Goes = []
 opened (client.Refused cause) = []
-opened client.Dropped = []
+opened (client.Dropped cause) = []
 
 -- the calls that these frames open, in order
 abbrev pub calls_of : Rules → List (List ℕ) → List Call
@@ -30,7 +30,7 @@ sent_on (client.Halts halt) output = []
 sent_on (client.Opens call) output = framed output
 sent_on client.Goes output = framed output
 sent_on (client.Refused cause) output = []
-sent_on client.Dropped output = []
+sent_on (client.Dropped cause) output = []
 
 -- what these frames of the client send to the upstream
 abbrev pub onward : Rules → List (List ℕ) → List ℕ
@@ -44,7 +44,7 @@ back_by rules (client.Opens call) answer next [] = []
 back_by rules (client.Opens call) answer next (y ∷ ys) = framed (rules.reply call y) ++ next ys
 back_by rules client.Goes answer next ys = next ys
 back_by rules (client.Refused cause) answer next ys = framed answer ++ next ys
-back_by rules client.Dropped answer next ys = next ys
+back_by rules (client.Dropped cause) answer next ys = next ys
 
 -- what these frames of the client are answered, where these of the upstream came: each call in its place, up to the
 -- first that has no reply yet

@@ -29,7 +29,7 @@ is_none (x ∷ xs) = false
 
 abbrev pub by_reply : UpstreamJudged → Standing → List Call → List ℕ → List ℕ → Move
 by_reply (upstream.Halts h) s calls reply rest = Halts h
-by_reply upstream.Answers s calls reply rest =
+by_reply (upstream.Answers refused) s calls reply rest =
     Takes (record s { upstream = rest; to_client = framed reply; calls = calls; answered = told (s.answered + 1) })
 
 -- the frame at the upstream's front, for the oldest open call
@@ -65,7 +65,7 @@ by_judged (client.Refused cause) s output answer rest =
     if is_none s.calls && is_none s.to_client
     then Takes (record s { client = rest; to_client = framed answer; taken = told (s.taken + 1) })
     else Waits
-by_judged client.Dropped s output answer rest =
+by_judged (client.Dropped cause) s output answer rest =
     Takes (record s { client = rest; taken = told (s.taken + 1) })
 
 -- the frame at the client's front

@@ -1,12 +1,14 @@
 -- The state of a session in the program, and what its calls do.
-use Rattle.std.specs.Prelude.{◌≡◌, ℕ, ◌+◌, ◌*◌, ◌^◌, ◌<◌, ◌≤◌, List, [], length, drop, Bool, true, false, ◌&&◌, if◌then◌else◌, Option, Some, None, IfSome}
+use Rattle.std.specs.Prelude.{◌≡◌, ℕ, ◌+◌, ◌^◌, ◌<◌, ◌≤◌, List, [], length, drop, Bool, true, false, ◌++◌, ◌&&◌, if◌then◌else◌, Option, Some, None, IfSome}
 use Rattle.session_core.specs.declared.outcome.Halt.TheVariants as halt
 use Rattle.framed_transport.specs.Frames.{IsCut}
-use Rattle.framed_transport.specs.Front.{Whole, front}
+use Rattle.framed_transport.specs.Front.{Front, Part, Whole, Large, front}
 use Rattle.translate_core.specs.declared.verdict.Cause.{Cause}
 use Rattle.session_core.specs.Rules.{Rules}
 use Rattle.session_core.specs.Standing.{Standing, History}
-use Rattle.session_core.specs.Fits.{Fits, told}
+use Rattle.session_core.specs.Fits.{told}
+use Rattle.session_core.specs.Notes.{Note, call_notes}
+use Rattle.session_core.specs.Telling.{FitsTold, answer_notes}
 use Rattle.session_core.specs.Steps.{Move, Waits, Halts, Takes, of_upstream, of_client, is_none, by_judged, by_upstream, by_client}
 use Rattle.session_core.specs.Ends.{IsAtRest, TakesNoMore}
 use Rattle.session_core.specs.Session.{Rooms}
@@ -119,10 +121,36 @@ pub record Keeps (rules : Rules) (old new : State) : Type 0 where
   pub ready : IsReady (limit_of old) old.calls.capacity new
   pub known : Knows rules new
 
--- what came and went fits the later state too, with what was added on the way
-abbrev pub FitsOn : Rules → State → State → (History → History) → Type 0
-FitsOn rules old new on =
-    (h : History) → Fits rules (limit_of old) old.calls.capacity h (standing old) → Fits rules (limit_of old) old.calls.capacity (on h) (standing new)
+-- some notes were made, and the later state fits what was told before and these, with what was added on the way
+abbrev pub FitsOn : Rules → State → State → (List Note → Type 0) → (History → History) → Type 0
+FitsOn rules old new tells on =
+    (added : List Note) × tells added ×
+    ((h : History) (past : List Note) → FitsTold rules (limit_of old) old.calls.capacity h past (standing old) →
+    FitsTold rules (limit_of old) old.calls.capacity (on h) (past ++ added) (standing new))
+
+-- what is told where the frame at the upstream's front is taken
+abbrev pub reply_front_notes : Rules → Standing → Front → List Note
+reply_front_notes rules s Part = []
+reply_front_notes rules s (Large n) = []
+reply_front_notes rules s (Whole frame rest) = answer_notes rules s.calls (told (s.answered + 1)) frame
+
+-- and where the one at the client's front is, behind so many
+abbrev pub call_front_notes : Rules → ℕ → Front → List Note
+call_front_notes rules taken Part = []
+call_front_notes rules taken (Large n) = []
+call_front_notes rules taken (Whole frame rest) = call_notes (rules.judged frame) (told (taken + 1)) frame
+
+-- what is told at a look at a side: nothing where no frame is taken
+abbrev pub told_if : SessionStep → List Note → List Note
+told_if step.Waits notes = []
+told_if (step.Halts h) notes = []
+told_if step.Takes notes = notes
+
+abbrev pub told_of_reply : Rules → State → SessionStep → List Note
+told_of_reply rules s came = told_if came (reply_front_notes rules (standing s) (front (limit_of s) s.upstream.held.held))
+
+abbrev pub told_of_call : Rules → State → SessionStep → List Note
+told_of_call rules s came = told_if came (call_front_notes rules s.client.count (front (limit_of s) s.client.held.held))
 
 -- what the front frame of a side does
 abbrev pub of_upstream_in : Rules → State → Move
@@ -163,19 +191,20 @@ StandsStill rules limit max_calls s still.Waits = (of_upstream rules limit s ≡
 abbrev pub Cuts : ℕ → List ℕ → Type 0
 Cuts limit held = (frame rest : List ℕ) → front limit held ≡ Whole frame rest → IsCut limit held frame rest
 
--- a step was taken over a frame that is cut
-pub data Took (rules : Rules) (limit max_calls : ℕ) (s t : Standing) : Type 0 where
-  ByUpstream : of_upstream rules limit s ≡ Takes t → Cuts limit s.upstream → Took rules limit max_calls s t
-  ByClient : of_upstream rules limit s ≡ Waits → of_client rules limit max_calls s ≡ Takes t → Cuts limit s.client → Took rules limit max_calls s t
+-- a step was taken over a frame that is cut, and this was told of it
+pub data Took (rules : Rules) (limit max_calls : ℕ) (s t : Standing) (notes : List Note) : Type 0 where
+  ByUpstream : of_upstream rules limit s ≡ Takes t → Cuts limit s.upstream → notes ≡ reply_front_notes rules s (front limit s.upstream) → Took rules limit max_calls s t notes
+  ByClient : of_upstream rules limit s ≡ Waits → of_client rules limit max_calls s ≡ Takes t → Cuts limit s.client → notes ≡ call_front_notes rules s.taken (front limit s.client) → Took rules limit max_calls s t notes
 
 -- a step was taken, or none can be
-abbrev pub Goes : Rules → ℕ → ℕ → Standing → Standing → Option Standstill → Type 0
-Goes rules limit max_calls s t None = Took rules limit max_calls s t
-Goes rules limit max_calls s t (Some why) = (t ≡ s) × StandsStill rules limit max_calls s why
+abbrev pub Goes : Rules → ℕ → ℕ → Standing → Standing → List Note → Option Standstill → Type 0
+Goes rules limit max_calls s t notes None = Took rules limit max_calls s t notes
+Goes rules limit max_calls s t notes (Some why) = (t ≡ s) × StandsStill rules limit max_calls s why × (notes ≡ [])
 
 -- the same of a state, by its limit and its number of calls
-abbrev pub GoesOn : Rules → State → State → Option Standstill → Type 0
-GoesOn rules old new why = Goes rules (limit_of old) old.calls.capacity (standing old) (standing new) why
+abbrev pub GoesOn : Rules → State → State → (List Note → Type 0) → Option Standstill → Type 0
+GoesOn rules old new tells why =
+    (notes : List Note) × tells notes × Goes rules (limit_of old) old.calls.capacity (standing old) (standing new) notes why
 
 -- the outcome, by why nothing more can be taken
 abbrev pub ending_by : ℕ → Standing → Standstill → Option Outcome

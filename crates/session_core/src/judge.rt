@@ -27,7 +27,7 @@ pub enum ClientJudged {
     /// It is refused, and waits for an answer.
     Refused(Cause),
     /// It is refused, and nothing comes back.
-    Dropped,
+    Dropped(Cause),
 }
 
 /// The verdict on a frame of the upstream.
@@ -35,8 +35,8 @@ pub enum ClientJudged {
 pub enum UpstreamJudged {
     /// Its header can't be read, or it is a call.
     Halts(Halt),
-    /// It closes its call: what goes to the client is the reply, or what tells that the reply is refused.
-    Answers,
+    /// It closes its call. What goes to the client is the reply; with a cause it tells that the reply is refused.
+    Answers(Option<Cause>),
 }
 
 /// Whoever reads the frames of a session and writes what goes on. It takes no memory.

@@ -1,12 +1,13 @@
 //! One session, as the server above drives it.
 ghost use Rattle.std.specs.Prelude.{◌≡◌, ◌+◌, ◌*◌, ◌-◌, ◌^◌, ◌<◌, ◌≤◌, [], ◌++◌, length, take, ℕ, List, Option, IfOk, IfSome, true, false, None, is_some};
 ghost use Rattle.session_core.specs.Standing.{nothing};
-ghost use Rattle.session_core.specs.Fits.{Fits};
+ghost use Rattle.session_core.specs.Telling.{FitsTold, FitsAndTells};
 ghost use Rattle.session_core.specs.Ends.{IsAtRest, TakesNoMore, held_of, most_held, is_own};
 ghost use Rattle.session_core.specs.Rooms.{due_room};
-ghost use Rattle.session_core.specs.Session.{Seen, HoldsWithin, FitsLater, rooms_for, due_to, and_came, and_sent, and_ended, room_of};
+ghost use Rattle.session_core.specs.Session.{Seen, HoldsWithin, rooms_for, due_to, and_came, and_sent, and_ended, room_of};
 
 use crate::judge::Judge;
+use crate::notes::Notes;
 use crate::outcome::Outcome;
 use crate::state::{MOST_CALLS, State};
 use gate_base::OutOfMemory;
@@ -19,7 +20,8 @@ use std::marker::Model;
 /// be open, and 4,096.
 ///
 /// It fits what came and went: what was sent and is due is what the frames that were taken give, and no frame that can
-/// be taken is left. Once it has an outcome it takes nothing, and nothing is due.
+/// be taken is left. Once it has an outcome it takes nothing, and nothing is due. Each call is given who is told of
+/// refused frames: of each once, at the step that takes it, and of no other frame.
 #[derive(Drop)]
 pub struct Session<J: Judge> {
     judge: J,
@@ -55,7 +57,7 @@ impl<J: Judge> Session<J> {
         requires few { max_calls ≤ MOST_CALLS }
         requires longest { limit ≤ J.longest judge }
         ensures given { IfOk result (λ s. (s.judge ≡ judge) × (s.limit ≡ limit) × (s.max_calls ≡ max_calls)) }
-        ensures fits { IfOk result (λ s. Fits (J.rules judge) limit max_calls nothing s.standing) }
+        ensures fits { IfOk result (λ s. FitsTold (J.rules judge) limit max_calls nothing [] s.standing) }
         ensures rest { IfOk result (λ s. IsAtRest (J.rules judge) limit max_calls s.standing s.outcome) }
         ensures going { IfOk result (λ s. s.outcome ≡ None) }
         ensures rooms { IfOk result (λ s. s.rooms ≡ rooms_for limit max_calls) }
@@ -69,38 +71,39 @@ impl<J: Judge> Session<J> {
     ///
     /// Fewer than given are taken only where the client's buffer is full afterwards, the client had ended, or the
     /// session has an outcome.
-    pub fn take_client(&mut self, bytes: &[u8]) -> usize
+    pub fn take_client<N: Notes>(&mut self, bytes: &[u8], notes: &mut N) -> usize
         ensures same { (self.new.judge ≡ self.old.judge) × (self.new.limit ≡ self.old.limit) × (self.new.max_calls ≡ self.old.max_calls) }
         ensures rest { IsAtRest (J.rules self.old.judge) self.old.limit self.old.max_calls self.new.standing self.new.outcome }
         ensures rooms { self.new.rooms ≡ self.old.rooms }
         ensures holds { HoldsWithin self.new }
         ensures count { result ≤ length bytes.now }
-        ensures fits { FitsLater J.rules self.old self.new (λ h. and_came Side.Client h (take result bytes.now)) }
+        ensures fits { FitsAndTells J.rules self.old self.new (N.tells notes.old notes.new) (λ h. and_came Side.Client h (take result bytes.now)) }
         ensures fewer { result < length bytes.now → TakesNoMore self.old.limit self.new.standing.client self.old.standing.client_ended self.new.outcome }
         ensures whole { length bytes.now ≤ room_of self.old.limit self.old.standing (is_some self.old.outcome) Side.Client → result ≡ length bytes.now }
         ensures ended { self.old.standing.client_ended ≡ true → result ≡ 0 }
         ensures over { is_some self.old.outcome ≡ true → result ≡ 0 }
     {
-        self.state.take(&mut self.judge, Side::Client, bytes)
+        self.state.take(&mut self.judge, Side::Client, bytes, notes)
     }
 
     /// Takes bytes of the upstream, does all that can be done, and says how many were taken.
     ///
     /// Fewer than given are taken only where the upstream's buffer is full afterwards, the upstream had ended, or the
     /// session has an outcome.
-    pub fn take_upstream(&mut self, bytes: &[u8]) -> usize
+    pub fn take_upstream<N: Notes>(&mut self, bytes: &[u8], notes: &mut N) -> usize
         ensures same { (self.new.judge ≡ self.old.judge) × (self.new.limit ≡ self.old.limit) × (self.new.max_calls ≡ self.old.max_calls) }
         ensures rest { IsAtRest (J.rules self.old.judge) self.old.limit self.old.max_calls self.new.standing self.new.outcome }
         ensures rooms { self.new.rooms ≡ self.old.rooms }
         ensures holds { HoldsWithin self.new }
         ensures count { result ≤ length bytes.now }
-        ensures fits { FitsLater J.rules self.old self.new (λ h. and_came Side.Upstream h (take result bytes.now)) }
+        ensures fits { FitsAndTells J.rules self.old self.new (N.tells notes.old notes.new) (λ h. and_came Side.Upstream h (take result bytes.now)) }
         ensures fewer { result < length bytes.now → TakesNoMore self.old.limit self.new.standing.upstream self.old.standing.upstream_ended self.new.outcome }
         ensures whole { length bytes.now ≤ room_of self.old.limit self.old.standing (is_some self.old.outcome) Side.Upstream → result ≡ length bytes.now }
         ensures ended { self.old.standing.upstream_ended ≡ true → result ≡ 0 }
         ensures over { is_some self.old.outcome ≡ true → result ≡ 0 }
     {
-        self.state.take(&mut self.judge, Side::Upstream, bytes)
+        self.state
+            .take(&mut self.judge, Side::Upstream, bytes, notes)
     }
 
     /// The bytes that are due to a side.
@@ -114,26 +117,27 @@ impl<J: Judge> Session<J> {
     }
 
     /// So many of the bytes that are due to a side were sent.
-    pub fn sent(&mut self, side: Side, n: usize)
+    pub fn sent<N: Notes>(&mut self, side: Side, n: usize, notes: &mut N)
         requires due { n ≤ length (due_to side self.old.standing) }
         ensures same { (self.new.judge ≡ self.old.judge) × (self.new.limit ≡ self.old.limit) × (self.new.max_calls ≡ self.old.max_calls) }
         ensures rest { IsAtRest (J.rules self.old.judge) self.old.limit self.old.max_calls self.new.standing self.new.outcome }
         ensures rooms { self.new.rooms ≡ self.old.rooms }
         ensures holds { HoldsWithin self.new }
-        ensures fits { FitsLater J.rules self.old self.new (λ h. and_sent side h (take n (due_to side self.old.standing))) }
+        ensures fits { FitsAndTells J.rules self.old self.new (N.tells notes.old notes.new)
+            (λ h. and_sent side h (take n (due_to side self.old.standing))) }
     {
-        self.state.sent(&mut self.judge, side, n);
+        self.state.sent(&mut self.judge, side, n, notes);
     }
 
     /// A side sends nothing more. A second time nothing changes.
-    pub fn end(&mut self, side: Side)
+    pub fn end<N: Notes>(&mut self, side: Side, notes: &mut N)
         ensures same { (self.new.judge ≡ self.old.judge) × (self.new.limit ≡ self.old.limit) × (self.new.max_calls ≡ self.old.max_calls) }
         ensures rest { IsAtRest (J.rules self.old.judge) self.old.limit self.old.max_calls self.new.standing self.new.outcome }
         ensures rooms { self.new.rooms ≡ self.old.rooms }
         ensures holds { HoldsWithin self.new }
-        ensures fits { FitsLater J.rules self.old self.new (λ h. and_ended side h) }
+        ensures fits { FitsAndTells J.rules self.old self.new (N.tells notes.old notes.new) (λ h. and_ended side h) }
     {
-        self.state.end(&mut self.judge, side);
+        self.state.end(&mut self.judge, side, notes);
     }
 
     /// How many more bytes of a side can be taken.

@@ -24,16 +24,17 @@
 ghost use Rattle.std.specs.Prelude.{◌≡◌, ◌+◌, ◌^◌, ◌<◌, ◌≤◌, [], ◌++◌, length, take, min, ◌-◌, ℕ, is_some, IfOk, true, Some, None, if◌then◌else◌};
 ghost use Rattle.framed_transport.specs.Front.{front, is_part, is_whole};
 ghost use Rattle.session_core.specs.Standing.{Standing, History, begun};
-ghost use Rattle.session_core.specs.Fits.{Fits, told};
+ghost use Rattle.session_core.specs.Fits.{told};
 ghost use Rattle.session_core.specs.Steps.{outcome_of, IsStill, is_none, by_upstream, by_client, at_end, Move, Waits};
 ghost use Rattle.session_core.specs.Ends.{held_of, most_held};
 ghost use Rattle.session_core.specs.Session.{due_to, and_came, and_sent, and_ended, room_of};
 ghost use Rattle.session_core.specs.Halves.{fed, let_go, ended};
-ghost use Rattle.session_core.specs.Working.{standing, limit_of, half_of, with_half, of_upstream_in, of_client_in, IsReady, Works, Keeps, IsSettledBy, FitsOn, IsSound, Comes, GoesOn, Cuts, ends_step, ending_of, IsFound, without_reply, without_call, ComesRefused, TakesNoMoreOf};
+ghost use Rattle.session_core.specs.Working.{standing, limit_of, half_of, with_half, of_upstream_in, of_client_in, IsReady, Works, Keeps, IsSettledBy, FitsOn, IsSound, Comes, GoesOn, Cuts, ends_step, ending_of, IsFound, without_reply, without_call, ComesRefused, TakesNoMoreOf, told_of_reply, told_of_call};
 
 use crate::framing::{answer_call, judge_client, judge_upstream};
 use crate::half::Half;
 use crate::judge::{Call, ClientJudged, Judge, UpstreamJudged};
+use crate::notes::{Notes, note_call, note_reply};
 use crate::outcome::{Halt, Outcome};
 use circular_buffer::HeapCircularBuffer;
 use framed_transport::{Next, frame_stands_at_the_front};
@@ -80,6 +81,13 @@ pub enum Standstill {
     Waits,
 }
 
+/// The number of the next frame behind so many.
+fn next_of(count: u64) -> u64
+    ensures { result ≡ told (count + 1) }
+{
+    count.saturating_add(1)
+}
+
 impl State {
     /// Takes all the memory of a session.
     ///
@@ -113,12 +121,13 @@ impl State {
     }
 
     /// Takes the upstream's front frame for the oldest open call, once nothing is due to the client.
-    fn upstream_step<J: Judge>(&mut self, judge: &mut J) -> SessionStep
+    fn upstream_step<J: Judge, N: Notes>(&mut self, judge: &mut J, notes: &mut N) -> SessionStep
         requires works { Works (J.rules judge.old) (J.longest judge.old) self.old }
         ensures same { judge.new ≡ judge.old }
         ensures keeps { Keeps (J.rules judge.old) self.old self.new }
         ensures comes { Comes result (of_upstream_in (J.rules judge.old) self.old) (standing self.old) (standing self.new) }
         ensures cut { result ≡ SessionStep.Takes → Cuts self.old.upstream.held.limit self.old.upstream.held.held }
+        ensures told { N.tells notes.old notes.new (told_of_reply (J.rules judge.old) self.old result) }
     {
         let Some(&call) = self.calls.front() else {
             return SessionStep::Waits;
@@ -134,7 +143,8 @@ impl State {
                     self.client.due.cut(0);
                     SessionStep::Halts(halt)
                 }
-                UpstreamJudged::Answers => {
+                UpstreamJudged::Answers(refused) => {
+                    note_reply(notes, next_of(self.upstream.count), refused, frame);
                     self.close_call();
                     SessionStep::Takes
                 }
@@ -163,24 +173,30 @@ impl State {
     }
 
     /// Takes the client's front frame, while nothing is due to the upstream and a call may open.
-    fn client_step<J: Judge>(&mut self, judge: &mut J) -> SessionStep
+    fn client_step<J: Judge, N: Notes>(&mut self, judge: &mut J, notes: &mut N) -> SessionStep
         requires works { Works (J.rules judge.old) (J.longest judge.old) self.old }
         ensures same { judge.new ≡ judge.old }
         ensures keeps { Keeps (J.rules judge.old) self.old self.new }
         ensures comes { Comes result (of_client_in (J.rules judge.old) self.old) (standing self.old) (standing self.new) }
         ensures cut { result ≡ SessionStep.Takes → Cuts self.old.client.held.limit self.old.client.held.held }
+        ensures told { N.tells notes.old notes.new (told_of_call (J.rules judge.old) self.old result) }
     {
         if !self.upstream.is_paid() || self.calls.len() >= self.calls.capacity() {
             return SessionStep::Waits;
         }
         let Some(waiting) = self.known else {
-            return self.judge_step(judge);
+            return self.judge_step(judge, notes);
         };
-        self.stored_step(judge, waiting)
+        self.stored_step(judge, waiting, notes)
     }
 
     /// Continues with the client's front frame by its stored verdict.
-    fn stored_step<J: Judge>(&mut self, judge: &mut J, waiting: Waiting) -> SessionStep
+    fn stored_step<J: Judge, N: Notes>(
+        &mut self,
+        judge: &mut J,
+        waiting: Waiting,
+        notes: &mut N,
+    ) -> SessionStep
         requires works { Works (J.rules judge.old) (J.longest judge.old) self.old }
         requires empty { self.old.upstream.due.bytes ≡ [] }
         requires few { length self.old.calls.items < self.old.calls.capacity }
@@ -189,15 +205,16 @@ impl State {
         ensures keeps { Keeps (J.rules judge.old) self.old self.new }
         ensures comes { Comes result (of_client_in (J.rules judge.old) self.old) (standing self.old) (standing self.new) }
         ensures cut { result ≡ SessionStep.Takes → Cuts self.old.client.held.limit self.old.client.held.held }
+        ensures told { N.tells notes.old notes.new (told_of_call (J.rules judge.old) self.old result) }
     {
         match waiting {
             Waiting::Halts(halt) => SessionStep::Halts(halt),
-            Waiting::Refused(cause) => self.answer_step(judge, cause),
+            Waiting::Refused(cause) => self.answer_step(judge, cause, notes),
         }
     }
 
     /// Judges the client's front frame, and takes it or stores the verdict.
-    fn judge_step<J: Judge>(&mut self, judge: &mut J) -> SessionStep
+    fn judge_step<J: Judge, N: Notes>(&mut self, judge: &mut J, notes: &mut N) -> SessionStep
         requires works { Works (J.rules judge.old) (J.longest judge.old) self.old }
         requires empty { self.old.upstream.due.bytes ≡ [] }
         requires few { length self.old.calls.items < self.old.calls.capacity }
@@ -205,6 +222,7 @@ impl State {
         ensures keeps { Keeps (J.rules judge.old) self.old self.new }
         ensures comes { Comes result (of_client_in (J.rules judge.old) self.old) (standing self.old) (standing self.new) }
         ensures cut { result ≡ SessionStep.Takes → Cuts self.old.client.held.limit self.old.client.held.held }
+        ensures told { N.tells notes.old notes.new (told_of_call (J.rules judge.old) self.old result) }
     {
         match self.client.held.frame() {
             Next::NeedMore => SessionStep::Waits,
@@ -219,7 +237,8 @@ impl State {
                     self.count_frame();
                     SessionStep::Takes
                 }
-                ClientJudged::Dropped => {
+                ClientJudged::Dropped(cause) => {
+                    note_call(notes, next_of(self.client.count), cause, true, frame);
                     self.upstream.due.cut(0);
                     self.count_frame();
                     SessionStep::Takes
@@ -227,7 +246,7 @@ impl State {
                 ClientJudged::Refused(cause) => {
                     self.upstream.due.cut(0);
                     self.known = Some(Waiting::Refused(cause));
-                    self.answer_step(judge, cause)
+                    self.answer_step(judge, cause, notes)
                 }
                 ClientJudged::Halts(halt) => {
                     self.upstream.due.cut(0);
@@ -249,18 +268,25 @@ impl State {
     }
 
     /// Answers the client's front frame in its turn.
-    fn answer_step<J: Judge>(&mut self, judge: &mut J, cause: Cause) -> SessionStep
+    fn answer_step<J: Judge, N: Notes>(
+        &mut self,
+        judge: &mut J,
+        cause: Cause,
+        notes: &mut N,
+    ) -> SessionStep
         requires works { Works (J.rules judge.old) (J.longest judge.old) self.old }
         requires found { IsFound (J.rules judge.old) self.old.client.held.limit self.old.client.held.held (Waiting.Refused cause) }
         ensures same { judge.new ≡ judge.old }
         ensures keeps { Keeps (J.rules judge.old) self.old self.new }
         ensures comes { ComesRefused (J.rules judge.old) cause self.old result self.new }
+        ensures told { N.tells notes.old notes.new (told_of_call (J.rules judge.old) self.old result) }
     {
         if !self.calls.is_empty() || !self.client.is_paid() {
             return SessionStep::Waits;
         }
         if let Next::Frame(frame) = self.client.held.frame() {
             answer_call(judge, frame, cause, &mut self.client.due);
+            note_call(notes, next_of(self.client.count), cause, false, frame);
             self.count_frame();
             return SessionStep::Takes;
         }
@@ -268,16 +294,16 @@ impl State {
     }
 
     /// Takes a frame, or says why none can be taken.
-    fn step<J: Judge>(&mut self, judge: &mut J) -> Option<Standstill>
+    fn step<J: Judge, N: Notes>(&mut self, judge: &mut J, notes: &mut N) -> Option<Standstill>
         requires works { Works (J.rules judge.old) (J.longest judge.old) self.old }
         ensures same { judge.new ≡ judge.old }
         ensures keeps { Keeps (J.rules judge.old) self.old self.new }
-        ensures goes { GoesOn (J.rules judge.old) self.old self.new result }
+        ensures goes { GoesOn (J.rules judge.old) self.old self.new (N.tells notes.old notes.new) result }
     {
-        match self.upstream_step(judge) {
+        match self.upstream_step(judge, notes) {
             SessionStep::Takes => None,
             SessionStep::Halts(halt) => Some(Standstill::Upstream(halt)),
-            SessionStep::Waits => match self.client_step(judge) {
+            SessionStep::Waits => match self.client_step(judge, notes) {
                 SessionStep::Takes => None,
                 SessionStep::Halts(halt) => Some(Standstill::Client(halt)),
                 SessionStep::Waits => Some(Standstill::Waits),
@@ -286,16 +312,16 @@ impl State {
     }
 
     /// Takes all that can be taken, and answers the outcome.
-    fn advance<J: Judge>(&mut self, judge: &mut J) -> Option<Outcome>
+    fn advance<J: Judge, N: Notes>(&mut self, judge: &mut J, notes: &mut N) -> Option<Outcome>
         requires works { Works (J.rules judge.old) (J.longest judge.old) self.old }
         ensures same { judge.new ≡ judge.old }
         ensures keeps { Keeps (J.rules judge.old) self.old self.new }
         ensures still { IsStill (J.rules judge.old) (limit_of self.old) self.old.calls.capacity (standing self.new) }
         ensures outcome { result ≡ outcome_of (J.rules judge.old) (limit_of self.old) self.old.calls.capacity (standing self.new) }
-        ensures fits { FitsOn (J.rules judge.old) self.old self.new (λ h. h) }
+        ensures fits { FitsOn (J.rules judge.old) self.old self.new (N.tells notes.old notes.new) (λ h. h) }
     {
         'frames: loop {
-            if let Some(standstill) = self.step(judge) {
+            if let Some(standstill) = self.step(judge, notes) {
                 return self.ending(standstill);
             }
         }
@@ -367,25 +393,31 @@ impl State {
     }
 
     /// Takes all that can be taken, and keeps the outcome.
-    pub fn settle<J: Judge>(&mut self, judge: &mut J)
+    pub fn settle<J: Judge, N: Notes>(&mut self, judge: &mut J, notes: &mut N)
         requires works { Works (J.rules judge.old) (J.longest judge.old) self.old }
         ensures same { judge.new ≡ judge.old }
         ensures keeps { Keeps (J.rules judge.old) self.old self.new }
         ensures settled { IsSettledBy (J.rules judge.old) self.old self.new }
-        ensures fits { FitsOn (J.rules judge.old) self.old self.new (λ h. h) }
+        ensures fits { FitsOn (J.rules judge.old) self.old self.new (N.tells notes.old notes.new) (λ h. h) }
     {
-        self.outcome = self.advance(judge);
+        self.outcome = self.advance(judge, notes);
     }
 
     /// Takes bytes of a side, as long as there is room and no outcome.
-    pub fn take<J: Judge>(&mut self, judge: &mut J, side: Side, bytes: &[u8]) -> usize
+    pub fn take<J: Judge, N: Notes>(
+        &mut self,
+        judge: &mut J,
+        side: Side,
+        bytes: &[u8],
+        notes: &mut N,
+    ) -> usize
         requires works { Works (J.rules judge.old) (J.longest judge.old) self.old }
         requires settled { IsSettledBy (J.rules judge.old) self.old self.old }
         ensures same { judge.new ≡ judge.old }
         ensures keeps { Keeps (J.rules judge.old) self.old self.new }
         ensures settled { IsSettledBy (J.rules judge.old) self.old self.new }
         ensures count { result ≤ length bytes.now }
-        ensures fits { FitsOn (J.rules judge.old) self.old self.new (λ h. and_came side h (take result bytes.now)) }
+        ensures fits { FitsOn (J.rules judge.old) self.old self.new (N.tells notes.old notes.new) (λ h. and_came side h (take result bytes.now)) }
         ensures fewer { result < length bytes.now → TakesNoMoreOf side self.old self.new }
         ensures whole { length bytes.now ≤ room_of (limit_of self.old) (standing self.old) (is_some self.old.outcome) side → result ≡ length bytes.now }
         ensures ended { (half_of side self.old).ended ≡ true → result ≡ 0 }
@@ -401,7 +433,7 @@ impl State {
             && self.half(side).held.room() > 0
         {
             taken += self.feed(side, &bytes[taken..]);
-            self.settle(judge);
+            self.settle(judge, notes);
         }
         taken
     }
@@ -418,18 +450,19 @@ impl State {
     }
 
     /// So many of the bytes that were due to a side were sent. While some are left, no more can be taken than before.
-    pub fn sent<J: Judge>(&mut self, judge: &mut J, side: Side, n: usize)
+    pub fn sent<J: Judge, N: Notes>(&mut self, judge: &mut J, side: Side, n: usize, notes: &mut N)
         requires works { Works (J.rules judge.old) (J.longest judge.old) self.old }
         requires due { n ≤ length (half_of side self.old).due.bytes }
         requires settled { IsSettledBy (J.rules judge.old) self.old self.old }
         ensures same { judge.new ≡ judge.old }
         ensures keeps { Keeps (J.rules judge.old) self.old self.new }
         ensures settled { IsSettledBy (J.rules judge.old) self.old self.new }
-        ensures fits { FitsOn (J.rules judge.old) self.old self.new (λ h. and_sent side h (take n (half_of side self.old).due.bytes)) }
+        ensures fits { FitsOn (J.rules judge.old) self.old self.new (N.tells notes.old notes.new)
+            (λ h. and_sent side h (take n (half_of side self.old).due.bytes)) }
     {
         self.let_go(side, n);
         if self.half(side).is_paid() {
-            self.settle(judge);
+            self.settle(judge, notes);
         }
     }
 
@@ -445,15 +478,15 @@ impl State {
     }
 
     /// A side sends nothing more.
-    pub fn end<J: Judge>(&mut self, judge: &mut J, side: Side)
+    pub fn end<J: Judge, N: Notes>(&mut self, judge: &mut J, side: Side, notes: &mut N)
         requires works { Works (J.rules judge.old) (J.longest judge.old) self.old }
         ensures same { judge.new ≡ judge.old }
         ensures keeps { Keeps (J.rules judge.old) self.old self.new }
         ensures settled { IsSettledBy (J.rules judge.old) self.old self.new }
-        ensures fits { FitsOn (J.rules judge.old) self.old self.new (λ h. and_ended side h) }
+        ensures fits { FitsOn (J.rules judge.old) self.old self.new (N.tells notes.old notes.new) (λ h. and_ended side h) }
     {
         self.mark_ended(side);
-        self.settle(judge);
+        self.settle(judge, notes);
     }
 
     fn mark_ended(&mut self, side: Side)

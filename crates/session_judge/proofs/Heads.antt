@@ -1,5 +1,5 @@
 -- What a header alone says of the verdict on its frame.
-use Rattle.std.proofs.Common.{◌≡◌, ◌⊎◌, inl, inr, ℕ, List, [], ◌++◌, Option, Some, None, Bool, true, false, Result, Ok, Err, refl, ap, sym, ◌∙◌, subst}
+use Rattle.std.proofs.Common.{◌≡◌, ℕ, List, [], ◌++◌, Option, Some, None, true, Result, Ok, Err, refl, ap, sym, ◌∙◌, subst}
 use Rattle.std.proofs.lemmas.List.{append-nil}
 use Rattle.gate_io.specs.Buffer.{Buffer}
 use Rattle.thrift_value.specs.declared.kind.MessageType.{MessageType}
@@ -18,11 +18,10 @@ use Rattle.translate_core.specs.declared.verdict.Verdict.TheVariants.{Passed, Re
 use Rattle.translate_core.specs.Positions.{Positions, typed}
 use Rattle.translate_core.specs.Routes.{start_of, info_of}
 use Rattle.translate_core.specs.Body.{Source, TargetRules, Ended}
-use Rattle.translate_core.specs.Judged.{Judged, passed_or, at_end, after_body, after_head, judge, type_of}
+use Rattle.translate_core.specs.Judged.{passed_or, at_end, after_body, after_head, judge, type_of}
 use Rattle.protocol_pairs.specs.Pairs.{binary_source, compact_source, json_source, binary_target, compact_target, json_target, judged, judged_to, headed}
 use Rattle.session_core.specs.declared.judge.ClientJudged.{ClientJudged}
 use Rattle.session_core.specs.declared.judge.ClientJudged.TheVariants as client
-use Rattle.session_core.specs.declared.judge.UpstreamJudged.{UpstreamJudged}
 use Rattle.session_core.specs.declared.judge.UpstreamJudged.TheVariants as upstream
 use Rattle.session_core.specs.declared.outcome.Halt.TheVariants as halt
 use Rattle.session_judge.specs.Client.{passed_on, refused, tells_answer, of_client, onward}
@@ -102,14 +101,14 @@ pub upstream_wrong_way : (answer : Cause → List ℕ) (v : Verdict) (head : Res
 upstream_wrong_way answer v (Ok types.Call) bytes has on = by v (has types.Call refl)
   where
     by : (u : Verdict) → HasType types.Call u → (upstream.Halts halt.WrongWay ≡ of_upstream u) × ([] ≡ returned answer u bytes)
-    by (Passed info) is = (ap of_type (sym is), ap (λ t. back (of_type t) bytes) (sym is))
-    by (Refused info cause) is = (ap of_type (sym is), ap (λ t. back (of_type t) (answer cause)) (sym is))
+    by (Passed info) is = (ap (λ t. of_type t None) (sym is), ap (λ t. back (of_type t None) bytes) (sym is))
+    by (Refused info cause) is = (ap (λ t. of_type t (Some cause)) (sym is), ap (λ t. back (of_type t (Some cause)) (answer cause)) (sym is))
     by (Unread fault) is = absurd is
 upstream_wrong_way answer v (Ok types.Oneway) bytes has on = by v (has types.Oneway refl)
   where
     by : (u : Verdict) → HasType types.Oneway u → (upstream.Halts halt.WrongWay ≡ of_upstream u) × ([] ≡ returned answer u bytes)
-    by (Passed info) is = (ap of_type (sym is), ap (λ t. back (of_type t) bytes) (sym is))
-    by (Refused info cause) is = (ap of_type (sym is), ap (λ t. back (of_type t) (answer cause)) (sym is))
+    by (Passed info) is = (ap (λ t. of_type t None) (sym is), ap (λ t. back (of_type t None) bytes) (sym is))
+    by (Refused info cause) is = (ap (λ t. of_type t (Some cause)) (sym is), ap (λ t. back (of_type t (Some cause)) (answer cause)) (sym is))
     by (Unread fault) is = absurd is
 upstream_wrong_way answer v (Ok types.Reply) bytes has on = absurd (cc)
 upstream_wrong_way answer v (Ok types.Exception) bytes has on = absurd (cc)

@@ -31,8 +31,8 @@ passed_on method types.Reply = client.Halts halt.WrongWay
 passed_on method types.Exception = client.Halts halt.WrongWay
 
 abbrev pub refused : Option MethodInfo → Cause → MessageType → ClientJudged
-refused method cause types.Call = if is_answered method then client.Refused cause else client.Dropped
-refused method cause types.Oneway = client.Dropped
+refused method cause types.Call = if is_answered method then client.Refused cause else client.Dropped cause
+refused method cause types.Oneway = client.Dropped cause
 refused method cause types.Reply = client.Halts halt.WrongWay
 refused method cause types.Exception = client.Halts halt.WrongWay
 
@@ -55,7 +55,7 @@ onward (client.Opens call) bytes = bytes
 onward client.Goes bytes = bytes
 onward (client.Halts h) bytes = []
 onward (client.Refused cause) bytes = []
-onward client.Dropped bytes = []
+onward (client.Dropped cause) bytes = []
 
 -- the same of a frame that was judged
 abbrev pub output_of : Judged → List ℕ
@@ -67,4 +67,4 @@ answer_by answer (client.Refused cause) = answer cause
 answer_by answer (client.Opens call) = []
 answer_by answer client.Goes = []
 answer_by answer (client.Halts h) = []
-answer_by answer client.Dropped = []
+answer_by answer (client.Dropped cause) = []

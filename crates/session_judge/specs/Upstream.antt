@@ -21,12 +21,12 @@ abbrev pub expected : Declarations → Option StructId → Option StructId
 expected d None = None
 expected d (Some s) = if nat_lt s.0 (length d.structs) then Some s else None
 
--- a reply or an exception answers its call; a call is no message of an upstream
-abbrev pub of_type : MessageType → UpstreamJudged
-of_type types.Call = upstream.Halts halt.WrongWay
-of_type types.Oneway = upstream.Halts halt.WrongWay
-of_type types.Reply = upstream.Answers
-of_type types.Exception = upstream.Answers
+-- a reply or an exception answers its call, refused for a cause or not; a call is no message of an upstream
+abbrev pub of_type : MessageType → Option Cause → UpstreamJudged
+of_type types.Call cause = upstream.Halts halt.WrongWay
+of_type types.Oneway cause = upstream.Halts halt.WrongWay
+of_type types.Reply cause = upstream.Answers cause
+of_type types.Exception cause = upstream.Answers cause
 
 -- the header alone tells a message that no upstream sends
 abbrev pub tells_call : Result MessageType Fault → Bool
@@ -37,19 +37,19 @@ tells_call (Ok types.Exception) = false
 tells_call (Err fault) = false
 
 abbrev pub of_upstream : Verdict → UpstreamJudged
-of_upstream (Passed info) = of_type info.mtype
-of_upstream (Refused info cause) = of_type info.mtype
+of_upstream (Passed info) = of_type info.mtype None
+of_upstream (Refused info cause) = of_type info.mtype (Some cause)
 of_upstream (Unread fault) = upstream.Halts (halt.Unread fault)
 
 -- what goes to the client for a message of this type
 abbrev pub back : UpstreamJudged → List ℕ → List ℕ
-back upstream.Answers bytes = bytes
+back (upstream.Answers refused) bytes = bytes
 back (upstream.Halts h) bytes = []
 
 -- the reply, or what tells that it is refused
 abbrev pub returned : (Cause → List ℕ) → Verdict → List ℕ → List ℕ
-returned answer (Passed info) bytes = back (of_type info.mtype) bytes
-returned answer (Refused info cause) bytes = back (of_type info.mtype) (answer cause)
+returned answer (Passed info) bytes = back (of_type info.mtype None) bytes
+returned answer (Refused info cause) bytes = back (of_type info.mtype (Some cause)) (answer cause)
 returned answer (Unread fault) bytes = []
 
 -- the same of a frame that was judged

@@ -100,7 +100,7 @@ fn refused(method: Option<MethodInfo>, cause: Cause, mtype: MessageType) -> Clie
 {
     match mtype {
         MessageType::Call if is_answered(method) => ClientJudged::Refused(cause),
-        MessageType::Call | MessageType::Oneway => ClientJudged::Dropped,
+        MessageType::Call | MessageType::Oneway => ClientJudged::Dropped(cause),
         MessageType::Reply | MessageType::Exception => ClientJudged::Halts(Halt::WrongWay),
     }
 }

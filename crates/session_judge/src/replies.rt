@@ -70,12 +70,12 @@ fn judge_answer(
     let route = Route::Answer(expected(schema, reply));
     match translate(schema, route, from, to, frame, room, out) {
         Verdict::Passed(info) => {
-            let judged = of_type(info.mtype);
+            let judged = of_type(info.mtype, None);
             keep(judged, start, out);
             judged
         }
         Verdict::Refused(info, cause) => {
-            let judged = of_type(info.mtype);
+            let judged = of_type(info.mtype, Some(cause));
             answer_refused(judged, from, to, frame, room, cause, out);
             judged
         }
@@ -94,11 +94,11 @@ fn expected(schema: &Schema, reply: Option<StructId>) -> Option<StructId>
     }
 }
 
-fn of_type(mtype: MessageType) -> UpstreamJudged
-    ensures { result ≡ of_type mtype }
+fn of_type(mtype: MessageType, refused: Option<Cause>) -> UpstreamJudged
+    ensures { result ≡ of_type mtype refused }
 {
     match mtype {
-        MessageType::Reply | MessageType::Exception => UpstreamJudged::Answers,
+        MessageType::Reply | MessageType::Exception => UpstreamJudged::Answers(refused),
         MessageType::Call | MessageType::Oneway => UpstreamJudged::Halts(Halt::WrongWay),
     }
 }
@@ -109,7 +109,7 @@ fn keep(judged: UpstreamJudged, start: usize, out: &mut Out)
     ensures { out.new ≡ record out.old { bytes = take start out.old.bytes ++ back judged (drop start out.old.bytes) } }
 {
     match judged {
-        UpstreamJudged::Answers => {}
+        UpstreamJudged::Answers(_) => {}
         UpstreamJudged::Halts(_) => out.cut(start),
     }
 }
@@ -131,7 +131,7 @@ fn answer_refused(
     ensures short { length out.new.bytes ≤ length out.old.bytes + room_for (length frame.now) }
 {
     match judged {
-        UpstreamJudged::Answers => answer(from, to, frame, room, &cause, out),
+        UpstreamJudged::Answers(_) => answer(from, to, frame, room, &cause, out),
         UpstreamJudged::Halts(_) => {}
     }
 }

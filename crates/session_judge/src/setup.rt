@@ -1,7 +1,7 @@
 //! What a session is opened with.
-ghost use Rattle.std.specs.Prelude.{◌≡◌, ◌^◌, ◌<◌, ◌≤◌, IfOk, IfSome, length};
+ghost use Rattle.std.specs.Prelude.{◌≡◌, ◌^◌, ◌<◌, ◌≤◌, [], IfOk, IfSome, length};
 ghost use Rattle.session_core.specs.Standing.{nothing};
-ghost use Rattle.session_core.specs.Fits.{Fits};
+ghost use Rattle.session_core.specs.Telling.{FitsTold};
 ghost use Rattle.session_core.specs.Ends.{IsAtRest};
 ghost use Rattle.session_core.specs.Session.{HoldsWithin, rooms_for};
 ghost use Rattle.session_judge.specs.Rules.{rules_of};
@@ -40,7 +40,7 @@ pub fn open<'s>(alloc: Global, setup: &Setup<'s>) -> Result<Session<PairJudge<'s
     requires few { setup.now.calls ≤ MOST_CALLS }
     requires service { IfSome setup.now.service (λ s. s.0 < length setup.now.schema.now.services) }
     ensures given { IfOk result (λ s. (s.judge ≡ setting_of setup.now) × (s.limit ≡ setup.now.limit) × (s.max_calls ≡ setup.now.calls)) }
-    ensures fits { IfOk result (λ s. Fits (rules_of (setting_of setup.now)) setup.now.limit setup.now.calls nothing s.standing) }
+    ensures fits { IfOk result (λ s. FitsTold (rules_of (setting_of setup.now)) setup.now.limit setup.now.calls nothing [] s.standing) }
     ensures rest { IfOk result (λ s. IsAtRest (rules_of (setting_of setup.now)) setup.now.limit setup.now.calls s.standing s.outcome) }
     ensures rooms { IfOk result (λ s. s.rooms ≡ rooms_for setup.now.limit setup.now.calls) }
     ensures holds { IfOk result (λ s. HoldsWithin s) }

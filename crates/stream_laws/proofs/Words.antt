@@ -6,7 +6,7 @@ use Rattle.protocol_traits.specs.declared.proto.Proto.{Proto}
 use Rattle.peer_addresses.specs.Addresses.{can_listen_at, can_connect_to}
 use Rattle.gate_words.specs.Commands.{command, check_of, convert_of, convert_between, converted, show_of, show_from, shown, conform_of, conform_from, conformed, drill_of, drill_as, help_of}
 use Rattle.decimal_words.specs.Numbers.{number_of, within}
-use Rattle.gate_words.specs.Options.{no_options, is_for_one_upstream, set_limit, limit_of, set_sessions, set_accept, set_events, set_calls, set_unframed, set_front, set_lines, with_server_option, with_peers, with_option, and_then, options_of, is_server_alone}
+use Rattle.gate_words.specs.Options.{no_options, is_for_one_upstream, set_limit, limit_of, set_sessions, set_accept, set_events, set_calls, set_unframed, set_front, set_lines, names_refusals, with_server_option, with_peers, with_option, and_then, options_of, is_server_alone}
 use Rattle.gate_words.specs.Protos.{proto_of}
 use Rattle.gate_words.specs.Routing.{route_of, route_between, route_at, route_to, routed}
 use Rattle.gate_words.specs.Targets.{targets_of}
@@ -116,11 +116,13 @@ one_option o new name value e p =
     (by_test (IsBounded new) (is_some o.events) None _ new (none_is new) (λ f. spent o new _ f p))
     (by_test (IsBounded new) (is name (codes "--calls")) _ _ new
     (by_test (IsBounded new) (is_some o.calls) None _ new (none_is new) (λ f. called o new _ (λ n g. omega (arith, (within_is _ _ (number_of value) n g).0)) f p))
+    (by_test (IsBounded new) (is name (codes "--tell")) _ _ new
+    (by_test (IsBounded new) (o.tells_refusals || not (names_refusals value)) None _ new (none_is new) (λ f. some_same (record o { tells_refusals = true }) new f p))
     (by_test (IsBounded new) (is name (codes "--unframed")) _ _ new
     (by_test (IsBounded new) (is_some o.unframed) None _ new (none_is new) (λ f. wrapped o new _ f p))
     (by_test (IsBounded new) (is name (codes "--front")) _ None new
     (by_test (IsBounded new) (is_some o.front) None _ new (none_is new) (λ f. fronted o new _ f p))
-    (none_is new)))))))))) e
+    (none_is new))))))))))) e
 
 all_options : (words : List (List ℕ)) (o new : Options) → options_of o words ≡ Some new → IsBounded o → IsBounded new
 all_options [] o new e p = some_same o new e p

@@ -1,7 +1,7 @@
-use Rattle.std.proofs.Common.{◌≡◌, ℕ, length, take, None, ap, sym, ◌∙◌, subst}
+use Rattle.std.proofs.Common.{◌≡◌, length, take, ap, ◌∙◌, subst}
 use Rattle.session_core.specs.Session.{due_to}
 use Rattle.proxy_server.specs.Matching.{Matches}
-use Rattle.proxy_server.specs.Turning.{Goes, CallDoes, wanted_read, most_behind, other}
+use Rattle.proxy_server.specs.Turning.{GoesTelling, CallDoes, wanted_read, most_behind, other}
 use Rattle.proxy_server.proofs.Running.{Idle, most_length}
 use Rattle.proxy_server.proofs.turning.read_behind.Goals as goal
 
@@ -16,7 +16,7 @@ returns-clause-goes g c =
     let most = c.most_read-most.result in
     let n : length (take most piece) ≡ most_behind (due_to (other x) s.standing) =
     most_length piece c.due.result.now most c.requires c.most_read-most.ensures ∙ ap most_behind (c.due.ensures.bytes ∙ ap (λ y. due_to y s.standing) c.other.ensures) in
-    subst (λ m. Goes (tells c.args.hub.now) (tells c.read.new.hub) (matches s) (matches c.read.new.session) c.args.k (CallDoes c.args.k (wanted_read m x w s) c.read.result w c.read.new.waits)) n c.read.ensures.goes
+    subst (λ m. GoesTelling (g.N.Notes.tells c.args.notes.now c.read.new.notes) (tells c.args.hub.now) (tells c.read.new.hub) (matches s) (matches c.read.new.session) c.args.k (CallDoes c.args.k (wanted_read m x w s) c.read.result w c.read.new.waits)) n c.read.ensures.goes
 
 pub returns-clause-idle : goal.returns-clause-idle
 returns-clause-idle g c =

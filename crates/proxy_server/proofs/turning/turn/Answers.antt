@@ -3,9 +3,10 @@ use Rattle.gate_hub.specs.Meaning.{HubCall}
 use Rattle.proxy_server.specs.Calling.{Wanted}
 use Rattle.session_core.specs.Session.{Seen, HoldsWithin}
 use Rattle.proxy_server.specs.Matching.{Matches}
-use Rattle.proxy_server.specs.Turning.{Begins, Runs, Breaks, Goes, wanted, no_waits, or_else, Settles, GoesOn, BreaksOff, Ends, ByLink, BySession}
+use Rattle.proxy_server.specs.Turning.{Begins, Runs, Breaks, wanted, no_waits, or_else, Settles, GoesOn, BreaksOff, Ends, ByLink, BySession}
 use Rattle.proxy_server.specs.declared.waiting.Waits.{Waits}
-use Rattle.proxy_server.proofs.Running.{goes_on, goes_nowhere, goes_weaker, then_runs, then_breaks, runs_at, runs_on, runs_not, settles, later_on, later_not, same_on, want_on}
+use Rattle.proxy_server.proofs.Telling.{quietly, goes_on, goes_weaker, then_runs, then_breaks, runs_at}
+use Rattle.proxy_server.proofs.Running.{goes_nowhere, runs_on, runs_not, settles, later_on, later_not, same_on, want_on}
 use Rattle.proxy_server.proofs.turning.turn.Goals as goal
 
 some_none : {X : Type 0} (o : Option X) (x : X) → o ≡ Some x → o ≡ None → ⊥
@@ -50,7 +51,7 @@ pub loop-moved-init : goal.loop-moved-init
 loop-moved-init g c =
     let s = c.args.session.now in
     record {
-      goes = (None, goes_nowhere (g.H.Hub.tells c.args.hub.now) (Matches _ g.J.Judge.rules s) c.args.k (Runs c.args.k None 0 no_waits no_waits) (runs_not c.args.k no_waits), inl (refl, refl, refl, refl));
+      goes = (None, quietly (g.N.Notes.tells c.args.notes.now c.args.notes.now) (g.H.Hub.tells c.args.hub.now) (g.H.Hub.tells c.args.hub.now) (Matches _ g.J.Judge.rules s) (Matches _ g.J.Judge.rules s) c.args.k _ (g.met.N.Notes.stays c.args.notes.now) (λ past. goes_nowhere (g.H.Hub.tells c.args.hub.now) (Matches _ g.J.Judge.rules s past) c.args.k (Runs c.args.k None 0 no_waits no_waits) (runs_not c.args.k no_waits)), inl (refl, refl, refl, refl));
       idle = λ _. (refl, refl);
       same = record { judge = refl; limit = refl; max_calls = refl; rooms = refl };
       before = inl refl;
@@ -68,7 +69,7 @@ returns-in-Some-clause-turned g c =
     let i = c.loop-moved.invariant in
     let s0 = c.args.session.now in
     let s = c.loop-moved.session in
-    goes_weaker (g.H.Hub.tells c.args.hub.now) (g.H.Hub.tells c.loop-moved.hub) (Matches _ g.J.Judge.rules s0) (Matches _ g.J.Judge.rules s) c.args.k _ _
+    goes_weaker (g.N.Notes.tells c.args.notes.now c.loop-moved.notes) (g.H.Hub.tells c.args.hub.now) (g.H.Hub.tells c.loop-moved.hub) (Matches _ g.J.Judge.rules s0) (Matches _ g.J.Judge.rules s) c.args.k _ _
     (λ made a b p. (
       (λ going. begins_whole c.args.k s0 s c.loop-moved.waits c.loop-moved.moved i.goes.0 made i.goes.2 (λ same. some_none s0.outcome c.in-Some.outcome (ap (λ t. t.outcome) (sym same) ∙ sym c.in-Some.ensures.told) going) p.begins),
       (p.grows, BySession (sym c.in-Some.ensures.told) c.in-Some.ensures.own p.none_failed),
@@ -78,6 +79,8 @@ returns-in-Some-clause-turned g c =
 pub returns-in-Err-clause-turned : goal.returns-in-Err-clause-turned
 returns-in-Err-clause-turned g c =
     let tells = g.H.Hub.tells in
+    let says = g.N.Notes.tells in
+    let follows = g.met.N.Notes.follows in
     let matches = Matches _ g.J.Judge.rules in
     let i = c.loop-moved.invariant in
     let new = c.round.new in
@@ -86,12 +89,12 @@ returns-in-Err-clause-turned g c =
     let s = c.loop-moved.session in
     let w = c.loop-moved.waits in
     let x = c.in-Err.side in
-    goes_weaker (tells c.args.hub.now) (tells new.hub) (matches s0) (matches new.session) c.args.k (Breaks c.args.k (or_else i.goes.0 (wanted w s)) x) _
+    goes_weaker (says c.args.notes.now new.notes) (tells c.args.hub.now) (tells new.hub) (matches s0) (matches new.session) c.args.k (Breaks c.args.k (or_else i.goes.0 (wanted w s)) x) _
     (λ made a b p. (
       (λ _. subst (λ (f : Option Wanted). Begins c.args.k f made) (whole s0 s w n i.goes.0 i.goes.2 i.idle) p.begins),
       (p.grows, ByLink x refl p.last p.failed p.others),
     ))
-    (then_breaks (tells c.args.hub.now) (tells c.loop-moved.hub) (tells new.hub) (matches s0) (matches s) (matches new.session) c.args.k i.goes.0 (wanted w s) n no_waits w x i.goes.1 c.in-Err.ensures.goes)
+    (then_breaks says follows c.args.notes.now c.loop-moved.notes new.notes (tells c.args.hub.now) (tells c.loop-moved.hub) (tells new.hub) (matches s0) (matches s) (matches new.session) c.args.k i.goes.0 (wanted w s) n no_waits w x i.goes.1 c.in-Err.ensures.goes)
 
 pub returns-in-Err-clause-ending : goal.returns-in-Err-clause-ending
 returns-in-Err-clause-ending g c = BreaksOff c.in-Err.side
@@ -99,6 +102,8 @@ returns-in-Err-clause-ending g c = BreaksOff c.in-Err.side
 pub returns-in-Ok-eq0-clause-turned : goal.returns-in-Ok-eq0-clause-turned
 returns-in-Ok-eq0-clause-turned g c =
     let tells = g.H.Hub.tells in
+    let says = g.N.Notes.tells in
+    let follows = g.met.N.Notes.follows in
     let matches = Matches _ g.J.Judge.rules in
     let i = c.loop-moved.invariant in
     let new = c.round.new in
@@ -108,12 +113,12 @@ returns-in-Ok-eq0-clause-turned g c =
     let w = c.loop-moved.waits in
     let quiet = c.in-Ok-eq0.ensures.quiet (ap Ok c.in-Ok-eq0.field-0-test) in
     let going : new.session.outcome ≡ None = ap (λ t. t.outcome) quiet.0 ∙ sym c.in_default.ensures.told in
-    goes_on (tells c.args.hub.now) (tells c.loop-moved.hub) (tells new.hub) (matches s0) (matches s) (matches new.session) c.args.k (Runs c.args.k i.goes.0 n no_waits w) (Runs c.args.k (wanted w s) c.in-Ok-eq0.field-0 w new.waits) _
+    goes_on says follows c.args.notes.now c.loop-moved.notes new.notes (tells c.args.hub.now) (tells c.loop-moved.hub) (tells new.hub) (matches s0) (matches s) (matches new.session) c.args.k (Runs c.args.k i.goes.0 n no_waits w) (Runs c.args.k (wanted w s) c.in-Ok-eq0.field-0 w new.waits) _
     (λ made a b p. (p.grows.announced, p.grows.closed))
-    (λ made more r a b p q m.
+    (λ notes made more r a b p q m.
     let both = runs_on c.args.k i.goes.0 (wanted w s) n c.in-Ok-eq0.field-0 no_waits w new.waits made more r a b p q in (
       (λ _. subst (λ (f : Option Wanted). Begins c.args.k f (made ++ more)) (whole s0 s w n i.goes.0 i.goes.2 i.idle) both.begins),
-      settles _ g.J.Judge.rules new.session c.args.k _ (n + c.in-Ok-eq0.field-0) new.waits (made ++ more) r b going quiet.1 m both,
+      settles _ g.J.Judge.rules new.session notes c.args.k _ (n + c.in-Ok-eq0.field-0) new.waits (made ++ more) r b going quiet.1 m both,
     ))
     i.goes.1 c.in-Ok-eq0.ensures.goes
 
@@ -125,6 +130,8 @@ returns-in-Ok-eq0-clause-ending g c =
 pub loop-moved-preserved : goal.loop-moved-preserved
 loop-moved-preserved g c =
     let tells = g.H.Hub.tells in
+    let says = g.N.Notes.tells in
+    let follows = g.met.N.Notes.follows in
     let matches = Matches _ g.J.Judge.rules in
     let i = c.loop-moved.invariant in
     let new = c.round.new in
@@ -136,8 +143,8 @@ loop-moved-preserved g c =
     record {
       goes = (
         wanted no_waits s0,
-        runs_at (tells c.args.hub.now) (tells new.hub) (matches s0) (matches new.session) c.args.k (or_else i.goes.0 (wanted w s)) (wanted no_waits s0) (n + c.in-Ok.count) no_waits new.waits all
-            (then_runs (tells c.args.hub.now) (tells c.loop-moved.hub) (tells new.hub) (matches s0) (matches s) (matches new.session) c.args.k i.goes.0 (wanted w s) n c.in-Ok.count no_waits w new.waits i.goes.1 c.in-Ok.ensures.goes),
+        runs_at (says c.args.notes.now new.notes) (tells c.args.hub.now) (tells new.hub) (matches s0) (matches new.session) c.args.k (or_else i.goes.0 (wanted w s)) (wanted no_waits s0) (n + c.in-Ok.count) no_waits new.waits all
+            (then_runs says follows c.args.notes.now c.loop-moved.notes new.notes (tells c.args.hub.now) (tells c.loop-moved.hub) (tells new.hub) (matches s0) (matches s) (matches new.session) c.args.k i.goes.0 (wanted w s) n c.in-Ok.count no_waits w new.waits i.goes.1 c.in-Ok.ensures.goes),
         inr refl,
       );
       idle = λ none.
@@ -161,7 +168,7 @@ returns-in-Some-outcome-clause-turned g c =
     let i = c.loop-moved.invariant in
     let s0 = c.args.session.now in
     let s = c.loop-moved.session in
-    goes_weaker (g.H.Hub.tells c.args.hub.now) (g.H.Hub.tells c.loop-moved.hub) (Matches _ g.J.Judge.rules s0) (Matches _ g.J.Judge.rules s) c.args.k _ _
+    goes_weaker (g.N.Notes.tells c.args.notes.now c.loop-moved.notes) (g.H.Hub.tells c.args.hub.now) (g.H.Hub.tells c.loop-moved.hub) (Matches _ g.J.Judge.rules s0) (Matches _ g.J.Judge.rules s) c.args.k _ _
     (λ made a b p. (
       (λ _. begins_moved c.args.k s0 s c.loop-moved.waits c.loop-moved.moved i.goes.0 made i.goes.2 (omega (arith, c.loop-moved-test.false)) p.begins),
       (p.grows, BySession (sym c.in-Some-outcome.ensures.told) c.in-Some-outcome.ensures.own p.none_failed),
@@ -176,7 +183,7 @@ returns-in-None-clause-turned g c =
     let i = c.loop-moved.invariant in
     let s0 = c.args.session.now in
     let s = c.loop-moved.session in
-    goes_weaker (g.H.Hub.tells c.args.hub.now) (g.H.Hub.tells c.loop-moved.hub) (Matches _ g.J.Judge.rules s0) (Matches _ g.J.Judge.rules s) c.args.k _ _
+    goes_weaker (g.N.Notes.tells c.args.notes.now c.loop-moved.notes) (g.H.Hub.tells c.args.hub.now) (g.H.Hub.tells c.loop-moved.hub) (Matches _ g.J.Judge.rules s0) (Matches _ g.J.Judge.rules s) c.args.k _ _
     (λ made a b p. (
       (λ _. begins_moved c.args.k s0 s c.loop-moved.waits c.loop-moved.moved i.goes.0 made i.goes.2 (omega (arith, c.loop-moved-test.false)) p.begins),
       (p.grows, p.none_failed, omega (arith, p.amount_is, c.loop-moved-test.false), sym c.in-None.ensures.told),

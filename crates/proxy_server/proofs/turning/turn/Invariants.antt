@@ -3,7 +3,7 @@ use Rattle.gate_hub.specs.Hubs.{Later}
 use Rattle.session_core.specs.Session.{HoldsWithin}
 use Rattle.proxy_server.specs.Calling.{Wanted, piece_length}
 use Rattle.proxy_server.specs.Matching.{Matches, IsSame}
-use Rattle.proxy_server.specs.Turning.{Goes, Runs, no_waits, wanted}
+use Rattle.proxy_server.specs.Turning.{GoesTelling, Runs, no_waits, wanted}
 use Rattle.proxy_server.proofs.turning.turn.Given as goal
 
 -- so many calls moved something, the marks hold, and what was wanted first was done first
@@ -13,7 +13,7 @@ invariant-loop-moved g l =
     let rules = g.J.Judge.rules in
     let want = wanted no_waits l.fn.session in
     record {
-      goes : (first : Option Wanted) × Goes (hub.tells l.fn.hub) (hub.tells l.hub) (Matches _ rules l.fn.session) (Matches _ rules l.session) l.fn.k (Runs l.fn.k first l.moved no_waits l.waits)
+      goes : (first : Option Wanted) × GoesTelling (g.N.Notes.tells l.fn.notes l.notes) (hub.tells l.fn.hub) (hub.tells l.hub) (Matches _ rules l.fn.session) (Matches _ rules l.session) l.fn.k (Runs l.fn.k first l.moved no_waits l.waits)
           × (((l.moved ≡ 0) × (first ≡ None) × (l.session ≡ l.fn.session) × (l.waits ≡ no_waits)) ⊎ (first ≡ want));
       idle : want ≡ None → (l.session ≡ l.fn.session) × (l.waits ≡ no_waits);
       same : IsSame _ l.fn.session l.session;

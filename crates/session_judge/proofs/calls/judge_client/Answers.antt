@@ -1,4 +1,4 @@
-use Rattle.std.proofs.Common.{◌≡◌, Ok, ap, sym, ◌∙◌}
+use Rattle.std.proofs.Common.{ap, sym, ◌∙◌}
 use Rattle.translate_core.specs.declared.route.Route.TheVariants.{ByName}
 use Rattle.protocol_pairs.specs.Pairs.{judged, headed}
 use Rattle.session_judge.specs.Client.{tells_answer, of_client}

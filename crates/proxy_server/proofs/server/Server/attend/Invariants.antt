@@ -16,7 +16,7 @@ invariant-serving g l =
     record {
       limits : l.self.limits ≡ l.fn.self.limits;
       room : l.self.line.room ≡ l.fn.self.line.room;
-      goes : (x : ⊤) × Goes _ rules set (moment l.fn.hub l.fn.output) (moment l.hub l.output) (λ begun. Waits _ rules set begun l.fn.self.spent l.fn.self.sessions.items) l.self.spent l.self.sessions.items (Ok x);
+      goes : (x : ⊤) × Goes _ rules set (g.L.RefusalLines.text l.lines) (moment l.fn.hub l.fn.output) (moment l.hub l.output) (λ begun. Waits _ rules set begun l.fn.self.spent l.fn.self.sessions.items) l.self.spent l.self.sessions.items (Ok x);
       budget : l.self.spent ≤ l.fn.self.limits.events;
       later : Later (hub.counts l.fn.hub) (hub.counts l.hub);
       output_later : sink.faults l.fn.output ≤ sink.faults l.output;

@@ -4,8 +4,10 @@ use Rattle.gate_hub.specs.Meaning.{HubCall, Meaning}
 use Rattle.gate_hub.specs.Hubs.{Later}
 use Rattle.gate_hub.specs.declared.hub.HubNext.{HubNext}
 use Rattle.gate_io.specs.declared.writing.Wrote.TheVariants as wrote
-use Rattle.proxy_server.specs.Serving.{Setting, Closing, Keeps, left_lines}
-use Rattle.proxy_server.specs.Steps.{Writes, Leaves}
+use Rattle.proxy_server.specs.Saying.{Said}
+use Rattle.proxy_server.specs.Serving.{Setting, Keeps, left_lines}
+use Rattle.refusal_teller.specs.Tells.{Writes}
+use Rattle.proxy_server.specs.Steps.{Leaves}
 use Rattle.proxy_server.proofs.server.Server.leave.Given as goal
 
 -- the sessions before the place are closed, and their lines were written
@@ -21,7 +23,7 @@ invariant-leaving g l =
       within : l.at ≤ length held;
       lines : l.fn.first ≡ wrote.All → Writes l.wrote (sink.written l.fn.output) (sink.written l.output) (left_lines (take l.at held));
       none : l.fn.first ≡ wrote.Failed → (l.wrote ≡ wrote.Failed) × (l.output ≡ l.fn.output);
-      keeps : (set : Setting) (begun : Meaning) (spent : ℕ) (past : List Closing) (busy : ℕ) (last : Option HubNext) (calls : List HubCall) → Keeps (hub.tells l.fn.hub) (hub.tells l.hub) (Leaves _ rules set begun spent held past busy last calls 0) (Leaves _ rules set begun spent held past busy last calls l.at);
+      keeps : (set : Setting) (begun : Meaning) (spent : ℕ) (past : List Said) (busy : ℕ) (last : Option HubNext) (calls : List HubCall) → Keeps (hub.tells l.fn.hub) (hub.tells l.hub) (Leaves _ rules set begun spent held past busy last calls 0) (Leaves _ rules set begun spent held past busy last calls l.at);
       later : Later (hub.counts l.fn.hub) (hub.counts l.hub);
       output_later : sink.faults l.fn.output ≤ sink.faults l.output;
       cause : l.wrote ≡ wrote.Failed → (l.fn.first ≡ wrote.Failed) ⊎ Rose (sink.faults l.fn.output) (sink.faults l.output);

@@ -1,5 +1,4 @@
 use Rattle.std.proofs.Common.{◌+◌, arith, refl}
-use Rattle.gate_hub.specs.declared.hub.HubNext.TheVariants as event
 use Rattle.gate_io.proofs.Streams.{appends_none}
 use Rattle.proxy_server.specs.Working.{Awaits, Waits, IsNamed}
 use Rattle.proxy_server.specs.Steps.{outside, setting_of}
@@ -14,7 +13,7 @@ returns-in-Stopped-clause-goes g c =
     let held = c.args.self.now.sessions.items in
     let spent = c.args.self.now.spent in
     let set = setting_of (g.P.Judges.rules c.args.judges.now) c.args.self.now.limits in
-    goes_quietly _ rules set (moment c.args.hub.now c.args.output.now) (moment c.next.new.self c.args.output.now) (λ begun. Waits _ rules set begun spent held) spent held _ (appends_none _)
+    goes_quietly _ rules set (g.L.RefusalLines.text c.args.lines.now) (moment c.args.hub.now c.args.output.now) (moment c.next.new.self c.args.output.now) (λ begun. Waits _ rules set begun spent held) spent held _ (appends_none _)
     (λ begun past. stopped_on _ rules set begun spent held past (tells c.args.hub.now) (tells c.next.new.self) c.in-Stopped.ensures.leads)
 
 pub returns-in-Failed-clause-goes : goal.returns-in-Failed-clause-goes
@@ -25,7 +24,7 @@ returns-in-Failed-clause-goes g c =
     let held = c.args.self.now.sessions.items in
     let spent = c.args.self.now.spent in
     let set = setting_of (g.P.Judges.rules c.args.judges.now) c.args.self.now.limits in
-    goes_quietly _ rules set (moment c.args.hub.now c.args.output.now) (moment c.next.new.self c.args.output.now) (λ begun. Waits _ rules set begun spent held) spent held _ (appends_none _)
+    goes_quietly _ rules set (g.L.RefusalLines.text c.args.lines.now) (moment c.args.hub.now c.args.output.now) (moment c.next.new.self c.args.output.now) (λ begun. Waits _ rules set begun spent held) spent held _ (appends_none _)
     (λ begun past. failed_on _ rules set begun spent held past (tells c.args.hub.now) (tells c.next.new.self) c.in-Failed.ensures.leads)
 
 pub returns-in-Opened-clause-ends : goal.returns-in-Opened-clause-ends
@@ -49,7 +48,7 @@ returns-in-Opened-clause-goes g c =
     let spent = c.args.self.now.spent in
     let k = c.in-Opened.number in
     let set = setting_of (g.P.Judges.rules c.args.judges.now) c.args.self.now.limits in
-    goes_after _ rules set (moment c.args.hub.now c.args.output.now) (moment c.next.new.self c.args.output.now) (moment c.admit.new.hub c.admit.new.output) (λ begun. Waits _ rules set begun spent held) (λ begun. Awaits _ rules set begun (spent + 1) k held) c.admit.new.self.spent c.admit.new.self.sessions.items c.admit.result refl c.next.ensures.later
+    goes_after _ rules set (g.L.RefusalLines.text c.args.lines.now) (moment c.args.hub.now c.args.output.now) (moment c.next.new.self c.args.output.now) (moment c.admit.new.hub c.admit.new.output) (λ begun. Waits _ rules set begun spent held) (λ begun. Awaits _ rules set begun (spent + 1) k held) c.admit.new.self.spent c.admit.new.self.sessions.items c.admit.result refl c.next.ensures.later
     (λ begun past. opened_on _ rules set begun spent held past k (tells c.args.hub.now) (tells c.next.new.self) c.in-Opened.ensures.leads) c.admit.ensures.goes
 
 pub returns-in-Ready-clause-goes : goal.returns-in-Ready-clause-goes
@@ -61,5 +60,5 @@ returns-in-Ready-clause-goes g c =
     let spent = c.args.self.now.spent in
     let k = c.in-Ready.number in
     let set = setting_of (g.P.Judges.rules c.args.judges.now) c.args.self.now.limits in
-    goes_after _ rules set (moment c.args.hub.now c.args.output.now) (moment c.next.new.self c.args.output.now) (moment c.resume.new.hub c.resume.new.output) (λ begun. Waits _ rules set begun spent held) (λ begun. IsNamed _ rules set begun (spent + 1) k held) c.resume.new.self.spent c.resume.new.self.sessions.items c.resume.result refl c.next.ensures.later
+    goes_after _ rules set (g.L.RefusalLines.text c.args.lines.now) (moment c.args.hub.now c.args.output.now) (moment c.next.new.self c.args.output.now) (moment c.resume.new.hub c.resume.new.output) (λ begun. Waits _ rules set begun spent held) (λ begun. IsNamed _ rules set begun (spent + 1) k held) c.resume.new.self.spent c.resume.new.self.sessions.items c.resume.result refl c.next.ensures.later
     (λ begun past. ready_on _ rules set begun spent held past k (tells c.args.hub.now) (tells c.next.new.self) c.in-Ready.ensures.leads) (c.resume.ensures.goes set)

@@ -4,7 +4,7 @@ use Rattle.service_router.specs.Working.{inbox_in, Keeps, IsSettledBy, FitsOn}
 use Rattle.service_router.proofs.state.State.take.Given as goal
 
 abbrev pub invariant-pieces : goal.invariant-pieces
-invariant-pieces l =
+invariant-pieces g l =
     let old = l.fn.self in
     record {
       keeps : Keeps l.fn.judge old l.self;
@@ -13,8 +13,8 @@ invariant-pieces l =
       within : l.taken ≤ length l.bytes;
       start : l.taken ≡ 0 → l.self ≡ old;
       whole : length l.bytes + length (inbox_in l.port old).held ≤ old.client.limit + 4 → 0 < l.taken → l.taken ≡ length l.bytes;
-      fits : FitsOn l.fn.judge old l.self (λ h. and_received l.port h (take l.taken l.bytes));
+      fits : FitsOn l.fn.judge old l.self (g.N.Notes.tells l.fn.notes l.notes) (λ h. and_received l.port h (take l.taken l.bytes));
     }
 
 abbrev pub decreases-pieces : goal.decreases-pieces
-decreases-pieces l = length l.bytes - l.taken
+decreases-pieces g l = length l.bytes - l.taken

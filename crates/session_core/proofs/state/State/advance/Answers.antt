@@ -1,7 +1,7 @@
-use Rattle.std.proofs.Common.{◌≡◌, ◌∙◌, ap, Some, None, refl}
+use Rattle.std.proofs.Common.{◌∙◌, ap, Some, None, refl}
 use Rattle.session_core.specs.Working.{standing, limit_of, Goes, Took}
 use Rattle.session_core.proofs.Fitting.{fits_on}
-use Rattle.session_core.proofs.Keeping.{keeps_still, keeps_on, keeps_by, works_on, works_at}
+use Rattle.session_core.proofs.Keeping.{fits_quietly, fits_then, stood, keeps_still, keeps_on, keeps_by, works_on, works_at}
 use Rattle.session_core.proofs.Endings.{goes_at, outcome_at, falls}
 use Rattle.session_core.proofs.state.State.advance.Goals as goal
 
@@ -9,7 +9,7 @@ pub frames-init : goal.frames-init
 frames-init g c = record {
   keeps = keeps_still (g.J.Judge.rules c.args.judge.now) _ c.args.self.now c.requires.works;
   same = refl;
-  fits = λ h f. f;
+  fits = fits_quietly (g.J.Judge.rules c.args.judge.now) c.args.self.now c.args.self.now (g.N.Notes.tells c.args.notes.now c.args.notes.now) (λ h. h) (g.met.N.Notes.stays c.args.notes.now) (λ h past f. f);
 }
 
 pub returns-in-Some-clause-outcome : goal.returns-in-Some-clause-outcome
@@ -19,14 +19,15 @@ returns-in-Some-clause-outcome g c =
     let old = c.args.self.now in
     let s = c.frames.self in
     let t = c.step.new.self in
-    let goes : Goes rules (limit_of old) old.calls.capacity (standing s) (standing t) (Some c.in-Some.standstill) =
-    goes_at rules (g.J.Judge.rules c.frames.judge) (limit_of old) (limit_of s) old.calls.capacity s.calls.capacity (standing s) (standing t) (Some c.in-Some.standstill) (ap g.J.Judge.rules i.same) i.keeps.ready.client.limit_is i.keeps.ready.capacity c.in-Some.ensures.goes in
-    outcome_at rules (limit_of old) (limit_of t) old.calls.capacity (standing s) (standing t) c.in-Some.standstill c.ending.result goes (c.in-Some.ensures.keeps.ready.client.limit_is ∙ i.keeps.ready.client.limit_is) c.ending.ensures
+    let told = c.in-Some.ensures.goes in
+    let goes : Goes rules (limit_of old) old.calls.capacity (standing s) (standing t) told.0 (Some c.in-Some.standstill) =
+    goes_at rules (g.J.Judge.rules c.frames.judge) (limit_of old) (limit_of s) old.calls.capacity s.calls.capacity (standing s) (standing t) told.0 (Some c.in-Some.standstill) (ap g.J.Judge.rules i.same) i.keeps.ready.client.limit_is i.keeps.ready.capacity told.2 in
+    outcome_at rules (limit_of old) (limit_of t) old.calls.capacity (standing s) (standing t) told.0 c.in-Some.standstill c.ending.result goes (c.in-Some.ensures.keeps.ready.client.limit_is ∙ i.keeps.ready.client.limit_is) c.ending.ensures
 
 pub frames-smaller : goal.frames-smaller
 frames-smaller g c =
     let s = c.frames.self in
-    falls (g.J.Judge.rules c.frames.judge) (limit_of s) s.calls.capacity (standing s) (standing c.step.new.self) c.in_default.ensures.goes
+    falls (g.J.Judge.rules c.frames.judge) (limit_of s) s.calls.capacity (standing s) (standing c.step.new.self) c.in_default.ensures.goes.0 c.in_default.ensures.goes.2
 
 pub frames-preserved : goal.frames-preserved
 frames-preserved g c =
@@ -35,12 +36,14 @@ frames-preserved g c =
     let old = c.args.self.now in
     let s = c.frames.self in
     let t = c.step.new.self in
-    let goes : Took rules (limit_of old) old.calls.capacity (standing s) (standing t) =
-    goes_at rules (g.J.Judge.rules c.frames.judge) (limit_of old) (limit_of s) old.calls.capacity s.calls.capacity (standing s) (standing t) None (ap g.J.Judge.rules i.same) i.keeps.ready.client.limit_is i.keeps.ready.capacity c.in_default.ensures.goes in
+    let told = c.in_default.ensures.goes in
+    let goes : Took rules (limit_of old) old.calls.capacity (standing s) (standing t) told.0 =
+    goes_at rules (g.J.Judge.rules c.frames.judge) (limit_of old) (limit_of s) old.calls.capacity s.calls.capacity (standing s) (standing t) told.0 None (ap g.J.Judge.rules i.same) i.keeps.ready.client.limit_is i.keeps.ready.capacity told.2 in
     record {
       keeps = keeps_on rules old s t i.keeps (keeps_by _ g.J.Judge.rules c.args.judge.now c.frames.judge s t i.same c.in_default.ensures.keeps);
       same = c.in_default.ensures.same ∙ i.same;
-      fits = λ h f. fits_on rules (limit_of old) old.calls.capacity h (standing s) (standing t) goes (i.fits h f);
+      fits = fits_then rules old s t (g.N.Notes.tells c.args.notes.now c.frames.notes) (g.N.Notes.tells c.frames.notes c.step.new.notes) (g.N.Notes.tells c.args.notes.now c.step.new.notes) (λ h. h) (λ xs ys. g.met.N.Notes.follows c.args.notes.now c.frames.notes c.step.new.notes xs ys) i.fits
+          (told.0, told.1, λ h past f. fits_on rules (limit_of old) old.calls.capacity h past told.0 (standing s) (standing t) goes f);
     }
 
 pub step-requires : goal.step-requires
@@ -54,3 +57,16 @@ pub returns-in-Some-clause-keeps : goal.returns-in-Some-clause-keeps
 returns-in-Some-clause-keeps g c =
     let i = c.frames.invariant in
     keeps_on (g.J.Judge.rules c.args.judge.now) c.args.self.now c.frames.self c.step.new.self i.keeps (keeps_by _ g.J.Judge.rules c.args.judge.now c.frames.judge c.frames.self c.step.new.self i.same c.in-Some.ensures.keeps)
+
+pub returns-in-Some-clause-fits : goal.returns-in-Some-clause-fits
+returns-in-Some-clause-fits g c =
+    let i = c.frames.invariant in
+    let rules = g.J.Judge.rules c.args.judge.now in
+    let old = c.args.self.now in
+    let s = c.frames.self in
+    let t = c.step.new.self in
+    let told = c.in-Some.ensures.goes in
+    let goes : Goes rules (limit_of old) old.calls.capacity (standing s) (standing t) told.0 (Some c.in-Some.standstill) =
+    goes_at rules (g.J.Judge.rules c.frames.judge) (limit_of old) (limit_of s) old.calls.capacity s.calls.capacity (standing s) (standing t) told.0 (Some c.in-Some.standstill) (ap g.J.Judge.rules i.same) i.keeps.ready.client.limit_is i.keeps.ready.capacity told.2 in
+    fits_then rules old s t (g.N.Notes.tells c.args.notes.now c.frames.notes) (g.N.Notes.tells c.frames.notes c.step.new.notes) (g.N.Notes.tells c.args.notes.now c.step.new.notes) (λ h. h) (λ xs ys. g.met.N.Notes.follows c.args.notes.now c.frames.notes c.step.new.notes xs ys) i.fits
+    (stood rules (limit_of old) old.calls.capacity (standing s) (standing t) told.0 c.in-Some.standstill (g.N.Notes.tells c.frames.notes c.step.new.notes) goes told.1)

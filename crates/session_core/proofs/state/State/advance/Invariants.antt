@@ -8,7 +8,7 @@ invariant-frames g l =
     record {
       keeps : Keeps rules l.fn.self l.self;
       same : l.judge ≡ l.fn.judge;
-      fits : FitsOn rules l.fn.self l.self (λ h. h);
+      fits : FitsOn rules l.fn.self l.self (g.N.Notes.tells l.fn.notes l.notes) (λ h. h);
     }
 
 abbrev pub decreases-frames : goal.decreases-frames

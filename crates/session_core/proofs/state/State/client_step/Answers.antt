@@ -25,3 +25,6 @@ judge_step-requires-clause-empty g c = paid_none c.is_paid.result c.args.self.no
 
 pub returns-then-not-is_paid-clause-keeps : goal.returns-then-not-is_paid-clause-keeps
 returns-then-not-is_paid-clause-keeps g c = keeps_still (g.J.Judge.rules c.args.judge.now) _ c.args.self.now c.requires.works
+
+pub returns-then-not-is_paid-clause-told : goal.returns-then-not-is_paid-clause-told
+returns-then-not-is_paid-clause-told g c = g.met.N.Notes.stays c.args.notes.now

@@ -1,4 +1,4 @@
-use Rattle.std.proofs.Common.{◌≡◌, ◌≤◌, length, drop, arith, ap, ◌∙◌}
+use Rattle.std.proofs.Common.{◌≡◌, length, drop, arith, ap, ◌∙◌}
 use Rattle.std.proofs.lemmas.List.{length-drop}
 use Rattle.circular_buffer.specs.Buffer.{Buffer as Ring}
 use Rattle.session_core.specs.declared.judge.Call.{Call}

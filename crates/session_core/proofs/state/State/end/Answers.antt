@@ -20,9 +20,8 @@ returns-clause-settled g c =
     settled_on rules c.args.self.now c.mark_ended.new.self c.settle.new.self (keeps_ended c.args.side rules (g.J.Judge.longest c.args.judge.now) c.args.self.now c.mark_ended.new.self c.mark_ended.ensures c.requires.works) c.settle.ensures.settled
 
 pub returns-clause-fits : goal.returns-clause-fits
-returns-clause-fits g c = λ h f.
+returns-clause-fits g c =
     let rules = g.J.Judge.rules c.args.judge.now in
     let old = c.args.self.now in
-    fits_through rules old c.mark_ended.new.self c.settle.new.self (keeps_ended c.args.side rules (g.J.Judge.longest c.args.judge.now) old c.mark_ended.new.self c.mark_ended.ensures c.requires.works) c.settle.ensures.fits
-    (and_ended c.args.side h)
-    (fits_ended c.args.side rules (limit_of old) old.calls.capacity old c.mark_ended.new.self h c.mark_ended.ensures f)
+    let told = fits_through rules old c.mark_ended.new.self c.settle.new.self (g.N.Notes.tells c.args.notes.now c.settle.new.notes) (keeps_ended c.args.side rules (g.J.Judge.longest c.args.judge.now) old c.mark_ended.new.self c.mark_ended.ensures c.requires.works) c.settle.ensures.fits in
+    (told.0, told.1, λ h past f. told.2 (and_ended c.args.side h) past (fits_ended c.args.side rules (limit_of old) old.calls.capacity old c.mark_ended.new.self h past c.mark_ended.ensures f))

@@ -1,4 +1,4 @@
-use Rattle.std.proofs.Common.{◌≡◌, ◌≤◌, length, length-append, Option, Some, ◌++◌, ◌∷◌, [], List, ℕ, arith, rules, refl, sym, ◌∙◌, ap}
+use Rattle.std.proofs.Common.{◌≡◌, ◌≤◌, length, length-append, Option, Some, ◌++◌, ◌∷◌, [], List, ℕ, arith, rules, refl, sym, ◌∙◌, ap, subst}
 use Rattle.std.specs.Int.{w32}
 use mir.Val.{SFits}
 use Rattle.std.proofs.lemmas.Int.{to_z-of_z}
@@ -6,14 +6,14 @@ use Rattle.gate_io.specs.Buffer.{Buffer}
 use Rattle.circular_buffer.specs.Buffer.{Buffer as Ring}
 use Rattle.session_core.specs.declared.judge.Call.{Call}
 use Rattle.framed_transport.specs.Frames.{framed}
-use Rattle.framed_transport.specs.Front.{Part, Large}
+use Rattle.framed_transport.specs.Front.{Part, Large, front}
 use Rattle.session_core.specs.Standing.{Standing}
 use Rattle.session_core.specs.Steps.{Takes}
-use Rattle.session_core.specs.Working.{standing}
+use Rattle.session_core.specs.Working.{standing, told_if, call_front_notes}
 use Rattle.session_core.specs.declared.state.Waiting.TheVariants as waiting
 use Rattle.session_core.specs.declared.state.State.{State}
 use Rattle.session_core.specs.declared.judge.ClientJudged.TheVariants as client
-use Rattle.session_core.proofs.Moves.{looks, judges, behind_whole, pushed, after_client, refused_step, knows_nothing, found_at, found_by, knows_by}
+use Rattle.session_core.proofs.Moves.{call_told, looks, judges, behind_whole, pushed, after_client, refused_step, knows_nothing, found_at, found_by, knows_by}
 use Rattle.session_core.proofs.Keeping.{keeps_still, ready_written, ready_calling, ready_knowing, cut_within, works_at}
 use Rattle.session_core.specs.declared.state.Waiting.{Waiting}
 use Rattle.gate_hub.specs.declared.hub.Side.TheVariants as side
@@ -75,7 +75,7 @@ returns-in-Dropped-clause-comes g c =
     let rules = g.J.Judge.rules c.args.judge.now in
     let frame = c.in-Frame.frame.now in
     let rest = c.in-Frame.ensures.exact.0 in
-    let moves = judges rules c.args.self.now.client.held.limit c.args.self.now.calls.capacity s frame rest client.Dropped none few c.in-Frame.ensures.exact.1 (sym c.in-Dropped.ensures.verdict) in
+    let moves = judges rules c.args.self.now.client.held.limit c.args.self.now.calls.capacity s frame rest (client.Dropped c.in-Dropped.cause) none few c.in-Frame.ensures.exact.1 (sym c.in-Dropped.ensures.verdict) in
     let left = behind_whole c.args.self.now.client.held.limit c.args.self.now.client.held.held frame rest c.in-Frame.ensures.exact.1 in
     let out : c.cut.new.self.bytes ≡ [] = ap (λ (b : Buffer). b.bytes) c.cut.ensures in
     moves ∙ ap Takes (after_client s (standing c.count_frame-in-Dropped.new.self) _ rest _ c.args.self.now.upstream.due.bytes _ c.args.self.now.calls.items c.count_frame-in-Dropped.ensures.stands left (out ∙ sym none) refl)
@@ -178,3 +178,42 @@ returns-in-Refused-clause-keeps g c =
       ready = keeps.ready;
       known = knows_by _ g.J.Judge.rules c.args.judge.now c.judge_client.new.judge c.answer_step.new.self c.judge_client.ensures.same keeps.known;
     }
+
+-- ---- what is told
+
+pub returns-in-NeedMore-clause-told : goal.returns-in-NeedMore-clause-told
+returns-in-NeedMore-clause-told g c = g.met.N.Notes.stays c.args.notes.now
+
+pub returns-in-TooLarge-clause-told : goal.returns-in-TooLarge-clause-told
+returns-in-TooLarge-clause-told g c = g.met.N.Notes.stays c.args.notes.now
+
+pub returns-in-Halts-clause-told : goal.returns-in-Halts-clause-told
+returns-in-Halts-clause-told g c = g.met.N.Notes.stays c.args.notes.now
+
+pub returns-in-Opens-clause-told : goal.returns-in-Opens-clause-told
+returns-in-Opens-clause-told g c =
+    let s = c.args.self.now in
+    let a = c.args.notes.now in
+    subst (λ ns. g.N.Notes.tells a a ns)
+    (call_told (g.J.Judge.rules c.args.judge.now) s.client.held.limit s.client.count s.client.held.held c.in-Frame.frame.now c.in-Frame.ensures.exact.0 (client.Opens c.in-Opens.call) _ c.in-Frame.ensures.exact.1 (sym c.in-Opens.ensures.verdict) refl)
+    (g.met.N.Notes.stays a)
+
+pub returns-in-Goes-clause-told : goal.returns-in-Goes-clause-told
+returns-in-Goes-clause-told g c =
+    let s = c.args.self.now in
+    let a = c.args.notes.now in
+    subst (λ ns. g.N.Notes.tells a a ns)
+    (call_told (g.J.Judge.rules c.args.judge.now) s.client.held.limit s.client.count s.client.held.held c.in-Frame.frame.now c.in-Frame.ensures.exact.0 client.Goes _ c.in-Frame.ensures.exact.1 (sym c.in-Goes.ensures.verdict) refl)
+    (g.met.N.Notes.stays a)
+
+pub returns-in-Dropped-clause-told : goal.returns-in-Dropped-clause-told
+returns-in-Dropped-clause-told g c =
+    let s = c.args.self.now in
+    subst (λ ns. g.N.Notes.tells c.args.notes.now c.note_call.new.notes ns)
+    (call_told (g.J.Judge.rules c.args.judge.now) s.client.held.limit s.client.count s.client.held.held c.in-Frame.frame.now c.in-Frame.ensures.exact.0 (client.Dropped c.in-Dropped.cause) _ c.in-Frame.ensures.exact.1 (sym c.in-Dropped.ensures.verdict) c.next_of.ensures)
+    c.note_call.ensures
+
+pub returns-in-Refused-clause-told : goal.returns-in-Refused-clause-told
+returns-in-Refused-clause-told g c =
+    let s = c.args.self.now in
+    subst (λ j. g.N.Notes.tells c.args.notes.now c.answer_step.new.notes (told_if c.answer_step.result (call_front_notes (g.J.Judge.rules j) s.client.count (front s.client.held.limit s.client.held.held)))) c.judge_client.ensures.same c.answer_step.ensures.told

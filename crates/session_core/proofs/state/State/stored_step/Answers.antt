@@ -20,3 +20,6 @@ returns-in-Refused-clause-comes g c =
 
 pub returns-in-Refused-clause-cut : goal.returns-in-Refused-clause-cut
 returns-in-Refused-clause-cut g c = λ takes. found_cuts (g.J.Judge.rules c.args.judge.now) _ _ c.args.waiting c.requires.found
+
+pub returns-in-Halts-clause-told : goal.returns-in-Halts-clause-told
+returns-in-Halts-clause-told g c = g.met.N.Notes.stays c.args.notes.now

@@ -1,12 +1,12 @@
-use Rattle.std.proofs.Common.{◌≡◌, ◌≤◌, ◌-◌, ◌+◌, List, ℕ, length, take, drop, arith, sym, ◌∙◌, ap, subst, refl}
+use Rattle.std.proofs.Common.{◌≡◌, ◌≤◌, ◌-◌, ◌+◌, List, ℕ, [], ◌++◌, length, take, drop, arith, sym, ◌∙◌, ap, subst, refl}
 use Rattle.session_core.specs.Standing.{History}
-use Rattle.session_core.specs.Fits.{Fits}
+use Rattle.session_core.specs.Telling.{FitsTold}
 use Rattle.session_core.specs.Session.{and_came}
 use Rattle.session_core.specs.Working.{standing, limit_of, half_of, Keeps}
 use Rattle.session_core.specs.declared.half.Half.{Half}
 use Rattle.session_core.specs.declared.state.State.{State}
 use Rattle.session_core.proofs.Feeding.{take_pieces, count_within, feeds_some, feeds_whole}
-use Rattle.session_core.proofs.Keeping.{keeps_still, keeps_on, keeps_by, keeps_fed, works_on, works_at, settled_on, settled_by, fits_by, fits_through, fits_fed, limit_by, came_on, came_none}
+use Rattle.session_core.proofs.Keeping.{keeps_still, keeps_on, keeps_by, keeps_fed, works_on, works_at, settled_on, settled_by, fits_by, fits_through, fits_quietly, fits_then, fits_fed, limit_by, came_on, came_none}
 use Rattle.session_core.proofs.state.State.take.Goals as goal
 
 pub pieces-init : goal.pieces-init
@@ -17,7 +17,8 @@ pieces-init g c = record {
   within = omega arith;
   start = λ none. refl;
   whole = λ fits some. absurd (omega (arith, some));
-  fits = λ h f. subst (λ (k : History). Fits (g.J.Judge.rules c.args.judge.now) (limit_of c.args.self.now) c.args.self.now.calls.capacity k (standing c.args.self.now)) (sym (came_none c.args.side h)) f;
+  fits = fits_quietly (g.J.Judge.rules c.args.judge.now) c.args.self.now c.args.self.now (g.N.Notes.tells c.args.notes.now c.args.notes.now) (λ h. and_came c.args.side h []) (g.met.N.Notes.stays c.args.notes.now)
+      (λ h past f. subst (λ (k : History). FitsTold (g.J.Judge.rules c.args.judge.now) (limit_of c.args.self.now) c.args.self.now.calls.capacity k past (standing c.args.self.now)) (sym (came_none c.args.side h)) f);
 }
 
 pub pieces-preserved : goal.pieces-preserved
@@ -45,9 +46,16 @@ pieces-preserved g c =
       within = omega (arith, less, i.within);
       start = λ none. absurd (omega (arith, none, feeds_some bytes n count (half_of x s).held.limit (length (half_of x s).held.held) c.room.result c.pieces-test.true room c.if-room-gt0.true c.feed-taken.ensures.count));
       whole = λ fits some. feeds_whole bytes n count (limit_of old) (half_of x s).held.limit (length (half_of x old).held.held) (length (half_of x s).held.held) c.pieces-test.true c.feed-taken.ensures.count limit (λ none. ap (λ (u : State). length (half_of x u).held.held) (i.start none)) i.whole fits;
-      fits = λ h f. fits_through rules old mid t fed (fits_by _ g.J.Judge.rules c.args.judge.now c.pieces.judge mid t i.same c.settle.ensures.fits) (and_came x h (take (n + count) bytes))
-          (subst (λ (k : History). Fits rules (limit_of old) old.calls.capacity k (standing mid)) (came_on x h (take n bytes) piece ∙ ap (λ (xs : List ℕ). and_came x h xs) (take_pieces bytes n count i.within less))
-          (fits_fed x rules (limit_of old) old.calls.capacity s mid piece (and_came x h (take n bytes)) c.feed-taken.ensures.fed (i.fits h f)));
+      fits =
+          let told = fits_through rules old mid t (g.N.Notes.tells c.pieces.notes c.settle.new.notes) fed (fits_by _ g.J.Judge.rules c.args.judge.now c.pieces.judge mid t (g.N.Notes.tells c.pieces.notes c.settle.new.notes) i.same c.settle.ensures.fits) in
+          fits_then rules old mid t (g.N.Notes.tells c.args.notes.now c.pieces.notes) (g.N.Notes.tells c.pieces.notes c.settle.new.notes) (g.N.Notes.tells c.args.notes.now c.settle.new.notes) (λ h. and_came x h (take (n + count) bytes)) (λ xs ys. g.met.N.Notes.follows c.args.notes.now c.pieces.notes c.settle.new.notes xs ys) (
+            i.fits.0,
+            i.fits.1,
+            λ h past f.
+                subst (λ (k : History). FitsTold rules (limit_of old) old.calls.capacity k (past ++ i.fits.0) (standing mid)) (came_on x h (take n bytes) piece ∙ ap (λ (xs : List ℕ). and_came x h xs) (take_pieces bytes n count i.within less))
+                (fits_fed x rules (limit_of old) old.calls.capacity s mid piece (and_came x h (take n bytes)) (past ++ i.fits.0) c.feed-taken.ensures.fed (i.fits.2 h past f)),
+          )
+          told;
     }
 
 pub settle-requires : goal.settle-requires
@@ -63,3 +71,9 @@ settle-requires g c =
       works = works_at _ g.J.Judge.rules g.J.Judge.longest c.args.judge.now c.pieces.judge mid i.same
           (works_on rules longest s mid works (keeps_fed c.args.side rules longest s mid _ c.feed-taken.result c.frame_stands_at_the_front.ensures c.feed-taken.ensures.count c.feed-taken.ensures.fed works));
     }
+
+-- nothing is taken, and nothing told
+pub returns-then-half-clause-fits : goal.returns-then-half-clause-fits
+returns-then-half-clause-fits g c =
+    fits_quietly (g.J.Judge.rules c.args.judge.now) c.args.self.now c.args.self.now (g.N.Notes.tells c.args.notes.now c.args.notes.now) (λ h. and_came c.args.side h []) (g.met.N.Notes.stays c.args.notes.now)
+    (λ h past f. subst (λ (k : History). FitsTold (g.J.Judge.rules c.args.judge.now) (limit_of c.args.self.now) c.args.self.now.calls.capacity k past (standing c.args.self.now)) (sym (came_none c.args.side h)) f)

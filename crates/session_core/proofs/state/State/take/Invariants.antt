@@ -14,7 +14,7 @@ invariant-pieces g l =
       within : l.taken ≤ length l.bytes;
       start : l.taken ≡ 0 → l.self ≡ old;
       whole : length l.bytes + length (half_of l.side old).held.held ≤ limit_of old + 4 → 0 < l.taken → l.taken ≡ length l.bytes;
-      fits : FitsOn rules old l.self (λ h. and_came l.side h (take l.taken l.bytes));
+      fits : FitsOn rules old l.self (g.N.Notes.tells l.fn.notes l.notes) (λ h. and_came l.side h (take l.taken l.bytes));
     }
 
 abbrev pub decreases-pieces : goal.decreases-pieces

@@ -10,7 +10,7 @@ use Rattle.session_core.specs.Steps.{Move, Takes}
 use Rattle.session_core.specs.Working.{standing, Comes, ends_step}
 use Rattle.session_core.specs.declared.state.SessionStep.{SessionStep}
 use Rattle.session_core.specs.declared.judge.UpstreamJudged.TheVariants as upstream
-use Rattle.session_core.proofs.Moves.{paid_none, owed_some, knows_kept, asks, answers, no_call, due_first, no_reply, first_of, no_first, behind_whole, other_limit, after_upstream}
+use Rattle.session_core.proofs.Moves.{told_ends, reply_told, paid_none, owed_some, knows_kept, asks, answers, no_call, due_first, no_reply, first_of, no_first, behind_whole, other_limit, after_upstream}
 use Rattle.session_core.specs.declared.state.State.{State}
 use Rattle.gate_hub.specs.declared.hub.Side.TheVariants as side
 use Rattle.session_core.proofs.Keeping.{keeps_still, ready_written, cut_within}
@@ -82,7 +82,7 @@ returns-in-Answers-clause-comes g c =
     let whole = other_limit c.args.self.now.client.held.limit c.args.self.now.upstream.held.limit c.args.self.now.upstream.held.held (Whole frame rest) c.requires.works.ready.upstream.limit_is c.in-Frame.ensures.exact.1 in
     let left = behind_whole c.args.self.now.upstream.held.limit c.args.self.now.upstream.held.held frame rest c.in-Frame.ensures.exact.1 in
     let out : c.judge_upstream.new.out.bytes ≡ framed (rules.reply c.in-Some.field-0.now frame) = ap (λ (b : Buffer). b.bytes) c.judge_upstream.ensures.out in
-    answers rules c.args.self.now.client.held.limit s c.in-Some.field-0.now (drop 1 c.args.self.now.calls.items) frame rest upstream.Answers calls none whole (sym c.in-Answers.ensures.verdict)
+    answers rules c.args.self.now.client.held.limit s c.in-Some.field-0.now (drop 1 c.args.self.now.calls.items) frame rest (upstream.Answers c.in-Answers.refused) calls none whole (sym c.in-Answers.ensures.verdict)
     ∙ ap Takes (after_upstream s (standing c.close_call.new.self) _ rest _ (framed (rules.reply c.in-Some.field-0.now frame)) _ _ c.close_call.ensures.stands left out refl)
 
 -- ---- what is kept
@@ -118,3 +118,36 @@ returns-in-Answers-clause-keeps g c =
       ready = c.close_call.ensures.ready _ _ (ready_written side.Client s.client.held.limit s.calls.capacity s out room c.judge_upstream.ensures.within c.requires.works.ready);
       known = knows_kept (g.J.Judge.rules c.args.judge.now) mid c.close_call.new.self c.close_call.ensures.kept.0 c.close_call.ensures.kept.1 c.requires.works.known;
     }
+
+-- ---- what is told
+
+pub returns-in_default-clause-told : goal.returns-in_default-clause-told
+returns-in_default-clause-told g c = g.met.N.Notes.stays c.args.notes.now
+
+pub returns-then-not-is_paid-clause-told : goal.returns-then-not-is_paid-clause-told
+returns-then-not-is_paid-clause-told g c =
+    let a = c.args.notes.now in
+    subst (λ ns. g.N.Notes.tells a a ns) (told_ends c.upstream_ends.result _ _ _ c.upstream_ends.ensures) (g.met.N.Notes.stays a)
+
+pub returns-in-NeedMore-clause-told : goal.returns-in-NeedMore-clause-told
+returns-in-NeedMore-clause-told g c =
+    let a = c.args.notes.now in
+    subst (λ ns. g.N.Notes.tells a a ns) (told_ends c.upstream_ends-in-NeedMore.result _ _ _ c.upstream_ends-in-NeedMore.ensures) (g.met.N.Notes.stays a)
+
+pub returns-in-TooLarge-clause-told : goal.returns-in-TooLarge-clause-told
+returns-in-TooLarge-clause-told g c = g.met.N.Notes.stays c.args.notes.now
+
+pub returns-in-Halts-clause-told : goal.returns-in-Halts-clause-told
+returns-in-Halts-clause-told g c = g.met.N.Notes.stays c.args.notes.now
+
+pub returns-in-Answers-clause-told : goal.returns-in-Answers-clause-told
+returns-in-Answers-clause-told g c =
+    let s = c.args.self.now in
+    let rules = g.J.Judge.rules c.args.judge.now in
+    let frame = c.in-Frame.frame.now in
+    let rest = c.in-Frame.ensures.exact.0 in
+    let calls : s.calls.items ≡ c.in-Some.field-0.now ∷ drop 1 s.calls.items = first_of s.calls.items c.in-Some.field-0.now (sym c.in-Some.ensures) in
+    let whole = other_limit s.client.held.limit s.upstream.held.limit s.upstream.held.held (Whole frame rest) c.requires.works.ready.upstream.limit_is c.in-Frame.ensures.exact.1 in
+    subst (λ ns. g.N.Notes.tells c.args.notes.now c.note_reply.new.notes ns)
+    (reply_told rules s.client.held.limit (standing s) c.in-Some.field-0.now (drop 1 s.calls.items) frame rest c.in-Answers.refused _ calls whole (sym c.in-Answers.ensures.verdict) c.next_of.ensures)
+    c.note_reply.ensures
