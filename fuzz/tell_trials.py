@@ -24,6 +24,7 @@ import trials
 from trials import COMMAND, HOST, PROGRAM, Failed, Gateway, Upstream, answering, call, calls, ask, free_port, gateway, read_bytes, read_to_end, want
 
 TELLING = COMMAND + " --tell refused"
+ROUTING = PROGRAM + " route binary binary {listen} {target} --accept {accept} --sessions {sessions} --limit 1024 --tell refused"
 CALL, REPLY, ONEWAY = 1, 2, 4
 BAD_KIND = b"\x05"
 
@@ -222,6 +223,25 @@ def many() -> str:
     return "%d lines in %.0f s; another client waited %.0f ms at most for each of %d answers" % (count, spent, 1000 * max(waits), len(waits))
 
 
+def routed() -> str:
+    """A router tells a refused answer with its target, and a call without a route at its name."""
+    def bad(stream: socket.socket) -> None:
+        read_bytes(stream, len(Frame(CALL, b"t", 0, True).framed()))
+        stream.sendall(Frame(REPLY, b"t", 2, False).framed())
+        read_to_end(stream)
+
+    targets = "A=%s,B=%s" % (Upstream(replying).address, Upstream(bad).address)
+    gate = Gateway(targets, command=ROUTING)
+    try:
+        session(gate, [Frame(CALL, b"A:t", 1, True), Frame(CALL, b"B:t", 2, True), Frame(CALL, b"C:t", 3, True), Frame(ONEWAY, b"t", 4, True)])
+        lines = lines_of(gate, 0)
+    finally:
+        gate.stop()
+    wanted = ['answer 2:1 "t" 2: at 13: G4 bad kind', 'call 3 "C:t" 3: at 4: V1 no route', 'call 4 "t" 4: at 4: V1 no route, dropped', "clean"]
+    want(lines == ["session 0: " + text for text in wanted], "such lines: %s" % lines)
+    return "`%s`, `%s`" % (lines[0], lines[1])
+
+
 def no_output() -> str:
     """Where a refusal's line can't be written the server ends with status 5."""
     port = free_port()
@@ -252,7 +272,6 @@ def usage() -> str:
     ends = ["127.0.0.1:%d" % free_port(), "127.0.0.1:1"]
     commands = [["serve", "binary", "compact", *ends, *words.split()] for words in USAGE]
     commands += [["convert", "binary", "compact", "--tell", "refused"], ["show", "binary", "--tell", "refused"]]
-    commands += [["route", "binary", "compact", ends[0], "A=127.0.0.1:1", "--tell", "refused"]]
     for command in commands:
         done = subprocess.run(PROGRAM.split() + command, capture_output=True, text=True, timeout=10)
         want((done.returncode, done.stderr) == (2, "usage: thrift_gate check|convert|show|serve|drill|help\n"), "%r: status %d" % (command, done.returncode))
@@ -260,7 +279,7 @@ def usage() -> str:
 
 
 TRIALS: Dict[str, Callable[[], str]] = {trial.__name__: trial for trial in (
-    mixed, names, without_the_words, refused_answers, halts, no_output, usage, many)}
+    mixed, names, without_the_words, refused_answers, halts, routed, no_output, usage, many)}
 
 
 def main() -> int:

@@ -1,6 +1,5 @@
 -- An open session and its streams.
 use Rattle.std.proofs.Common.{◌≡◌, ℕ, zero, suc, ◌<◌, ◌⊎◌, inl, inr, ◌++◌, Bool, true, false, Option, None, Some, IsSome, sym, ap, ◌∙◌, subst, refl, arith}
-use Rattle.slab.specs.Slab.{get}
 use Rattle.std.specs.List.{slice_get}
 use Rattle.gate_hub.specs.Meaning.{Link, Told, Meaning, IsOpen, link_of}
 use Rattle.gate_hub.specs.declared.hub.Side.{Side}

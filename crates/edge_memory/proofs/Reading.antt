@@ -1,5 +1,5 @@
 -- A stream from which bytes were read.
-use Rattle.std.proofs.Common.{◌≡◌, ℕ, zero, suc, ◌+◌, List, [], ◌∷◌, ◌++◌, take, drop, slice_index_or, Fits, w8, refl, sym, ap, ◌∙◌, subst}
+use Rattle.std.proofs.Common.{◌≡◌, ℕ, zero, suc, ◌+◌, List, [], ◌∷◌, ◌++◌, take, drop, slice_index_or, Fits, w8, sym, ap, ◌∙◌, subst}
 use Rattle.gate_base.specs.Bytes.{AreBytes}
 use Rattle.gate_hub.specs.declared.hub.LinkGot.TheVariants as got
 use Rattle.mio_edge.specs.Wire.{Wire, WireReads, more_after}

@@ -50,9 +50,16 @@ all_settled result LastOfTurn IsUnwritten e f = absurd (cc)
 module _ (told told' : Meaning → Type 0) (counts counts' : Counts) (s : Serving) (start : Start) (m : Meaning) (known : told m) (is_fresh : IsFresh m) where
   stopped : (a b : Streams) → Serves Setting rules_of (settings s start) (told_text (telling_by s)) (served_from told counts a) (served_from told' counts' b) served.Stopped → HasServed told' s start
   stopped a b x =
-      let after = x.keeps m known is_fresh in
-      (after.0, after.1, after.2.event, λ k announced. (heard_in x.said k, each s start x.held (closings x.said) (heard_in x.said) x.busy after.0 after.2.stands
-          (after.2.left.settled (λ may. all_settled served.Stopped x.lines may refl x.answers)) k (after.2.stands.covers k announced)))
+      let after = x.keeps m known is_fresh in (
+        after.0,
+        after.1,
+        after.2.event,
+        λ k announced. (
+          heard_in x.said k,
+          each s start x.held (closings x.said) (heard_in x.said) x.busy after.0 after.2.stands
+              (after.2.left.settled (λ may. all_settled served.Stopped x.lines may refl x.answers)) k (after.2.stands.covers k announced),
+        ),
+      )
 
   spent : (a b : Streams) → Serves Setting rules_of (settings s start) (told_text (telling_by s)) (served_from told counts a) (served_from told' counts' b) served.Budget → GoesOn told'
   spent a b x =

@@ -69,7 +69,7 @@ help_text =
     ++ codes "convert FROM TO [--idl FILE] [--service NAME] [--limit F] [--lines SIDE]\n"
     ++ codes "show FROM [--idl FILE] [--service NAME] [--limit F] [--lines SIDE]\n"
     ++ codes "serve CLIENT UPSTREAM LISTEN TARGET [--idl FILE] [--service NAME] [--limit F] [--sessions N] [--accept C] [--events E] [--calls P] [--unframed SIDE] [--front KIND] [--tell refused]\n"
-    ++ codes "route CLIENT UPSTREAM LISTEN TARGETS [--idl FILE] [--limit F] [--sessions N] [--accept C] [--events E] [--calls P]\n"
+    ++ codes "route CLIENT UPSTREAM LISTEN TARGETS [--idl FILE] [--limit F] [--sessions N] [--accept C] [--events E] [--calls P] [--tell refused]\n"
     ++ codes "conform FROM --idl FILE [--service NAME] [--limit F]\n"
     ++ codes "drill SEED COUNT\n"
     ++ codes "help\n"

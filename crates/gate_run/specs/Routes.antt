@@ -1,7 +1,7 @@
 -- What a router does, from its start to its last line.
-use Rattle.std.specs.Prelude.{◌≡◌, ◌⊎◌, ℕ, length, true, false, Some, slice_get}
+use Rattle.std.specs.Prelude.{◌≡◌, ◌⊎◌, ℕ, List, length, true, false, Some, slice_get}
 use Rattle.gate_base.specs.Causes.{Rose}
-use Rattle.gate_fan.specs.Meaning.{Meaning, Started}
+use Rattle.gate_fan.specs.Meaning.{Meaning, Started, Told}
 use Rattle.gate_fan.specs.Fans.{Later, Leads, NotStarted, StartLeads}
 use Rattle.gate_fan.specs.declared.fan.Fan.{Ghosts as Fan}
 use Rattle.gate_fan.specs.declared.fan.Target.{Target}
@@ -17,6 +17,8 @@ use Rattle.route_server.specs.Serving.{IsHeld, HasClosed, is_over, Setting}
 use Rattle.route_server.specs.Steps.{Outside, Serves, outside}
 use Rattle.route_server.specs.Turning.{IsSettled}
 use Rattle.gate_words.specs.declared.routing.Routing.{Routing}
+use Rattle.session_core.specs.Notes.{Note}
+use Rattle.refusal_lines.specs.Told.{Told as Telling, told_text}
 use Rattle.gate_run.specs.Outcome.{Streams}
 use Rattle.gate_run.specs.Serving.{EndsBy}
 use Rattle.peer_addresses.specs.Names.{name_in}
@@ -32,6 +34,10 @@ routed_by r = record { listen = r.listen; targets = r.targets; accept = r.accept
 -- between whom the sessions go
 abbrev pub between : Routing → Start → Between
 between r start = record { declarations = start.schema; client = r.client; upstream = r.upstream; targets = r.targets; longest = r.limit }
+
+-- how what is told of refused frames is spelled
+abbrev pub routed_telling : Routing → Telling
+routed_telling r = record { client = r.client; upstream = r.upstream; tells = r.tells_refusals; limit = r.limit }
 
 -- the rules of each session, its most bytes of a frame and open calls, how many targets there are, how many sessions may be open,
 -- and how much may be spent
@@ -49,12 +55,12 @@ routed_setting r start = record {
 abbrev pub routed_from : {M : Type 0} → Fan M → M → Streams → Outside
 routed_from fans fan x = record { told = fans.tells fan; counts = fans.counts fan; written = x.written; faults = x.output_faults }
 
--- the fan was started with what the words say, and from there it and the output are as a router of this setting leaves them; or
--- it could not be started, and nothing was written
+-- the fan was started with what the words say, and from there it and the output are as a router of this setting leaves them, which
+-- spells the lines of refused frames so; or it could not be started, and nothing was written
 pub data RoutesAll {M : Type 0} (fans : Fan M) (r : Routing) (start : Start) (h h' : M) (a b : Streams) (ending : Ending) : Type 0 where
   Began : (mid : M) (result : Served) → b.left ≡ a.left → Later (fans.counts h) (fans.counts mid)
       → Leads (fans.tells h) (fans.tells mid) NotStarted (StartLeads (routed_by r) began.Done)
-      → Serves (routed_setting r start) (routed_from fans mid a) (routed_from fans h' b) result
+      → Serves (routed_setting r start) (told_text (routed_telling r)) (routed_from fans mid a) (routed_from fans h' b) result
       → EndsBy result (fans.counts mid).faults (fans.counts h').faults a b ending → RoutesAll fans r start h h' a b ending
   NotBegun : Leads (fans.tells h) (fans.tells h') NotStarted (StartLeads (routed_by r) began.Failed)
       → Rose (fans.counts h).faults (fans.counts h').faults → SaysLast endings.HubFault a b ending → RoutesAll fans r start h h' a b ending
@@ -68,19 +74,19 @@ pub data RoutesAll {M : Type 0} (fans : Fan M) (r : Routing) (start : Start) (h 
 abbrev pub RoutesSessions : {M O : Type 0} → Fan M → Sink O → Routing → Start → M → O → M → O → Served → Type 0
 RoutesSessions fans outputs r start fan output fan' output' result =
     let moment = outside fans.tells fans.counts outputs.written outputs.faults in
-    Serves (routed_setting r start) (moment fan output) (moment fan' output') result
+    Serves (routed_setting r start) (told_text (routed_telling r)) (moment fan output) (moment fan' output') result
 
--- a session was closed and has an outcome, or is settled
-abbrev pub EndsOrRests : Setting → ℕ → Meaning → Type 0
-EndsOrRests set k m =
-    ((o : RouteOutcome) × HasClosed set o (m.session k))
-    ⊎ ((router : Seen) × IsHeld set router (m.session k) × IsSettled router (m.session k))
+-- a session was closed and has an outcome, or is settled, and these frames of it were refused
+abbrev pub EndsOrRests : Setting → List Note → Told → Type 0
+EndsOrRests set notes t =
+    ((o : RouteOutcome) × HasClosed set o notes t)
+    ⊎ ((router : Seen) × IsHeld set router notes t × IsSettled router t)
 
 -- the fan has stopped, and so is each session that it announced
 abbrev pub HasRouted : (Meaning → Type 0) → Routing → Start → Type 0
 HasRouted told r start =
     (m : Meaning) × told m × (m.last_event ≡ Some event.Stopped)
-    × ((k : ℕ) → (m.session k).announced ≡ true → EndsOrRests (routed_setting r start) k m)
+    × ((k : ℕ) → (m.session k).announced ≡ true → (notes : List Note) × EndsOrRests (routed_setting r start) notes (m.session k))
 
 -- the fan has neither stopped nor failed
 abbrev pub RoutesOn : (Meaning → Type 0) → Type 0

@@ -13,7 +13,7 @@ check FILE
 convert FROM TO [--idl FILE] [--service NAME] [--limit F] [--lines SIDE]
 show FROM [--idl FILE] [--service NAME] [--limit F] [--lines SIDE]
 serve CLIENT UPSTREAM LISTEN TARGET [--idl FILE] [--service NAME] [--limit F] [--sessions N] [--accept C] [--events E] [--calls P] [--unframed SIDE] [--front KIND] [--tell refused]
-route CLIENT UPSTREAM LISTEN TARGETS [--idl FILE] [--limit F] [--sessions N] [--accept C] [--events E] [--calls P]
+route CLIENT UPSTREAM LISTEN TARGETS [--idl FILE] [--limit F] [--sessions N] [--accept C] [--events E] [--calls P] [--tell refused]
 conform FROM --idl FILE [--service NAME] [--limit F]
 drill SEED COUNT
 help

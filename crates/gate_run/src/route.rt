@@ -14,6 +14,7 @@ use gate_hub::{Began, Served};
 use gate_io::{Files, Sink};
 use gate_words::{Declared, GREATEST_LIMIT, MOST_CALLS, Routing};
 use peer_addresses::name_in;
+use refusal_lines::Telling;
 use route_server::route_serve;
 use session_judge::Setup;
 use std::alloc::Global;
@@ -110,6 +111,12 @@ fn route_started<O: Sink, G: Fan>(
         limit: routing.limit as usize,
         calls: routing.calls as usize,
     };
+    let telling = Telling::new(
+        routing.client,
+        routing.upstream,
+        routing.tells_refusals,
+        routing.limit as usize,
+    );
     let targets = routing.targets.as_slice();
     let sessions = routing.sessions as usize;
     route_serve(
@@ -118,6 +125,7 @@ fn route_started<O: Sink, G: Fan>(
         targets,
         sessions,
         routing.events,
+        &telling,
         fan,
         output,
     )

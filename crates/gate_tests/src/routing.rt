@@ -7,8 +7,17 @@ use gate_memory::{FanStep, FanSteps, MemFan};
 use std::alloc::Global;
 use std::test::*;
 
-/// A router of Binary clients to two services that speak Compact.
-const LINE: &[u8] = b"route binary compact 127.0.0.1:1 Calc=127.0.0.1:2,Log=127.0.0.1:3";
+/// A router of Binary clients to two services that speak Compact, and what it writes of the calls below; the second tells refusals.
+const LINES: [(&[u8], &[u8]); 2] = [
+    (
+        b"route binary compact 127.0.0.1:1 Calc=127.0.0.1:2,Log=127.0.0.1:3",
+        b"session 0: clean\n",
+    ),
+    (
+        b"route binary compact 127.0.0.1:1 Calc=127.0.0.1:2,Log=127.0.0.1:3 --tell refused",
+        b"session 0: call 3 \"X:c\" 3: at 4: V1 no route\nsession 0: clean\n",
+    ),
+];
 
 /// The calls `Log:a` 1, `Calc:b` 2 and `X:c` 3, framed.
 const CALLS: &[u8] =
@@ -26,14 +35,13 @@ const OF_CALC: &[u8] = b"\0\0\0\x06\x82\x41\x02\x01b\0";
 
 const OF_LOG: &[u8] = b"\0\0\0\x06\x82\x41\x01\x01a\0";
 
-/// Words that name no router: a target twice, a name with a colon, no name, an address of three octets, and options that a router doesn't have.
-const NO_ROUTERS: [&[u8]; 6] = [
+/// Words that name no router: a target twice, a name with a colon, no name, an address of three octets, and an option of one upstream.
+const NO_ROUTERS: [&[u8]; 5] = [
     b"route binary compact 127.0.0.1:1 A=127.0.0.1:2,A=127.0.0.1:3",
     b"route binary compact 127.0.0.1:1 A:B=127.0.0.1:2",
     b"route binary compact 127.0.0.1:1 =127.0.0.1:2",
     b"route binary compact 127.0.0.1:1 A=127.0.0:2",
     b"route binary compact 127.0.0.1:1 A=127.0.0.1:2 --service A",
-    b"route binary compact 127.0.0.1:1 A=127.0.0.1:2 --tell refused",
 ];
 
 fn arrival(alloc: Global, port: usize, bytes: &[u8]) -> Result<FanStep, OutOfMemory> {
@@ -68,31 +76,45 @@ fn with_steps(alloc: Global, chunk: usize) -> Result<Outside, OutOfMemory>
     Ok(outside)
 }
 
-/// Whether each port was sent what is due to it.
-fn was_sent_all(outside: &Outside) -> bool {
-    outside.output.bytes() == b"session 0: clean\n".as_slice()
+/// Whether each port was sent what is due to it, and this was written.
+fn was_sent_all(outside: &Outside, output: &[u8]) -> bool {
+    outside.output.bytes() == output
         && outside.fan.sent_to(0, 0) == ANSWERS
         && outside.fan.sent_to(0, 1) == TO_CALC
         && outside.fan.sent_to(0, 2) == TO_LOG
 }
 
-fn sends_all(alloc: Global, outside: &mut Outside) -> Result<bool, OutOfMemory> {
-    let code = run_line(alloc, LINE, outside)?;
-    Ok(code == 0 && was_sent_all(outside))
+fn sends_all(
+    alloc: Global,
+    line: &[u8],
+    output: &[u8],
+    outside: &mut Outside,
+) -> Result<bool, OutOfMemory> {
+    let code = run_line(alloc, line, outside)?;
+    Ok(code == 0 && was_sent_all(outside, output))
 }
 
-fn is_routed(alloc: Global, chunk: usize) -> Result<bool, OutOfMemory>
+fn is_routed(
+    alloc: Global,
+    line: &[u8],
+    output: &[u8],
+    chunk: usize,
+) -> Result<bool, OutOfMemory>
     requires { 0 < chunk }
 {
     let mut outside = with_steps(alloc, chunk)?;
-    sends_all(alloc, &mut outside)
+    sends_all(alloc, line, output, &mut outside)
 }
 
 #[test]
 fn calls_go_to_the_target_of_their_service(rt: HostRuntime) -> Result<(), Fail> {
-    for chunk in [1, 4096] {
-        let is_routed = is_routed(rt.alloc(), chunk).ok().ok_or("memory")?;
-        assert!(rt; is_routed, "{chunk}");
+    for (line, output) in LINES {
+        for chunk in [1, 4096] {
+            let is_routed = is_routed(rt.alloc(), line, output, chunk)
+                .ok()
+                .ok_or("memory")?;
+            assert!(rt; is_routed, "{line:?} {chunk}");
+        }
     }
     Ok(())
 }

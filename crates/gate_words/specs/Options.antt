@@ -119,7 +119,7 @@ is_server_alone o = is_some o.sessions || is_some o.accept || is_some o.events |
 
 -- whether an option stands that a router doesn't have
 abbrev pub is_for_one_upstream : Options → Bool
-is_for_one_upstream o = is_some o.service || is_some o.unframed || is_some o.front || is_some o.lines || o.tells_refusals
+is_for_one_upstream o = is_some o.service || is_some o.unframed || is_some o.front || is_some o.lines
 
 -- with one option more
 unfoldable pub with_option : Options → List ℕ → List ℕ → Option Options

@@ -35,6 +35,7 @@ routing_of ends o = record {
   accept = or_else 0 o.accept;
   events = or_else MOST_EVENTS o.events;
   calls = or_else DEFAULT_CALLS o.calls;
+  tells_refusals = o.tells_refusals;
 }
 
 abbrev pub route_as : RouteEnds → Options → Option Command

@@ -58,7 +58,7 @@ pub enum Command {
     Show(Showing, Declared),
     /// `serve CLIENT UPSTREAM LISTEN TARGET [--idl FILE] [--service NAME] [--limit F] [--sessions N] [--accept C] [--events E] [--calls P] [--unframed SIDE] [--front KIND] [--tell refused]`
     Serve(Serving, Declared),
-    /// `route CLIENT UPSTREAM LISTEN TARGETS [--idl FILE] [--limit F] [--sessions N] [--accept C] [--events E] [--calls P]`
+    /// `route CLIENT UPSTREAM LISTEN TARGETS [--idl FILE] [--limit F] [--sessions N] [--accept C] [--events E] [--calls P] [--tell refused]`
     Route(Routing, Declared),
     /// `conform FROM --idl FILE [--service NAME] [--limit F]`
     Conform(Conforming, Declared),

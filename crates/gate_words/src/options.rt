@@ -300,8 +300,7 @@ impl Options {
             || self.front.is_some()
     }
 
-    /// Whether an option stands that a router doesn't have: its services are its targets, its peers send frames and no lines, and
-    /// it tells no refusals.
+    /// Whether an option stands that a router doesn't have: its services are its targets, and its peers send frames and no lines.
     pub fn is_for_one_upstream(&self) -> bool
         ensures { result ≡ is_for_one_upstream self.now }
     {
@@ -309,7 +308,6 @@ impl Options {
             || self.unframed.is_some()
             || self.front.is_some()
             || self.lines.is_some()
-            || self.tells_refusals
     }
 }
 

@@ -37,6 +37,8 @@ pub struct Routing {
     pub events: u64,
     /// The most open calls of a session.
     pub calls: u32,
+    /// Whether each refusal is told.
+    pub tells_refusals: bool,
 }
 
 /// The address and targets of a router, and the protocols on both sides.
@@ -129,6 +131,7 @@ fn route_as(ends: RouteEnds, options: Options) -> Option<Command>
         accept: options.accept.unwrap_or(0),
         events: options.events.unwrap_or(MOST_EVENTS),
         calls: options.calls.unwrap_or(DEFAULT_CALLS),
+        tells_refusals: options.tells_refusals,
     };
     let declared = Declared {
         idl: options.idl,

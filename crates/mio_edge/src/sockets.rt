@@ -412,9 +412,7 @@ impl<W: Network> Sockets<W> {
 
     // Counts a fault of `start` or `next`.
     fn count_fault(&mut self)
-        ensures keeps { Stays (SocketsTell W.is_telling W.Stream.tells self.old) (SocketsTell W.is_telling W.Stream.tells self.new) }
-        ensures announced { self.new.announced ≡ self.old.announced }
-        ensures accept { self.new.accept ≡ self.old.accept }
+        ensures others { self.new ≡ record self.old { faults = self.new.faults } }
         ensures later { self.old.faults ≤ self.new.faults }
         ensures cause { Rose self.old.faults self.new.faults }
     {

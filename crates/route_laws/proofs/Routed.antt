@@ -7,7 +7,7 @@ use Rattle.std.specs.Prelude.{nat_eq}
 use Rattle.gate_fan.specs.Meaning.{Told, Meaning}
 use Rattle.gate_fan.specs.declared.fan.Target.{Target}
 use Rattle.gate_hub.specs.declared.hub.Served.{Served}
-use Rattle.gate_hub.specs.declared.hub.Served.TheVariants as served
+use Rattle.session_core.specs.Notes.{Note}
 use Rattle.translate_core.specs.Methods.{target_for, target_of_name}
 use Rattle.session_core.specs.Stands.{sent_on}
 use Rattle.session_core.specs.declared.judge.ClientJudged.{ClientJudged}
@@ -29,8 +29,9 @@ use Rattle.service_router.specs.All.{Terms as Judged, FitsBy, AllOfClient, AllAn
 use Rattle.service_router.specs.declared.outcome.RouteOutcome.{RouteOutcome}
 use Rattle.route_server.specs.Matching.{history_of}
 use Rattle.route_server.specs.Turning.{IsSettled}
-use Rattle.route_server.specs.Serving.{Setting, Entry, Closing, IsHeld, IsOutcome, NotOpened, LinkFailed, OfItself, IsAmong, IsOpenOne, IsEndedOne}
-use Rattle.route_server.specs.Steps.{CanRoute, Passage, ServesBy, Ending, LinesEnd}
+use Rattle.route_server.specs.Saying.{Said, closings, heard_in}
+use Rattle.route_server.specs.Serving.{Setting, Entry, IsHeld, IsOutcome, NotOpened, LinkFailed, OfItself, IsAmong, IsOpenOne, IsEndedOne}
+use Rattle.route_server.specs.Steps.{CanRoute, Passage, ServesBy, Ending, LinesEnd, MayBeUnsettled}
 use Rattle.route_laws.specs.Routed.{Given, setting_for, IsRouted, IsWritable, Course, NeverOpened, Broken, CameToAnEnd, LeftOpen, HasCourse, RoutesAll}
 use Rattle.route_laws.proofs.Still.{still_by}
 
@@ -113,14 +114,14 @@ routed_by laws t h s fits = record { targets = λ all u. laws.targets t h s all 
 abbrev judged_on : (g : Given) → CanRoute g.setup g.targets → Judged
 judged_on g good = record { rules = rules_for g.setup g.targets; limit = g.setup.limit; max_calls = g.setup.calls; small = omega (arith, good.small) }
 
-held_fits : (set : Setting) (r : Seen) (told : Told) → IsHeld set r told → Fits set.rules set.limit set.max_calls (history_of told) r.standing
-held_fits set r told h =
+held_fits : (set : Setting) (r : Seen) (notes : List Note) (told : Told) → IsHeld set r notes told → Fits set.rules set.limit set.max_calls (history_of told) r.standing
+held_fits set r notes told h =
     subst (λ (rules : RouteRules). Fits rules set.limit set.max_calls (history_of told) r.standing) h.judged
     (subst (λ (n : ℕ). Fits (rules_in r) n set.max_calls (history_of told) r.standing) h.limited
-    (subst (λ (n : ℕ). Fits (rules_in r) r.limit n (history_of told) r.standing) h.calls h.matches.told.fits))
+    (subst (λ (n : ℕ). Fits (rules_in r) r.limit n (history_of told) r.standing) h.calls h.matches.fits.fits))
 
-held_rest : (set : Setting) (r : Seen) (told : Told) → IsHeld set r told → IsAtRest set.rules set.limit set.max_calls r.standing r.outcome
-held_rest set r told h =
+held_rest : (set : Setting) (r : Seen) (notes : List Note) (told : Told) → IsHeld set r notes told → IsAtRest set.rules set.limit set.max_calls r.standing r.outcome
+held_rest set r notes told h =
     subst (λ (rules : RouteRules). IsAtRest rules set.limit set.max_calls r.standing r.outcome) h.judged
     (subst (λ (n : ℕ). IsAtRest (rules_in r) n set.max_calls r.standing r.outcome) h.limited
     (subst (λ (n : ℕ). IsAtRest (rules_in r) r.limit n r.standing r.outcome) h.calls h.matches.rest))
@@ -129,19 +130,19 @@ but_never : {A B : Type 0} → A ⊎ B → (B → ⊥) → A
 but_never (inl a) never = a
 but_never (inr b) never = absurd (never b)
 
-open_course : Laws → (g : Given) (good : CanRoute g.setup g.targets) (result : Served) (r : Seen) (told : Told) → IsHeld (setting_for g) r told → ((result ≡ served.Budget → ⊥) → IsSettled r told) → Course (judged_on g good) result told None
-open_course laws g good result r told h settled = LeftOpen (routed_by laws t (history_of told) r.standing fits) paid
+open_course : Laws → (g : Given) (good : CanRoute g.setup g.targets) (result : Served) (lines : LinesEnd) (r : Seen) (notes : List Note) (told : Told) → IsHeld (setting_for g) r notes told → ((MayBeUnsettled result lines → ⊥) → IsSettled r told) → Course (judged_on g good) result lines told None
+open_course laws g good result lines r notes told h settled = LeftOpen (routed_by laws t (history_of told) r.standing fits) paid
   where
     t : Judged
     t = judged_on g good
 
     fits : FitsBy t (history_of told) r.standing
-    fits = held_fits (setting_for g) r told h
+    fits = held_fits (setting_for g) r notes told h
 
-    paid : (result ≡ served.Budget → ⊥) → IsWritable told → AllWasSent t (history_of told)
+    paid : (MayBeUnsettled result lines → ⊥) → IsWritable told → AllWasSent t (history_of told)
     paid unspent writable = laws.paid t (history_of told) r.standing good.some (record {
       fits = fits;
-      rest = subst (λ (o : Option RouteOutcome). IsAtRest t.rules t.limit t.max_calls r.standing o) s.going (held_rest (setting_for g) r told h);
+      rest = subst (λ (o : Option RouteOutcome). IsAtRest t.rules t.limit t.max_calls r.standing o) s.going (held_rest (setting_for g) r notes told h);
       to_client = none 0 (omega arith);
       to_upstream = nothing_toward (routing_of g.setup g.targets) g.setup.limit g.setup.calls (history_of told) r.standing fits none;
     })
@@ -152,47 +153,47 @@ open_course laws g good result r told h settled = LeftOpen (routed_by laws t (hi
         none : (x : ℕ) → x ≤ length g.targets → due_to x r.standing ≡ []
         none x within = but_never (s.writes x (omega (arith, within, h.targets))) (writable x)
 
-ended_course : Laws → (g : Given) (good : CanRoute g.setup g.targets) (result : Served) (o : RouteOutcome) (told : Told) → IsOutcome (setting_for g) o told → Course (judged_on g good) result told (Some o)
-ended_course laws g good result o told (NotOpened why none calm) = NeverOpened o why none
-ended_course laws g good result o told (LinkFailed x s is failed calm fits) =
-    subst (λ (p : RouteOutcome). Course (judged_on g good) result told (Some p)) (sym is) (Broken x failed (routed_by laws (judged_on g good) (history_of told) s fits))
-ended_course laws g good result o told (OfItself s is calm fits) =
-    CameToAnEnd o s fits (laws.says (judged_on g good) (history_of told) s o fits (record { still = rests (rules_for g.setup g.targets).judging g.setup.limit g.setup.calls s o is; outcome_is = sym is })) (routed_by laws (judged_on g good) (history_of told) s fits)
+ended_course : Laws → (g : Given) (good : CanRoute g.setup g.targets) (result : Served) (lines : LinesEnd) (o : RouteOutcome) (notes : List Note) (told : Told) → IsOutcome (setting_for g) o notes told → Course (judged_on g good) result lines told (Some o)
+ended_course laws g good result lines o notes told (NotOpened why quiet none calm) = NeverOpened o why none
+ended_course laws g good result lines o notes told (LinkFailed x s is failed calm fits) =
+    subst (λ (p : RouteOutcome). Course (judged_on g good) result lines told (Some p)) (sym is) (Broken x failed (routed_by laws (judged_on g good) (history_of told) s fits.fits))
+ended_course laws g good result lines o notes told (OfItself s is calm fits) =
+    CameToAnEnd o s fits.fits (laws.says (judged_on g good) (history_of told) s o fits.fits (record { still = rests (rules_for g.setup g.targets).judging g.setup.limit g.setup.calls s o is; outcome_is = sym is })) (routed_by laws (judged_on g good) (history_of told) s fits.fits)
 
 -- ---- all sessions
 
-course_at : Laws → (g : Given) (good : CanRoute g.setup g.targets) (result : Served) (lines : LinesEnd) (held : List Entry) (ended : List Closing) (busy : ℕ) (m n : Meaning) → Ending (setting_for g) result lines held ended busy m n → (k : ℕ) → (n.session k).announced ≡ true → HasCourse (judged_on g good) result held ended n k
-course_at laws g good result lines held ended busy m n end k announced = by (end.stands.covers k announced)
+course_at : Laws → (g : Given) (good : CanRoute g.setup g.targets) (result : Served) (lines : LinesEnd) (held : List Entry) (said : List Said) (busy : ℕ) (m n : Meaning) → Ending (setting_for g) result lines held said busy m n → (k : ℕ) → (n.session k).announced ≡ true → HasCourse (judged_on g good) result lines held (closings said) n k
+course_at laws g good result lines held said busy m n end k announced = by (end.stands.covers k announced)
   where
     t : Judged
     t = judged_on g good
 
-    among : IsAmong k held ended → HasCourse t result held ended n k
+    among : IsAmong k held (closings said) → HasCourse t result lines held (closings said) n k
     among (IsOpenOne i e p q) = (
       None,
       (i, e, p, q),
-      subst (λ (j : ℕ). Course t result (n.session j) None) q (open_course laws g good result e.router (n.session e.number) (end.stands.each i e p) (λ unspent. end.left.settled unspent i e p)),
+      subst (λ (j : ℕ). Course t result lines (n.session j) None) q (open_course laws g good result lines e.router (heard_in said e.number) (n.session e.number) (end.stands.each i e p) (λ unspent. end.left.settled unspent i e p)),
     )
     among (IsEndedOne i c p q) = (
       Some c.1,
       (i, c, p, q, refl),
-      subst (λ (j : ℕ). Course t result (n.session j) (Some c.1)) q (ended_course laws g good result c.1 (n.session c.0) (end.stands.ended i c p).why),
+      subst (λ (j : ℕ). Course t result lines (n.session j) (Some c.1)) q (ended_course laws g good result lines c.1 (heard_in said c.0) (n.session c.0) (end.stands.ended i c p).why),
     )
 
-    by : ⊥ ⊎ IsAmong k held ended → HasCourse t result held ended n k
+    by : ⊥ ⊎ IsAmong k held (closings said) → HasCourse t result lines held (closings said) n k
     by (inl never) = absurd never
     by (inr x) = among x
 
-pub routes : Laws → (g : Given) (way : Passage) (result : Served) → CanRoute g.setup g.targets → ServesBy (setting_for g) way result → RoutesAll g way result
-routes laws g way result good serves = record {
+pub routes : Laws → (g : Given) (text : ℕ → Note → List ℕ) (way : Passage) (result : Served) → CanRoute g.setup g.targets → ServesBy (setting_for g) text way result → RoutesAll g text way result
+routes laws g text way result good serves = record {
   judged = judged_on g good;
   are_judged = record { rules = refl; limit = refl; max_calls = refl };
   held = serves.held;
-  ended = serves.ended;
+  said = serves.said;
   lines = serves.lines;
   writes = serves.writes;
   answers = serves.answers;
   sessions = λ m told fresh.
       let r = serves.keeps m told fresh in
-      (r.0, r.1, λ k announced. course_at laws g good result serves.lines serves.held serves.ended serves.busy m r.0 r.2 k announced);
+      (r.0, r.1, λ k announced. course_at laws g good result serves.lines serves.held serves.said serves.busy m r.0 r.2 k announced);
 }

@@ -9,7 +9,8 @@ use Rattle.gate_fan.specs.Fans.{Counts, Later}
 use Rattle.service_router.specs.declared.outcome.RouteOutcome.{RouteOutcome}
 use Rattle.service_router.specs.declared.outcome.RouteOutcome.TheVariants as outcome
 use Rattle.route_server.specs.Calling.{closing_of, closings_of, ArePieces, EndsFailing, FailsLast}
-use Rattle.route_server.specs.Serving.{Entry, Closing, ended_numbers, held_numbers, IsClosedInOrder, IsJustClosed, AreCounted}
+use Rattle.route_server.specs.Saying.{Closing}
+use Rattle.route_server.specs.Serving.{Entry, ended_numbers, held_numbers, IsClosedInOrder, IsJustClosed, AreCounted}
 use Rattle.route_server.specs.Steps.{closing_calls}
 use Rattle.route_server.proofs.Places.{some_same, behind_cases}
 

@@ -26,14 +26,15 @@ use Rattle.session_core.specs.Steps.{is_none}
 use Rattle.session_core.proofs.Endings.{is_none_tests}
 use Rattle.route_server.specs.Calling.{piece_length, IsPiece, ArePieces, Fails, EndsFailing, Wanted, ToWrite, ToRead}
 use Rattle.route_server.specs.Matching.{history_of, Matches, MatchesOn}
-use Rattle.route_server.specs.Turning.{Begins, wanted, to_write, to_read, room_in, or_else, first_of, first_port, write_waits, read_waits, with_write, with_read, IsMarked, KeepsMarks, link_amount, amount_below, Grows, AllGrow, NoneFailed, Runs, Breaks, Goes, HasFailed, CallDoes, IsWritten, IsRead, AreDone, AllDone, IsQuiet, IsSettled, ReadsNoMore, HasEnded, IsNotReady, HoldsFrame, no_waits}
+use Rattle.route_server.specs.Turning.{Begins, wanted, to_write, to_read, room_in, or_else, first_of, first_port, write_waits, read_waits, with_write, with_read, IsMarked, KeepsMarks, link_amount, amount_below, Grows, AllGrow, NoneFailed, Runs, Breaks, Goes, GoesTelling, HasFailed, CallDoes, IsWritten, IsRead, AreDone, AllDone, IsQuiet, IsSettled, ReadsNoMore, HasEnded, IsNotReady, HoldsFrame, no_waits, TurnDoes}
 use Rattle.route_server.specs.declared.waiting.Waits.{Waits}
+use Rattle.route_server.specs.declared.turn_end.RouteTurn.{RouteTurn}
 
 -- ---- the router
 
 -- a history that is the same at each port
-pub matches_as : (r : Seen) (h k : History) → ((port : ℕ) → k.received port ≡ h.received port) → ((port : ℕ) → k.sent port ≡ h.sent port) → ((port : ℕ) → k.ended port ≡ h.ended port) → Matches r h → Matches r k
-matches_as r h k received sent ends m = record { notes = m.notes; told = fits_as (rules_in r) r.limit r.max_calls h k m.notes r.standing received sent ends m.told; rest = m.rest }
+pub matches_as : (r : Seen) (past : List Note) (h k : History) → ((port : ℕ) → k.received port ≡ h.received port) → ((port : ℕ) → k.sent port ≡ h.sent port) → ((port : ℕ) → k.ended port ≡ h.ended port) → Matches r past h → Matches r past k
+matches_as r past h k received sent ends m = record { fits = fits_as (rules_in r) r.limit r.max_calls h k past r.standing received sent ends m.fits; rest = m.rest }
 
 -- by a router that is the same
 told_at : (r r' : Routing) (limit limit' max_calls max_calls' : ℕ) (h : History) (notes : List Note) (s : Standing) → r' ≡ r → limit' ≡ limit → max_calls' ≡ max_calls → FitsTold (rules_of r) limit max_calls h notes s → FitsTold (rules_of r') limit' max_calls' h notes s
@@ -44,12 +45,15 @@ rest_at : (r r' : Routing) (limit limit' max_calls max_calls' : ℕ) (s : Standi
 rest_at r r' limit limit' max_calls max_calls' s o a b d f =
     subst (λ (q : Routing). IsAtRest (rules_of q) limit' max_calls' s o) (sym a) (subst (λ (n : ℕ). IsAtRest (rules_of r) n max_calls' s o) (sym b) (subst (λ (n : ℕ). IsAtRest (rules_of r) limit n s o) (sym d) f))
 
-pub matches_later : (old new : Seen) (tells : List Note → Type 0) (on : History → History) → IsSame old new → RestsBy old new → FitsAndTells old new tells on → MatchesOn old new on
-matches_later old new tells on same rest fits h m = record {
-  notes = m.notes ++ fits.0;
-  told = told_at old.routing new.routing old.limit new.limit old.max_calls new.max_calls (on h) (m.notes ++ fits.0) new.standing same.routing same.limit same.max_calls (fits.2 h m.notes m.told);
-  rest = rest_at old.routing new.routing old.limit new.limit old.max_calls new.max_calls new.standing new.outcome same.routing same.limit same.max_calls rest;
-}
+pub matches_later : (old new : Seen) (tells : List Note → Type 0) (on : History → History) → IsSame old new → RestsBy old new → FitsAndTells old new tells on → MatchesOn old new tells on
+matches_later old new tells on same rest fits = (
+  fits.0,
+  fits.1,
+  λ past h m. record {
+    fits = told_at old.routing new.routing old.limit new.limit old.max_calls new.max_calls (on h) (past ++ fits.0) new.standing same.routing same.limit same.max_calls (fits.2 h past m.fits);
+    rest = rest_at old.routing new.routing old.limit new.limit old.max_calls new.max_calls new.standing new.outcome same.routing same.limit same.max_calls rest;
+  },
+)
 
 pub all_taken : (n : ℕ) (bytes : List ℕ) → n ≡ length bytes → take n bytes ≡ bytes
 all_taken n bytes is = take_all n bytes (omega (arith, is))
@@ -136,6 +140,29 @@ goes_weaker told told' matches matches' k P Q by p = λ m tells open_at fit.
       first.2,
       record { made = a.made; calls = a.calls; pieces = a.pieces; session = by a.made (m.session k) (first.0.session k) a.session; others = a.others; started = a.started; last_event = a.last_event; events = a.events },
     )
+
+-- ---- with what is told
+
+-- what was told, and then that
+abbrev pub Follows : (List Note → Type 0) → (List Note → Type 0) → (List Note → Type 0) → Type 0
+Follows tells tells' tells'' = (xs ys : List Note) → tells xs → tells' ys → tells'' (xs ++ ys)
+
+pub telling_on : (tells tells' tells'' : List Note → Type 0) (told told' told'' : Meaning → Type 0) (ms ms' ms'' : List Note → History → Type 0) (k : ℕ) (P Q Both : List FanCall → Told → Told → Type 0) → Follows tells tells' tells'' → ((past mid last : List Note) → Goes told told' (ms past) (ms' mid) k P → Goes told' told'' (ms' mid) (ms'' last) k Q → Goes told told'' (ms past) (ms'' last) k Both) → GoesTelling tells told told' ms ms' k P → GoesTelling tells' told' told'' ms' ms'' k Q → GoesTelling tells'' told told'' ms ms'' k Both
+telling_on tells tells' tells'' told told' told'' ms ms' ms'' k P Q Both follows join p q = (
+  p.0 ++ q.0,
+  follows p.0 q.0 p.1 q.1,
+  λ past. subst (λ (ns : List Note). Goes told told'' (ms past) (ms'' ns) k Both) (append_assoc past p.0 q.0) (join past (past ++ p.0) ((past ++ p.0) ++ q.0) (p.2 past) (q.2 (past ++ p.0))),
+)
+
+pub telling_by : (tells : List Note → Type 0) (told told' : Meaning → Type 0) (ms ms' : List Note → History → Type 0) (k : ℕ) (P Q : List FanCall → Told → Told → Type 0) → ((past last : List Note) → Goes told told' (ms past) (ms' last) k P → Goes told told' (ms past) (ms' last) k Q) → GoesTelling tells told told' ms ms' k P → GoesTelling tells told told' ms ms' k Q
+telling_by tells told told' ms ms' k P Q by p = (p.0, p.1, λ past. by past (past ++ p.0) (p.2 past))
+
+pub telling_none : (tells : List Note → Type 0) (told told' : Meaning → Type 0) (ms ms' : List Note → History → Type 0) (k : ℕ) (P : List FanCall → Told → Told → Type 0) → tells [] → ((past : List Note) → Goes told told' (ms past) (ms' past) k P) → GoesTelling tells told told' ms ms' k P
+telling_none tells told told' ms ms' k P stays go = ([], stays, λ past. subst (λ (ns : List Note). Goes told told' (ms past) (ms' ns) k P) (sym (append-nil past)) (go past))
+
+-- by how the turn ended
+pub turn_is : (tells : List Note → Type 0) (told told' : Meaning → Type 0) (ms ms' : List Note → History → Type 0) (k : ℕ) (router : Seen) (r t : RouteTurn) → r ≡ t → GoesTelling tells told told' ms ms' k (TurnDoes k router r) → GoesTelling tells told told' ms ms' k (TurnDoes k router t)
+turn_is tells told told' ms ms' k router r t is p = subst (λ (x : RouteTurn). GoesTelling tells told told' ms ms' k (TurnDoes k router x)) is p
 
 -- ---- what is wanted first
 
@@ -379,14 +406,14 @@ but_here x new f g here others y = at (nat_eq y x) refl
 
 -- ---- each call of a turn
 
-pub took : (k targets : ℕ) (first : Option Wanted) (call : FanCall) (x : ℕ) (from : List ℕ) (n : ℕ) (w : Waits) (r r' : Seen) (s t : Told) → Begins k first (call ∷ []) → x ≤ targets → 0 < n → n ≤ length from → write_waits w x ≡ false → ((h : History) → Matches r h → Matches r' (and_sent x h (take n from))) → Matches r (history_of s) → AtPort x (LinkWrites from (put.Took n)) s t → Runs k targets first 1 w w (call ∷ []) s t × Matches r' (history_of t)
-took k targets first call x from n w r r' s t begins port some within free by fit does =
+pub took : (k targets : ℕ) (first : Option Wanted) (call : FanCall) (x : ℕ) (from : List ℕ) (n : ℕ) (w : Waits) (r r' : Seen) (past past' : List Note) (s t : Told) → Begins k first (call ∷ []) → x ≤ targets → 0 < n → n ≤ length from → write_waits w x ≡ false → ((h : History) → Matches r past h → Matches r' past' (and_sent x h (take n from))) → Matches r past (history_of s) → AtPort x (LinkWrites from (put.Took n)) s t → Runs k targets first 1 w w (call ∷ []) s t × Matches r' past' (history_of t)
+took k targets first call x from n w r r' past past' s t begins port some within free by fit does =
     let a = s.link x in
     let after : Link = record a { sent = a.sent ++ take n from; last_write = Some (put.Took n) } in
     let runs : LinkRuns 1 a after = record { grows = record { received = ([], sym (append-nil a.received)); sent = (take n from, refl); ended = λ e. e }; amount_is = omega (arith, length-append a.sent (take n from), length-take-le n from within, some); reads = λ e. e; writes = no_failed_put _ _ refl } in
     let marks : Marks x w w a after = record { writes = λ _ on. no_flag _ _ free on; reads = λ m. m } in (
       runs_in k targets first (call ∷ []) x 1 w w s t (LinkWrites from (put.Took n)) port does (subst (λ l. LinkRuns 1 a l) (sym does.changed) runs) (subst (λ l. Marks x w w a l) (sym does.changed) marks) (same_others x w) begins,
-      matches_as r' (and_sent x (history_of s) (take n from)) (history_of t)
+      matches_as r' past' (and_sent x (history_of s) (take n from)) (history_of t)
           (λ y. at_each x s t (λ p q. q.received ≡ p.received) does.others (ap (λ (l : Link). l.received) does.changed) (λ p. refl) y)
           (but_here x (a.sent ++ take n from) (λ y. (s.link y).sent) (λ y. (t.link y).sent) (ap (λ (l : Link). l.sent) does.changed) (λ y off. ap (λ (l : Link). l.sent) (does.others y off)))
           (λ y. at_each x s t (λ p q. q.ended ≡ p.ended) does.others (ap (λ (l : Link). l.ended) does.changed) (λ p. refl) y)
@@ -394,8 +421,8 @@ took k targets first call x from n w r r' s t begins port some within free by fi
     )
 
 -- nothing came or went at any port
-same_history : (r : Seen) (x : ℕ) (s t : Told) → OthersAre x s t → (t.link x).received ≡ (s.link x).received → (t.link x).sent ≡ (s.link x).sent → (t.link x).ended ≡ (s.link x).ended → Matches r (history_of s) → Matches r (history_of t)
-same_history r x s t others received sent ended m = matches_as r (history_of s) (history_of t)
+same_history : (r : Seen) (past : List Note) (x : ℕ) (s t : Told) → OthersAre x s t → (t.link x).received ≡ (s.link x).received → (t.link x).sent ≡ (s.link x).sent → (t.link x).ended ≡ (s.link x).ended → Matches r past (history_of s) → Matches r past (history_of t)
+same_history r past x s t others received sent ended m = matches_as r past (history_of s) (history_of t)
     (at_each x s t (λ p q. q.received ≡ p.received) others received (λ p. refl))
     (at_each x s t (λ p q. q.sent ≡ p.sent) others sent (λ p. refl))
     (at_each x s t (λ p q. q.ended ≡ p.ended) others ended (λ p. refl)) m
@@ -422,74 +449,74 @@ tells_nothing a write off = record {
   writes = no_failed_put _ _ off;
 }
 
-pub write_waited : (k targets : ℕ) (first : Option Wanted) (call : FanCall) (x : ℕ) (from : List ℕ) (v w : Waits) (r : Seen) (s t : Told) → Begins k first (call ∷ []) → x ≤ targets → w ≡ with_write x v → Matches r (history_of s) → AtPort x (LinkWrites from put.NotReady) s t → Runs k targets first 0 v w (call ∷ []) s t × Matches r (history_of t)
-write_waited k targets first call x from v w r s t begins port marks fit does =
+pub write_waited : (k targets : ℕ) (first : Option Wanted) (call : FanCall) (x : ℕ) (from : List ℕ) (v w : Waits) (r : Seen) (past : List Note) (s t : Told) → Begins k first (call ∷ []) → x ≤ targets → w ≡ with_write x v → Matches r past (history_of s) → AtPort x (LinkWrites from put.NotReady) s t → Runs k targets first 0 v w (call ∷ []) s t × Matches r past (history_of t)
+write_waited k targets first call x from v w r past s t begins port marks fit does =
     let a = s.link x in
     let after : Link = record a { last_write = Some put.NotReady } in
     let told : Marks x v (with_write x v) a after = record { writes = λ _ _. refl; reads = λ m on. m on } in
-    subst (λ (z : Waits). Runs k targets first 0 v z (call ∷ []) s t × Matches r (history_of t)) (sym marks) (
+    subst (λ (z : Waits). Runs k targets first 0 v z (call ∷ []) s t × Matches r past (history_of t)) (sym marks) (
       runs_in k targets first (call ∷ []) x 0 v (with_write x v) s t (LinkWrites from put.NotReady) port does (subst (λ l. LinkRuns 0 a l) (sym does.changed) (tells_nothing a (Some put.NotReady) refl)) (subst (λ l. Marks x v (with_write x v) a l) (sym does.changed) told) (others_write x v) begins,
-      same_history r x s t does.others (ap (λ (l : Link). l.received) does.changed) (ap (λ (l : Link). l.sent) does.changed) (ap (λ (l : Link). l.ended) does.changed) fit,
+      same_history r past x s t does.others (ap (λ (l : Link). l.received) does.changed) (ap (λ (l : Link). l.sent) does.changed) (ap (λ (l : Link). l.ended) does.changed) fit,
     )
 
 failed_others : (x : ℕ) (s t : Told) → OthersAre x s t → (y : ℕ) → y ≢ x → HasFailed y t → HasFailed y s
 failed_others x s t others y off (inl f) = inl (sym (ap (λ (l : Link). l.last_read) (others y off)) ∙ f)
 failed_others x s t others y off (inr f) = inr (sym (ap (λ (l : Link). l.last_write) (others y off)) ∙ f)
 
-pub write_failed : (k : ℕ) (first : Option Wanted) (call : FanCall) (x : ℕ) (from : List ℕ) (r : Seen) (s t : Told) → Begins k first (call ∷ []) → Fails k x call → Matches r (history_of s) → AtPort x (LinkWrites from put.Failed) s t → Breaks k first x (call ∷ []) s t × Matches r (history_of t)
-write_failed k first call x from r s t begins fails fit does =
+pub write_failed : (k : ℕ) (first : Option Wanted) (call : FanCall) (x : ℕ) (from : List ℕ) (r : Seen) (past : List Note) (s t : Told) → Begins k first (call ∷ []) → Fails k x call → Matches r past (history_of s) → AtPort x (LinkWrites from put.Failed) s t → Breaks k first x (call ∷ []) s t × Matches r past (history_of t)
+write_failed k first call x from r past s t begins fails fit does =
     let a = s.link x in
     let after : Link = record a { last_write = Some put.Failed } in
     let grows : Grows a after = record { received = ([], sym (append-nil a.received)); sent = ([], sym (append-nil a.sent)); ended = λ e. e } in (
       record { begins = begins; last = record { early = []; call = call; calls_are = refl; fails = fails }; grows = one_grows x s t (LinkWrites from put.Failed) does (subst (λ l. Grows a l) (sym does.changed) grows); failed = inr (ap (λ (l : Link). l.last_write) does.changed); others = failed_others x s t does.others },
-      same_history r x s t does.others (ap (λ (l : Link). l.received) does.changed) (ap (λ (l : Link). l.sent) does.changed) (ap (λ (l : Link). l.ended) does.changed) fit,
+      same_history r past x s t does.others (ap (λ (l : Link). l.received) does.changed) (ap (λ (l : Link). l.sent) does.changed) (ap (λ (l : Link). l.ended) does.changed) fit,
     )
 
-pub read_waited : (k targets : ℕ) (first : Option Wanted) (call : FanCall) (x : ℕ) (into : List ℕ) (v w : Waits) (r : Seen) (s t : Told) → Begins k first (call ∷ []) → x ≤ targets → w ≡ with_read x v → Matches r (history_of s) → AtPort x (LinkReads into got.NotReady) s t → Runs k targets first 0 v w (call ∷ []) s t × Matches r (history_of t)
-read_waited k targets first call x into v w r s t begins port marks fit does =
+pub read_waited : (k targets : ℕ) (first : Option Wanted) (call : FanCall) (x : ℕ) (into : List ℕ) (v w : Waits) (r : Seen) (past : List Note) (s t : Told) → Begins k first (call ∷ []) → x ≤ targets → w ≡ with_read x v → Matches r past (history_of s) → AtPort x (LinkReads into got.NotReady) s t → Runs k targets first 0 v w (call ∷ []) s t × Matches r past (history_of t)
+read_waited k targets first call x into v w r past s t begins port marks fit does =
     let a = s.link x in
     let after : Link = record a { last_read = Some got.NotReady } in
     let is : t.link x ≡ after = does.changed.1 in
     let told : Marks x v (with_read x v) a after = record { writes = λ m on. m on; reads = λ _ _. refl } in
-    subst (λ (z : Waits). Runs k targets first 0 v z (call ∷ []) s t × Matches r (history_of t)) (sym marks) (
+    subst (λ (z : Waits). Runs k targets first 0 v z (call ∷ []) s t × Matches r past (history_of t)) (sym marks) (
       runs_in k targets first (call ∷ []) x 0 v (with_read x v) s t (LinkReads into got.NotReady) port does (subst (λ l. LinkRuns 0 a l) (sym is) (asks_nothing a (Some got.NotReady) refl)) (subst (λ l. Marks x v (with_read x v) a l) (sym is) told) (others_read x v) begins,
-      same_history r x s t does.others (ap (λ (l : Link). l.received) is) (ap (λ (l : Link). l.sent) is) (ap (λ (l : Link). l.ended) is) fit,
+      same_history r past x s t does.others (ap (λ (l : Link). l.received) is) (ap (λ (l : Link). l.sent) is) (ap (λ (l : Link). l.ended) is) fit,
     )
 
-pub read_failed : (k : ℕ) (first : Option Wanted) (call : FanCall) (x : ℕ) (into : List ℕ) (r : Seen) (s t : Told) → Begins k first (call ∷ []) → Fails k x call → Matches r (history_of s) → AtPort x (LinkReads into got.Failed) s t → Breaks k first x (call ∷ []) s t × Matches r (history_of t)
-read_failed k first call x into r s t begins fails fit does =
+pub read_failed : (k : ℕ) (first : Option Wanted) (call : FanCall) (x : ℕ) (into : List ℕ) (r : Seen) (past : List Note) (s t : Told) → Begins k first (call ∷ []) → Fails k x call → Matches r past (history_of s) → AtPort x (LinkReads into got.Failed) s t → Breaks k first x (call ∷ []) s t × Matches r past (history_of t)
+read_failed k first call x into r past s t begins fails fit does =
     let a = s.link x in
     let after : Link = record a { last_read = Some got.Failed } in
     let is : t.link x ≡ after = does.changed.1 in
     let grows : Grows a after = record { received = ([], sym (append-nil a.received)); sent = ([], sym (append-nil a.sent)); ended = λ e. e } in (
       record { begins = begins; last = record { early = []; call = call; calls_are = refl; fails = fails }; grows = one_grows x s t (LinkReads into got.Failed) does (subst (λ l. Grows a l) (sym is) grows); failed = inl (ap (λ (l : Link). l.last_read) is); others = failed_others x s t does.others },
-      same_history r x s t does.others (ap (λ (l : Link). l.received) is) (ap (λ (l : Link). l.sent) is) (ap (λ (l : Link). l.ended) is) fit,
+      same_history r past x s t does.others (ap (λ (l : Link). l.received) is) (ap (λ (l : Link). l.sent) is) (ap (λ (l : Link). l.ended) is) fit,
     )
 
-pub got_bytes : (k targets : ℕ) (first : Option Wanted) (call : FanCall) (x : ℕ) (into : List ℕ) (n : ℕ) (w : Waits) (r r' : Seen) (s t : Told) → Begins k first (call ∷ []) → x ≤ targets → 0 < n → n ≤ length into → read_waits w x ≡ false → ((h : History) → Matches r h → Matches r' (and_received x h (take n into))) → Matches r (history_of s) → AtPort x (LinkReads into (got.Bytes n)) s t → Runs k targets first 1 w w (call ∷ []) s t × Matches r' (history_of t)
-got_bytes k targets first call x into n w r r' s t begins port some within free by fit does =
+pub got_bytes : (k targets : ℕ) (first : Option Wanted) (call : FanCall) (x : ℕ) (into : List ℕ) (n : ℕ) (w : Waits) (r r' : Seen) (past past' : List Note) (s t : Told) → Begins k first (call ∷ []) → x ≤ targets → 0 < n → n ≤ length into → read_waits w x ≡ false → ((h : History) → Matches r past h → Matches r' past' (and_received x h (take n into))) → Matches r past (history_of s) → AtPort x (LinkReads into (got.Bytes n)) s t → Runs k targets first 1 w w (call ∷ []) s t × Matches r' past' (history_of t)
+got_bytes k targets first call x into n w r r' past past' s t begins port some within free by fit does =
     let a = s.link x in
     let after : Link = record a { received = a.received ++ take n into; last_read = Some (got.Bytes n) } in
     let is : t.link x ≡ after = does.changed.1 in
     let runs : LinkRuns 1 a after = record { grows = record { received = (take n into, refl); sent = ([], sym (append-nil a.sent)); ended = λ e. e }; amount_is = omega (arith, length-append a.received (take n into), length-take-le n into within, some); reads = no_failed_got _ _ refl; writes = λ e. e } in
     let marks : Marks x w w a after = record { writes = λ m. m; reads = λ _ on. no_flag _ _ free on } in (
       runs_in k targets first (call ∷ []) x 1 w w s t (LinkReads into (got.Bytes n)) port does (subst (λ l. LinkRuns 1 a l) (sym is) runs) (subst (λ l. Marks x w w a l) (sym is) marks) (same_others x w) begins,
-      matches_as r' (and_received x (history_of s) (take n into)) (history_of t)
+      matches_as r' past' (and_received x (history_of s) (take n into)) (history_of t)
           (but_here x (a.received ++ take n into) (λ y. (s.link y).received) (λ y. (t.link y).received) (ap (λ (l : Link). l.received) is) (λ y off. ap (λ (l : Link). l.received) (does.others y off)))
           (at_each x s t (λ p q. q.sent ≡ p.sent) does.others (ap (λ (l : Link). l.sent) is) (λ p. refl))
           (at_each x s t (λ p q. q.ended ≡ p.ended) does.others (ap (λ (l : Link). l.ended) is) (λ p. refl))
           (by (history_of s) fit),
     )
 
-pub got_end : (k targets : ℕ) (first : Option Wanted) (call : FanCall) (x : ℕ) (into : List ℕ) (w : Waits) (r r' : Seen) (s t : Told) → Begins k first (call ∷ []) → x ≤ targets → (s.link x).ended ≡ false → read_waits w x ≡ false → ((h : History) → Matches r h → Matches r' (and_ended x h)) → Matches r (history_of s) → AtPort x (LinkReads into got.End) s t → Runs k targets first 1 w w (call ∷ []) s t × Matches r' (history_of t)
-got_end k targets first call x into w r r' s t begins port going free by fit does =
+pub got_end : (k targets : ℕ) (first : Option Wanted) (call : FanCall) (x : ℕ) (into : List ℕ) (w : Waits) (r r' : Seen) (past past' : List Note) (s t : Told) → Begins k first (call ∷ []) → x ≤ targets → (s.link x).ended ≡ false → read_waits w x ≡ false → ((h : History) → Matches r past h → Matches r' past' (and_ended x h)) → Matches r past (history_of s) → AtPort x (LinkReads into got.End) s t → Runs k targets first 1 w w (call ∷ []) s t × Matches r' past' (history_of t)
+got_end k targets first call x into w r r' past past' s t begins port going free by fit does =
     let a = s.link x in
     let after : Link = record a { ended = true; last_read = Some got.End } in
     let is : t.link x ≡ after = does.changed in
     let runs : LinkRuns 1 a after = record { grows = record { received = ([], sym (append-nil a.received)); sent = ([], sym (append-nil a.sent)); ended = λ _. refl }; amount_is = omega (arith, ap {B = ℕ} (λ (b : Bool). if b then 1 else 0) going); reads = no_failed_got _ _ refl; writes = λ e. e } in
     let marks : Marks x w w a after = record { writes = λ m. m; reads = λ _ on. no_flag _ _ free on } in (
       runs_in k targets first (call ∷ []) x 1 w w s t (LinkReads into got.End) port does (subst (λ l. LinkRuns 1 a l) (sym is) runs) (subst (λ l. Marks x w w a l) (sym is) marks) (same_others x w) begins,
-      matches_as r' (and_ended x (history_of s)) (history_of t)
+      matches_as r' past' (and_ended x (history_of s)) (history_of t)
           (at_each x s t (λ p q. q.received ≡ p.received) does.others (ap (λ (l : Link). l.received) is) (λ p. refl))
           (at_each x s t (λ p q. q.sent ≡ p.sent) does.others (ap (λ (l : Link). l.sent) is) (λ p. refl))
           (but_here x true (λ y. (s.link y).ended) (λ y. (t.link y).ended) (ap (λ (l : Link). l.ended) is) (λ y off. ap (λ (l : Link). l.ended) (does.others y off)))
@@ -501,8 +528,8 @@ off_by : (ended over : Bool) (room : ℕ) → 0 < (if ended || over then 0 else 
 off_by true over room some = absurd (omega (arith, some))
 off_by false over room some = refl
 
-pub not_ended : (x : ℕ) (r : Seen) (s : Told) → Matches r (history_of s) → 0 < room_of r.limit r.standing (is_some r.outcome) x → (s.link x).ended ≡ false
-not_ended x r s m some = sym (m.told.fits.ended x) ∙ off_by (inbox_of x r.standing).ended (is_some r.outcome) _ some
+pub not_ended : (x : ℕ) (r : Seen) (past : List Note) (s : Told) → Matches r past (history_of s) → 0 < room_of r.limit r.standing (is_some r.outcome) x → (s.link x).ended ≡ false
+not_ended x r past s m some = sym (m.fits.fits.ended x) ∙ off_by (inbox_of x r.standing).ended (is_some r.outcome) _ some
 
 -- ---- the marks
 
@@ -566,20 +593,20 @@ ok_is result n m p q = sym (ap count_of p) ∙ ap count_of q
 -- ---- through the ports
 
 -- the calls of the ports before and of one more
-pub port_runs : (want : ℕ → Waits → Seen → Option Wanted) (told told' told'' : Meaning → Type 0) (r0 r r' : Seen) (k targets n moved more : ℕ) (w0 w w' : Waits) → targets_of r ≡ targets → Idle (first_of want n w0 r0) r0 r w0 w → Goes told told' (Matches r0) (Matches r) k (Runs k targets (first_of want n w0 r0) moved w0 w) → Goes told' told'' (Matches r) (Matches r') k (Runs k (targets_of r) (want n w r) more w w') → Goes told told'' (Matches r0) (Matches r') k (Runs k targets (first_of want (n + 1) w0 r0) (moved + more) w0 w')
-port_runs want told told' told'' r0 r r' k targets n moved more w0 w w' same idle p q =
-    let one = subst (λ (m : ℕ). Goes told' told'' (Matches r) (Matches r') k (Runs k m (want n w r) more w w')) same q in
+pub port_runs : (want : ℕ → Waits → Seen → Option Wanted) (told told' told'' : Meaning → Type 0) (ms ms' ms'' : History → Type 0) (r0 r : Seen) (k targets n moved more : ℕ) (w0 w w' : Waits) → targets_of r ≡ targets → Idle (first_of want n w0 r0) r0 r w0 w → Goes told told' ms ms' k (Runs k targets (first_of want n w0 r0) moved w0 w) → Goes told' told'' ms' ms'' k (Runs k (targets_of r) (want n w r) more w w') → Goes told told'' ms ms'' k (Runs k targets (first_of want (n + 1) w0 r0) (moved + more) w0 w')
+port_runs want told told' told'' ms ms' ms'' r0 r k targets n moved more w0 w w' same idle p q =
+    let one = subst (λ (m : ℕ). Goes told' told'' ms' ms'' k (Runs k m (want n w r) more w w')) same q in
     let next = first_next want n r0 r w0 w idle ∙ ap (λ (z : ℕ). first_of want z w0 r0) (next_is n) in
-    runs_at told told'' (Matches r0) (Matches r') k (moved + more) targets targets _ (first_of want (n + 1) w0 r0) w0 w' refl next (then_runs told told' told'' (Matches r0) (Matches r) (Matches r') k targets (first_of want n w0 r0) (want n w r) moved more w0 w w' p one)
+    runs_at told told'' ms ms'' k (moved + more) targets targets _ (first_of want (n + 1) w0 r0) w0 w' refl next (then_runs told told' told'' ms ms' ms'' k targets (first_of want n w0 r0) (want n w r) moved more w0 w w' p one)
 
 -- and where the call of that one failed
-pub port_breaks : (want : ℕ → Waits → Seen → Option Wanted) (told told' told'' : Meaning → Type 0) (r0 r r' : Seen) (k targets n moved x : ℕ) (w0 w w' : Waits) (result : Result ℕ ℕ) → result ≡ Err x → n ≤ targets_of r0 → Idle (first_of want n w0 r0) r0 r w0 w → Goes told told' (Matches r0) (Matches r) k (Runs k targets (first_of want n w0 r0) moved w0 w) → Goes told' told'' (Matches r) (Matches r') k (Breaks k (want n w r) x) → Goes told told'' (Matches r0) (Matches r') k (CallDoes k targets (first_port want w0 r0) result w0 w')
-port_breaks want told told' told'' r0 r r' k targets n moved x w0 w w' result is within idle p q =
+pub port_breaks : (want : ℕ → Waits → Seen → Option Wanted) (told told' told'' : Meaning → Type 0) (ms ms' ms'' : History → Type 0) (r0 r : Seen) (k targets n moved x : ℕ) (w0 w w' : Waits) (result : Result ℕ ℕ) → result ≡ Err x → n ≤ targets_of r0 → Idle (first_of want n w0 r0) r0 r w0 w → Goes told told' ms ms' k (Runs k targets (first_of want n w0 r0) moved w0 w) → Goes told' told'' ms' ms'' k (Breaks k (want n w r) x) → Goes told told'' ms ms'' k (CallDoes k targets (first_port want w0 r0) result w0 w')
+port_breaks want told told' told'' ms ms' ms'' r0 r k targets n moved x w0 w w' result is within idle p q =
     let a = first_of want n w0 r0 in
     let next = first_next want n r0 r w0 w idle in
-    breaks_at told told'' (Matches r0) (Matches r') k targets (or_else a (want n w r)) (first_port want w0 r0) w0 w' x result is
+    breaks_at told told'' ms ms'' k targets (or_else a (want n w r)) (first_port want w0 r0) w0 w' x result is
     (λ v e. first_on want (suc n) w0 r0 v (targets_of r0 + 1) (omega (arith, within)) (sym next ∙ e))
-    (then_breaks told told' told'' (Matches r0) (Matches r) (Matches r') k targets a (want n w r) moved w0 w x p q)
+    (then_breaks told told' told'' ms ms' ms'' k targets a (want n w r) moved w0 w x p q)
 
 -- one more port is done, and those before are still
 pub done_next : (Is : ℕ → Seen → Waits → Type 0) (n : ℕ) (r r' : Seen) (v w : Waits) → ((x : ℕ) → Is x r v → Is x r w) → r' ≡ r → AreDone Is n r v → Is n r' w → AreDone Is (n + 1) r' w
@@ -629,16 +656,16 @@ no_room limit held true over link off is none = HasEnded (sym is)
 no_room limit held false true link off is none = absurd (true≢false off)
 no_room limit held false false link off is none = HoldsFrame (full_front limit held (omega (arith, none)))
 
-reads_no_more : (x : ℕ) (r : Seen) (t : Told) → r.outcome ≡ None → Matches r (history_of t) → (room_in r x ≡ 0) ⊎ ((t.link x).last_read ≡ Some got.NotReady) → ReadsNoMore r.limit (inbox_of x r.standing).held (t.link x)
-reads_no_more x r t going m (inr waits) = IsNotReady waits
-reads_no_more x r t going m (inl none) = no_room r.limit (inbox_of x r.standing).held (inbox_of x r.standing).ended (is_some r.outcome) (t.link x) (ap is_some going) (m.told.fits.ended x) none
+reads_no_more : (x : ℕ) (r : Seen) (past : List Note) (t : Told) → r.outcome ≡ None → Matches r past (history_of t) → (room_in r x ≡ 0) ⊎ ((t.link x).last_read ≡ Some got.NotReady) → ReadsNoMore r.limit (inbox_of x r.standing).held (t.link x)
+reads_no_more x r past t going m (inr waits) = IsNotReady waits
+reads_no_more x r past t going m (inl none) = no_room r.limit (inbox_of x r.standing).held (inbox_of x r.standing).ended (is_some r.outcome) (t.link x) (ap is_some going) (m.fits.fits.ended x) none
 
 or_by : {A B C : Type 0} → A ⊎ B → (B → C) → A ⊎ C
 or_by (inl a) f = inl a
 or_by (inr b) f = inr (f b)
 
-pub settles : (r : Seen) (k targets : ℕ) (first : Option Wanted) (n : ℕ) (w : Waits) (made : List FanCall) (s t : Told) → r.outcome ≡ None → IsQuiet r w → Matches r (history_of t) → Runs k targets first n no_waits w made s t → AllGrow s t × NoneFailed s t × IsSettled r t
-settles r k targets first n w made s t going quiet m p =
+pub settles : (r : Seen) (past : List Note) (k targets : ℕ) (first : Option Wanted) (n : ℕ) (w : Waits) (made : List FanCall) (s t : Told) → r.outcome ≡ None → IsQuiet r w → Matches r past (history_of t) → Runs k targets first n no_waits w made s t → AllGrow s t × NoneFailed s t × IsSettled r t
+settles r past k targets first n w made s t going quiet m p =
     let marked = p.marked (unmarked s) in (
       p.grows,
       p.none_failed,
@@ -646,7 +673,7 @@ settles r k targets first n w made s t going quiet m p =
         going = going;
         still = m.rest.still;
         writes = λ x within. or_by (quiet.0 x (omega (arith, within))) (marked.writes x);
-        reads = λ x within. reads_no_more x r t going m (or_by (quiet.1 x (omega (arith, within))) (marked.reads x));
+        reads = λ x within. reads_no_more x r past t going m (or_by (quiet.1 x (omega (arith, within))) (marked.reads x));
       },
     )
 

@@ -8,10 +8,12 @@ use Rattle.gate_hub.specs.Meaning.{Link}
 use Rattle.gate_fan.specs.Meaning.{Told, FanCall, Closed, Meaning, new_session, reopened}
 use Rattle.gate_fan.specs.Fans.{Changes, Closes, Comes}
 use Rattle.gate_hub.specs.declared.hub.HubNext.TheVariants as event
+use Rattle.session_core.specs.Notes.{Note}
 use Rattle.service_router.specs.declared.outcome.RouteOutcome.{RouteOutcome}
 use Rattle.service_router.specs.declared.outcome.RouteOutcome.TheVariants as outcome
 use Rattle.route_server.specs.Turning.{Grows, AllGrow, Moves, long_turn, link_amount, amount_below, amount}
-use Rattle.route_server.specs.Serving.{Setting, Entry, Closing, Stands, IsAmong, IsOpenOne, IsEndedOne, is_over, no_more, ended_numbers}
+use Rattle.route_server.specs.Saying.{Closing}
+use Rattle.route_server.specs.Serving.{Setting, Entry, Stands, IsAmong, IsOpenOne, IsEndedOne, is_over, no_more, ended_numbers}
 use Rattle.route_server.specs.Spending.{moved_of, moved_below, HasSpent}
 use Rattle.route_server.specs.Filling.{HasNotEnded, AreOpenBefore, IsFullWhere}
 use Rattle.route_server.specs.Working.{Tally, IsAtWork}
@@ -166,8 +168,8 @@ before_length (suc at) [] within = absurd (omega (arith, within))
 before_length (suc at) (e ∷ held) within = ap suc (before_length at held (omega (arith, within)))
 
 -- the open sessions before session k are the first so many
-open_before : (set : Setting) (More : ℕ → Type 0) (held : List Entry) (past : List Closing) (busy k at : ℕ) (m : Meaning) → Stands set More held past busy 0 m → ((i : ℕ) (e : Entry) → slice_get held i ≡ Some e → i < at → e.number < k) → ((i : ℕ) (e : Entry) → slice_get held i ≡ Some e → e.number < k → i < at) → ((a : ℕ) → More a → a < k → ⊥) → AreOpenBefore k past m (numbers_before at held)
-open_before set More held past busy k at m s below above more = record {
+open_before : (set : Setting) (More : ℕ → Type 0) (held : List Entry) (past : List Closing) (heard : ℕ → List Note) (busy k at : ℕ) (m : Meaning) → Stands set More held past heard busy 0 m → ((i : ℕ) (e : Entry) → slice_get held i ≡ Some e → i < at → e.number < k) → ((i : ℕ) (e : Entry) → slice_get held i ≡ Some e → e.number < k → i < at) → ((a : ℕ) → More a → a < k → ⊥) → AreOpenBefore k past m (numbers_before at held)
+open_before set More held past heard busy k at m s below above more = record {
   rising = λ i j a b less p q.
       let d = before_get at held i a p in
       let e = before_get at held j b q in
@@ -192,12 +194,12 @@ open_before set More held past busy k at m s below above more = record {
     known a under free (inr x) = among a under free x
 
 -- a session that had been opened has ended
-pub ended_full : (set : Setting) (held : List Entry) (past : List Closing) (at : ℕ) (e : Entry) (o : RouteOutcome) (m : Meaning) → Stands set no_more held past at 0 m → slice_get held at ≡ Some e → (o ≡ outcome.Full → ⊥) → length held ≤ set.sessions → IsFullWhere set.sessions past (e.number, o) m
-ended_full set held past at e o m s was opened few =
+pub ended_full : (set : Setting) (held : List Entry) (past : List Closing) (heard : ℕ → List Note) (at : ℕ) (e : Entry) (o : RouteOutcome) (m : Meaning) → Stands set no_more held past heard at 0 m → slice_get held at ≡ Some e → (o ≡ outcome.Full → ⊥) → length held ≤ set.sessions → IsFullWhere set.sessions past (e.number, o) m
+ended_full set held past heard at e o m s was opened few =
     let within = get_within held at e was in
     let long = before_length at held (omega (arith, within)) in record {
       numbers = numbers_before at held;
-      are_open = open_before set no_more held past at e.number at m s (λ i d p under. s.rising i at d e under p was) above (λ a never under. never);
+      are_open = open_before set no_more held past heard at e.number at m s (λ i d p under. s.rising i at d e under p was) above (λ a never under. never);
       within = omega (arith, long, within, few);
       full = λ is. absurd (opened is);
       only_full = λ is. absurd (omega (arith, is, long, within, few));
@@ -215,14 +217,14 @@ ended_full set held past at e o m s was opened few =
             over (inr some) = absurd (omega (arith, less, s.rising at i e d (omega (arith, some)) was p))
 
 -- a session is not opened
-pub refused_full : (set : Setting) (held : List Entry) (past : List Closing) (k : ℕ) (o : RouteOutcome) (m : Meaning) → Stands set (λ j. j ≡ k) held past (length held) 0 m → ((i : ℕ) (e : Entry) → slice_get held i ≡ Some e → e.number < k) → length held ≤ set.sessions → ((o ≡ outcome.Full) × (set.sessions ≤ length held)) ⊎ ((o ≡ outcome.NoMemory) × (length held < set.sessions)) → IsFullWhere set.sessions past (k, o) m
-refused_full set held past k o m s above few why = by why
+pub refused_full : (set : Setting) (held : List Entry) (past : List Closing) (heard : ℕ → List Note) (k : ℕ) (o : RouteOutcome) (m : Meaning) → Stands set (λ j. j ≡ k) held past heard (length held) 0 m → ((i : ℕ) (e : Entry) → slice_get held i ≡ Some e → e.number < k) → length held ≤ set.sessions → ((o ≡ outcome.Full) × (set.sessions ≤ length held)) ⊎ ((o ≡ outcome.NoMemory) × (length held < set.sessions)) → IsFullWhere set.sessions past (k, o) m
+refused_full set held past heard k o m s above few why = by why
   where
     long : length (numbers_before (length held) held) ≡ length held
     long = before_length (length held) held (omega arith)
 
     ones : AreOpenBefore k past m (numbers_before (length held) held)
-    ones = open_before set (λ j. j ≡ k) held past (length held) k (length held) m s (λ i d p under. above i d p) (λ i d p less. get_within held i d p) (λ a is under. absurd (omega (arith, is, under)))
+    ones = open_before set (λ j. j ≡ k) held past heard (length held) k (length held) m s (λ i d p under. above i d p) (λ i d p less. get_within held i d p) (λ a is under. absurd (omega (arith, is, under)))
 
     by : ((o ≡ outcome.Full) × (set.sessions ≤ length held)) ⊎ ((o ≡ outcome.NoMemory) × (length held < set.sessions)) → IsFullWhere set.sessions past (k, o) m
     by (inl full) = record {

@@ -2,7 +2,7 @@
 use Rattle.std.specs.Prelude.{◌≡◌, ◌≢◌, ℕ, ◌<◌, ◌≤◌, List, length, true, Some, slice_get}
 use Rattle.gate_fan.specs.Meaning.{Meaning}
 use Rattle.service_router.specs.declared.outcome.RouteOutcome.TheVariants as outcome
-use Rattle.route_server.specs.Serving.{Closing}
+use Rattle.route_server.specs.Saying.{Closing}
 
 -- the session is none of these that have ended
 abbrev pub HasNotEnded : ℕ → List Closing → Type 0

@@ -3,6 +3,7 @@ pub mod Calling
 pub mod Filling
 pub mod Lines
 pub mod Matching
+pub mod Saying
 pub mod Serving
 pub mod Spending
 pub mod Steps

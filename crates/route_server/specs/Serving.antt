@@ -9,12 +9,14 @@ use Rattle.gate_hub.specs.declared.hub.Served.{Served}
 use Rattle.gate_hub.specs.declared.hub.Served.TheVariants as served
 use Rattle.service_router.specs.Rules.{RouteRules}
 use Rattle.service_router.specs.Standing.{Standing, nothing}
-use Rattle.service_router.specs.Fits.{Fits}
+use Rattle.session_core.specs.Notes.{Note}
+use Rattle.service_router.specs.Telling.{FitsTold}
 use Rattle.service_router.specs.Steps.{outcome_of}
 use Rattle.service_router.specs.Router.{Seen, HoldsWithin, rooms_for, rules_in, targets_of}
 use Rattle.service_router.specs.declared.outcome.RouteOutcome.{RouteOutcome}
 use Rattle.service_router.specs.declared.outcome.RouteOutcome.TheVariants as outcome
 use Rattle.route_server.specs.Lines.{line_text}
+use Rattle.route_server.specs.Saying.{Closing}
 use Rattle.route_server.specs.Calling.{closings_of, FailsLast, LinkRose}
 use Rattle.route_server.specs.Matching.{history_of, Matches}
 use Rattle.route_server.specs.Turning.{IsSettled, HasFailed}
@@ -38,34 +40,31 @@ pub record Entry : Type 0 where
 abbrev pub HaveTargets : ℕ → List Entry → Type 0
 HaveTargets n held = (i : ℕ) (e : Entry) → slice_get held i ≡ Some e → targets_of e.router ≡ n
 
--- a session's number, and how it ended
-abbrev pub Closing : Type 0
-Closing = ℕ × RouteOutcome
-
--- an open session is one of the server's setting, matches what the fan tells of it, has the rooms that it took when it was opened,
--- and holds no more than it may
-pub record IsHeld (set : Setting) (router : Seen) (t : Told) : Type 0 where
+-- an open session is one of the server's setting, matches what the fan tells of it and what was said of its refused frames, has the
+-- rooms that it took when it was opened, and holds no more than it may
+pub record IsHeld (set : Setting) (router : Seen) (notes : List Note) (t : Told) : Type 0 where
   pub announced : t.announced ≡ true
   pub judged : rules_in router ≡ set.rules
   pub limited : router.limit ≡ set.limit
   pub calls : router.max_calls ≡ set.max_calls
   pub targets : targets_of router ≡ set.targets
-  pub matches : Matches router (history_of t)
+  pub matches : Matches router notes (history_of t)
   pub rooms : router.rooms ≡ rooms_for set.limit set.max_calls set.targets
   pub holds : HoldsWithin router
 
--- why a session has this outcome: it was not opened, and nothing was received or sent; the last call of a kind on this port
--- failed, and none on another; or no such call failed, and it is the outcome of a session that fits what came and went
-pub data IsOutcome (set : Setting) (o : RouteOutcome) (t : Told) : Type 0 where
-  NotOpened : (o ≡ outcome.Full) ⊎ (o ≡ outcome.NoMemory) → history_of t ≡ nothing → ((x : ℕ) → HasFailed x t → ⊥) → IsOutcome set o t
-  LinkFailed : (x : ℕ) (s : Standing) → o ≡ outcome.LinkFault x → HasFailed x t → ((y : ℕ) → y ≢ x → HasFailed y t → ⊥) → Fits set.rules set.limit set.max_calls (history_of t) s → IsOutcome set o t
-  OfItself : (s : Standing) → outcome_of set.rules.judging set.limit set.max_calls s ≡ Some o → ((x : ℕ) → HasFailed x t → ⊥) → Fits set.rules set.limit set.max_calls (history_of t) s → IsOutcome set o t
+-- why a session has this outcome: it was not opened, and nothing was received, sent or refused; the last call of a kind on this
+-- port failed, and none on another; or no such call failed, and it is the outcome of a session that fits what came and went and
+-- what was said of its refused frames
+pub data IsOutcome (set : Setting) (o : RouteOutcome) (notes : List Note) (t : Told) : Type 0 where
+  NotOpened : (o ≡ outcome.Full) ⊎ (o ≡ outcome.NoMemory) → notes ≡ [] → history_of t ≡ nothing → ((x : ℕ) → HasFailed x t → ⊥) → IsOutcome set o notes t
+  LinkFailed : (x : ℕ) (s : Standing) → o ≡ outcome.LinkFault x → HasFailed x t → ((y : ℕ) → y ≢ x → HasFailed y t → ⊥) → FitsTold set.rules set.limit set.max_calls (history_of t) notes s → IsOutcome set o notes t
+  OfItself : (s : Standing) → outcome_of set.rules.judging set.limit set.max_calls s ≡ Some o → ((x : ℕ) → HasFailed x t → ⊥) → FitsTold set.rules set.limit set.max_calls (history_of t) notes s → IsOutcome set o notes t
 
 -- a session that has ended, and was closed
-pub record HasClosed (set : Setting) (o : RouteOutcome) (t : Told) : Type 0 where
+pub record HasClosed (set : Setting) (o : RouteOutcome) (notes : List Note) (t : Told) : Type 0 where
   pub announced : t.announced ≡ true
   pub closed : t.closed ≡ true
-  pub why : IsOutcome set o t
+  pub why : IsOutcome set o notes t
 
 -- the session is one of the open ones, or of those that have ended
 pub data IsAmong (k : ℕ) (open_ones : List Entry) (ended : List Closing) : Type 0 where
@@ -77,20 +76,22 @@ IsRising held = (i j : ℕ) (d e : Entry) → i < j → slice_get held i ≡ Som
 
 -- the server holds these sessions, of which the first so many are closed, all but that at `busy` are settled and no call of
 -- theirs failed, and these have ended, in order of closing; each announced session is one of them, but for `More`, and none is
--- two of them. A session that ended by a fault of a port was closed by the very next call
-pub record Stands (set : Setting) (More : ℕ → Type 0) (held : List Entry) (past : List Closing) (busy gone : ℕ) (m : Meaning) : Type 0 where
+-- two of them. A session that ended by a fault of a port was closed by the very next call. Of each session this was heard: its
+-- refused frames
+pub record Stands (set : Setting) (More : ℕ → Type 0) (held : List Entry) (past : List Closing) (heard : ℕ → List Note) (busy gone : ℕ) (m : Meaning) : Type 0 where
   pub started : HasStarted m
   pub rising : IsRising held
-  pub each : (i : ℕ) (e : Entry) → slice_get held i ≡ Some e → IsHeld set e.router (m.session e.number)
+  pub each : (i : ℕ) (e : Entry) → slice_get held i ≡ Some e → IsHeld set e.router (heard e.number) (m.session e.number)
   pub closed : (i : ℕ) (e : Entry) → slice_get held i ≡ Some e → i < gone → (m.session e.number).closed ≡ true
   pub is_open : (i : ℕ) (e : Entry) → slice_get held i ≡ Some e → gone ≤ i → (m.session e.number).closed ≡ false
   pub settled : (i : ℕ) (e : Entry) → slice_get held i ≡ Some e → i ≢ busy → IsSettled e.router (m.session e.number)
   pub unfailed : (i : ℕ) (e : Entry) → slice_get held i ≡ Some e → i ≢ busy → (x : ℕ) → HasFailed x (m.session e.number) → ⊥
-  pub ended : (i : ℕ) (c : Closing) → slice_get past i ≡ Some c → HasClosed set c.1 (m.session c.0)
+  pub ended : (i : ℕ) (c : Closing) → slice_get past i ≡ Some c → HasClosed set c.1 (heard c.0) (m.session c.0)
   pub once : (i j : ℕ) (c d : Closing) → i < j → slice_get past i ≡ Some c → slice_get past j ≡ Some d → c.0 ≢ d.0
   pub apart : (i j : ℕ) (c : Closing) (e : Entry) → slice_get past i ≡ Some c → slice_get held j ≡ Some e → c.0 ≢ e.number
   pub broke : (i : ℕ) (c : Closing) (x : ℕ) → slice_get past i ≡ Some c → c.1 ≡ outcome.LinkFault x → FailsLast c.0 x m.calls
   pub covers : (k : ℕ) → (m.session k).announced ≡ true → More k ⊎ IsAmong k held past
+  pub unheard : (k : ℕ) → (m.session k).announced ≡ false → heard k ≡ []
 
 abbrev pub no_more : ℕ → Type 0
 no_more k = ⊥
@@ -131,12 +132,6 @@ AreCounted before now ended =
     (i : ℕ) (c : Closing) (x : ℕ) → slice_get ended i ≡ Some c → c.1 ≡ outcome.LinkFault x → LinkRose before now c.0 x
 
 -- ---- the lines
-
-abbrev pub closing_line : Closing → List ℕ
-closing_line c = line_text c.0 (Some c.1)
-
-abbrev pub closing_lines : List Closing → List ℕ
-closing_lines ended = flat_map closing_line ended
 
 abbrev pub left_line : Entry → List ℕ
 left_line e = line_text e.number None

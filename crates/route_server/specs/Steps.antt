@@ -16,15 +16,18 @@ use Rattle.gate_hub.specs.declared.hub.Served.{Served}
 use Rattle.gate_hub.specs.declared.hub.Served.TheVariants as served
 use Rattle.session_core.specs.declared.state.TheConstants.{MOST_CALLS}
 use Rattle.session_judge.specs.declared.setup.Setup.{Setup}
+use Rattle.session_core.specs.Notes.{Note}
 use Rattle.service_router.specs.Router.{Seen}
 use Rattle.service_router.specs.Steps.{outcome_of}
 use Rattle.service_router.specs.Setups.{rules_for}
 use Rattle.service_router.specs.declared.outcome.RouteOutcome.{RouteOutcome}
 use Rattle.service_router.specs.declared.outcome.RouteOutcome.TheVariants as outcome
 use Rattle.service_router.specs.declared.router.TheConstants.{MOST_TARGETS}
+use Rattle.refusal_teller.specs.Tells.{Writes}
 use Rattle.route_server.specs.Calling.{LinkRose}
 use Rattle.route_server.specs.Turning.{HasFailed, IsSettled}
-use Rattle.route_server.specs.Serving.{Setting, Entry, Closing, Stands, Keeps, KeepsFrom, no_more, closing_line, closing_lines, left_line, left_lines, ended_numbers, held_numbers, IsClosedInOrder, IsJustClosed, AreCounted, IsFresh, EndsOn, SpendsBy}
+use Rattle.route_server.specs.Saying.{Closing, Said, closings, heard_in, InOrder, AreOf, said_lines}
+use Rattle.route_server.specs.Serving.{Setting, Entry, Stands, Keeps, KeepsFrom, no_more, left_line, left_lines, ended_numbers, held_numbers, IsClosedInOrder, IsJustClosed, AreCounted, IsFresh, EndsOn, SpendsBy}
 use Rattle.route_server.specs.Working.{Tally, Waits, HasWaited, IsBusy, IsNamed, HasEndedAt, Awaits}
 use Rattle.route_server.specs.declared.server.Terms.{Terms}
 use Rattle.route_server.specs.declared.server.Server.{Server}
@@ -56,11 +59,6 @@ setting_by setup targets sessions events = record {
 
 abbrev pub setting_of : Terms → Setting
 setting_of terms = setting_by terms.setup terms.targets.now terms.sessions terms.events
-
--- all of these lines were written, or a front of them
-abbrev pub Writes : Wrote → Option (List ℕ) → Option (List ℕ) → List ℕ → Type 0
-Writes wrote.All old new lines = Appends old new lines
-Writes wrote.Failed old new lines = AppendsFront old new lines
 
 -- a session that was announced is not opened: so many are open already, or its memory was not found
 abbrev pub IsRefusedAs : RouteOutcome → ℕ → ℕ → Type 0
@@ -104,6 +102,7 @@ WorkEnds (Ok x) spent events = ⊤
 WorkEnds (Err ends.Stopped) spent events = ⊥
 WorkEnds (Err ends.HubFault) spent events = ⊥
 WorkEnds (Err ends.WriteFault) spent events = ⊤
+WorkEnds (Err (ends.Unwritten at)) spent events = ⊤
 WorkEnds (Err (ends.Budget at)) spent events = spent ≡ events
 
 -- and a step: it spends some where an event has come
@@ -112,81 +111,94 @@ StepEnds (Ok x) before spent events = before < spent
 StepEnds (Err ends.Stopped) before spent events = spent ≡ before
 StepEnds (Err ends.HubFault) before spent events = spent ≡ before
 StepEnds (Err ends.WriteFault) before spent events = ⊤
+StepEnds (Err (ends.Unwritten at)) before spent events = ⊤
 StepEnds (Err (ends.Budget at)) before spent events = spent ≡ events
 
 -- where the server stands after a step, and where it has ended
-abbrev pub EndedTo : Result ⊤ End → Setting → Meaning → ℕ → List Entry → List Closing → Meaning → Type 0
+abbrev pub EndedTo : Result ⊤ End → Setting → Meaning → ℕ → List Entry → List Said → Meaning → Type 0
 EndedTo (Ok x) set begun spent held past m = Waits set begun spent held past m
 EndedTo (Err ends.Stopped) set begun spent held past m = HasWaited set begun spent event.Stopped held past m
 EndedTo (Err ends.HubFault) set begun spent held past m = HasWaited set begun spent event.Failed held past m
-EndedTo (Err ends.WriteFault) set begun spent held past m = Waits set begun spent held past m × IsJustClosed past m.calls
+EndedTo (Err ends.WriteFault) set begun spent held past m = Waits set begun spent held past m × IsJustClosed (closings past) m.calls
+EndedTo (Err (ends.Unwritten at)) set begun spent held past m = IsBusy set begun spent at held past m
 EndedTo (Err (ends.Budget at)) set begun spent held past m = IsBusy set begun spent at held past m
 
--- the lines of all but the last of these were written, and a front of that one
-pub record LastLineFails (old new : Option (List ℕ)) (ended : List Closing) : Type 0 where
-  pub before : List Closing
-  pub last : Closing
-  pub count : ℕ
-  pub ended_are : ended ≡ before ++ last ∷ []
-  pub within : count ≤ length (closing_line last)
-  pub written : Appends old new (closing_lines before ++ take count (closing_line last))
+-- the lines of all that was said before were written, and of those of the last session that something was said of a front
+pub record LastLinesFail (text : ℕ → Note → List ℕ) (old new : Option (List ℕ)) (said : List Said) : Type 0 where
+  pub before : List Said
+  pub late : List Said
+  pub number : ℕ
+  pub said_are : said ≡ before ++ late
+  pub late_are : AreOf number late
+  pub written : (count : ℕ) × (count ≤ length (said_lines text late)) × Appends old new (said_lines text before ++ take count (said_lines text late))
 
--- the line of each session that has ended was written at once, and nothing behind one that could not be
-abbrev pub StepWrites : Result ⊤ End → Option (List ℕ) → Option (List ℕ) → List Closing → Type 0
-StepWrites (Ok x) old new ended = Appends old new (closing_lines ended)
-StepWrites (Err ends.Stopped) old new ended = Appends old new (closing_lines ended)
-StepWrites (Err ends.HubFault) old new ended = Appends old new (closing_lines ended)
-StepWrites (Err ends.WriteFault) old new ended = LastLineFails old new ended
-StepWrites (Err (ends.Budget at)) old new ended = Appends old new (closing_lines ended)
+-- the line of what was said was written at once, and nothing behind one that could not be
+abbrev pub StepWrites : (ℕ → Note → List ℕ) → Result ⊤ End → Option (List ℕ) → Option (List ℕ) → List Said → Type 0
+StepWrites text (Ok x) old new said = Appends old new (said_lines text said)
+StepWrites text (Err ends.Stopped) old new said = Appends old new (said_lines text said)
+StepWrites text (Err ends.HubFault) old new said = Appends old new (said_lines text said)
+StepWrites text (Err ends.WriteFault) old new said = LastLinesFail text old new said
+StepWrites text (Err (ends.Unwritten at)) old new said = LastLinesFail text old new said
+StepWrites text (Err (ends.Budget at)) old new said = Appends old new (said_lines text said)
 
--- sessions have ended on the way
-pub record Goes (set : Setting) (a b : Outside) (Before : Meaning → List Closing → Meaning → Type 0) (spent : ℕ) (held : List Entry) (result : Result ⊤ End) : Type 0 where
-  pub more : List Closing
-  pub writes : StepWrites result a.written b.written more
-  pub counted : AreCounted a.counts b.counts more
-  pub keeps : (begun : Meaning) (past : List Closing) → Keeps a.told b.told (Before begun past) (EndedTo result set begun spent held (past ++ more))
+-- something was said on the way, and its lines were written so
+pub record GoesBy (set : Setting) (Writes : List Said → Type 0) (a b : Outside) (Before : Meaning → List Said → Meaning → Type 0) (spent : ℕ) (held : List Entry) (result : Result ⊤ End) : Type 0 where
+  pub more : List Said
+  pub writes : Writes more
+  pub counted : AreCounted a.counts b.counts (closings more)
+  pub keeps : (begun : Meaning) (past : List Said) → Keeps a.told b.told (Before begun past) (EndedTo result set begun spent held (past ++ more))
+
+-- its lines were written at once
+abbrev pub Goes : Setting → (ℕ → Note → List ℕ) → Outside → Outside → (Meaning → List Said → Meaning → Type 0) → ℕ → List Entry → Result ⊤ End → Type 0
+Goes set text a b Before spent held result = GoesBy set (StepWrites text result a.written b.written) a b Before spent held result
 
 -- the same from one server to another, where it stood so
-abbrev pub ServerGoes : Setting → Passage → (Meaning → List Closing → Meaning → Type 0) → Server → Result ⊤ End → Type 0
-ServerGoes set way Before new result = Goes set way.before way.behind Before new.spent new.sessions.items result
+abbrev pub ServerGoes : Setting → (ℕ → Note → List ℕ) → Passage → (Meaning → List Said → Meaning → Type 0) → Server → Result ⊤ End → Type 0
+ServerGoes set text way Before new result = Goes set text way.before way.behind Before new.spent new.sessions.items result
 
 -- events are taken from a wait on
-abbrev pub Steps : Server → Passage → Server → Result ⊤ End → Type 0
-Steps old way new result =
+abbrev pub Steps : (ℕ → Note → List ℕ) → Server → Passage → Server → Result ⊤ End → Type 0
+Steps text old way new result =
     let set = setting_of old.terms in
-    ServerGoes set way (λ begun. Waits set begun old.spent old.sessions.items) new result
+    ServerGoes set text way (λ begun. Waits set begun old.spent old.sessions.items) new result
 
 -- the same up to the end of the work
-abbrev pub Attends : Server → Passage → Server → End → Type 0
-Attends old way new ending = Steps old way new (Err ending)
+abbrev pub Attends : (ℕ → Note → List ℕ) → Server → Passage → Server → End → Type 0
+Attends text old way new ending = Steps text old way new (Err ending)
 
 -- session k, which was announced, is opened and turned, or closed
-abbrev pub Admits : ℕ → Server → Passage → Server → Result ⊤ End → Type 0
-Admits k old way new result =
+abbrev pub Admits : (ℕ → Note → List ℕ) → ℕ → Server → Passage → Server → Result ⊤ End → Type 0
+Admits text k old way new result =
     let set = setting_of old.terms in
-    ServerGoes set way (λ begun. Awaits set begun old.spent k old.sessions.items) new result
+    ServerGoes set text way (λ begun. Awaits set begun old.spent k old.sessions.items) new result
 
 -- session k, which was announced, is closed
 abbrev pub Refuses : ℕ → Server → Passage → Server → Result ⊤ End → Type 0
 Refuses k old way new result =
-    (set : Setting) → set.sessions ≡ old.terms.sessions →
-    ServerGoes set way (λ begun. Awaits set begun old.spent k old.sessions.items) new result
+    (set : Setting) (text : ℕ → Note → List ℕ) → set.sessions ≡ old.terms.sessions →
+    ServerGoes set text way (λ begun. Awaits set begun old.spent k old.sessions.items) new result
 
--- the session at this place, which has ended so, is closed; a fault of a port was counted since `from`
-abbrev pub Finishes : ℕ → RouteOutcome → Server → Passage → Server → Result ⊤ End → Type 0
-Finishes at o old way new result =
-    (set : Setting) (from : Counts) → Later from way.before.counts → WasCounted from way.before.counts o old.sessions.items at →
-    ServerGoes set (record way { before = record (way.before) { counts = from } }) (λ begun. HasEndedAt set begun old.spent at o old.sessions.items) new result
+-- the line of a session that has ended was written, or nothing where one before could not be
+abbrev pub ClosingWrites : (ℕ → Note → List ℕ) → Wrote → Result ⊤ End → Option (List ℕ) → Option (List ℕ) → List Said → Type 0
+ClosingWrites text wrote.All result old new said = StepWrites text result old new said
+ClosingWrites text wrote.Failed result old new said = (result ≡ Err ends.WriteFault) × Appends old new []
+
+-- the session at this place, which has ended so, is closed, and nothing else is said; a fault of a port was counted since `from`
+abbrev pub Finishes : ℕ → RouteOutcome → Wrote → Server → Passage → Server → Result ⊤ End → Type 0
+Finishes at o w old way new result =
+    (set : Setting) (text : ℕ → Note → List ℕ) (from : Counts) → Later from way.before.counts → WasCounted from way.before.counts o old.sessions.items at →
+    GoesBy set (λ said. ((e : Entry) → slice_get old.sessions.items at ≡ Some e → AreOf e.number said) × ClosingWrites text w result way.before.written way.behind.written said)
+    (record (way.before) { counts = from }) way.behind (λ begun. HasEndedAt set begun old.spent at o old.sessions.items) new.spent new.sessions.items result
 
 -- the session at this place is turned
-abbrev pub Settles : ℕ → Server → Passage → Server → Result ⊤ End → Type 0
-Settles at old way new result =
-    (set : Setting) → ServerGoes set way (λ begun. IsBusy set begun old.spent at old.sessions.items) new result
+abbrev pub Settles : (ℕ → Note → List ℕ) → ℕ → Server → Passage → Server → Result ⊤ End → Type 0
+Settles text at old way new result =
+    (set : Setting) → ServerGoes set text way (λ begun. IsBusy set begun old.spent at old.sessions.items) new result
 
 -- session k, which an event names, is turned
-abbrev pub Resumes : ℕ → Server → Passage → Server → Result ⊤ End → Type 0
-Resumes k old way new result =
-    (set : Setting) → ServerGoes set way (λ begun. IsNamed set begun old.spent k old.sessions.items) new result
+abbrev pub Resumes : (ℕ → Note → List ℕ) → ℕ → Server → Passage → Server → Result ⊤ End → Type 0
+Resumes text k old way new result =
+    (set : Setting) → ServerGoes set text way (λ begun. IsNamed set begun old.spent k old.sessions.items) new result
 
 -- a session was put last, at this place
 abbrev pub IsPutLast : List Entry → ℕ → Seen → List Entry → ℕ → Type 0
@@ -204,17 +216,18 @@ closing_calls [] = []
 closing_calls (k ∷ numbers) = Closed k ∷ closing_calls numbers
 
 -- after these calls the first so many of the sessions that were open were closed, and the fan's last event stays
-pub record Leaves (set : Setting) (begun : Meaning) (spent : ℕ) (held : List Entry) (past : List Closing) (busy : ℕ) (last : Option HubNext) (calls : List FanCall) (gone : ℕ) (m : Meaning) : Type 0 where
-  pub stands : Stands set no_more held past busy gone m
+pub record Leaves (set : Setting) (begun : Meaning) (spent : ℕ) (held : List Entry) (past : List Said) (busy : ℕ) (last : Option HubNext) (calls : List FanCall) (gone : ℕ) (m : Meaning) : Type 0 where
+  pub stands : Stands set no_more held (closings past) (heard_in past) busy gone m
   pub unfailed : AreUnfailed held m
-  pub tally : Tally begun set spent (length held) past m
+  pub tally : Tally begun set spent (length held) (closings past) m
+  pub in_order : InOrder past
   pub closings : m.calls ≡ calls ++ closing_calls (held_numbers (take gone held))
   pub last_event : m.last_event ≡ last
 
 -- so many of the sessions that were open were closed, and then so many
 abbrev pub LeavesMore : List Entry → (Meaning → Type 0) → (Meaning → Type 0) → ℕ → ℕ → Type 0
 LeavesMore held told told' gone gone' =
-    (set : Setting) (begun : Meaning) (spent : ℕ) (past : List Closing) (busy : ℕ) (last : Option HubNext) (calls : List FanCall) →
+    (set : Setting) (begun : Meaning) (spent : ℕ) (past : List Said) (busy : ℕ) (last : Option HubNext) (calls : List FanCall) →
     let leaves = Leaves set begun spent held past busy last calls in
     Keeps told told' (leaves gone) (leaves gone')
 
@@ -222,18 +235,20 @@ LeavesMore held told told' gone gone' =
 abbrev pub WritesLeft : List Entry → ℕ → Wrote → Option (List ℕ) → Option (List ℕ) → Type 0
 WritesLeft held at result old new = (e : Entry) → slice_get held at ≡ Some e → Writes result old new (left_line e)
 
--- which lines a server has written: all; or those of the sessions that have ended, but for a front of the last's; or those,
--- and of the lines of sessions that were left open a front
+-- which lines a server has written: all; or those of what was said, but for a front of the last session's, which has ended or was
+-- turned; or those, and of the lines of sessions that were left open a front
 pub data LinesEnd : Type 0 where
   AllLines : LinesEnd
   LastOfWork : LinesEnd
+  LastOfTurn : LinesEnd
   LeftOpen : LinesEnd
 
-abbrev pub WritesLines : LinesEnd → Option (List ℕ) → Option (List ℕ) → ℕ → ℕ → List Closing → List Entry → Type 0
-WritesLines AllLines old new faults faults' ended held = Appends old new (closing_lines ended ++ left_lines held)
-WritesLines LastOfWork old new faults faults' ended held = LastLineFails old new ended × Rose faults faults'
-WritesLines LeftOpen old new faults faults' ended held =
-    ((count : ℕ) × (count ≤ length (left_lines held)) × Appends old new (closing_lines ended ++ take count (left_lines held))) × Rose faults faults'
+abbrev pub WritesLines : (ℕ → Note → List ℕ) → LinesEnd → Option (List ℕ) → Option (List ℕ) → ℕ → ℕ → List Said → List Entry → Type 0
+WritesLines text AllLines old new faults faults' said held = Appends old new (said_lines text said ++ left_lines held)
+WritesLines text LastOfWork old new faults faults' said held = LastLinesFail text old new said × Rose faults faults'
+WritesLines text LastOfTurn old new faults faults' said held = LastLinesFail text old new said × Rose faults faults'
+WritesLines text LeftOpen old new faults faults' said held =
+    ((count : ℕ) × (count ≤ length (left_lines held)) × Appends old new (said_lines text said ++ take count (left_lines held))) × Rose faults faults'
 
 -- the same, and no more than how it goes with the answer: all lines were written, or a front of them before a fault of the output
 abbrev pub WritesOrFails : Option (List ℕ) → Option (List ℕ) → ℕ → ℕ → List ℕ → Type 0
@@ -250,7 +265,7 @@ ServedWrites served.OutOfMemory old new faults faults' lines = Appends old new l
 abbrev pub AnswersLines : Served → LinesEnd → Type 0
 AnswersLines served.Stopped lines = lines ≡ AllLines
 AnswersLines served.HubFault lines = (lines ≡ AllLines) ⊎ (lines ≡ LeftOpen)
-AnswersLines served.WriteFault lines = (lines ≡ LastOfWork) ⊎ (lines ≡ LeftOpen)
+AnswersLines served.WriteFault lines = (lines ≡ LastOfWork) ⊎ (lines ≡ LastOfTurn) ⊎ (lines ≡ LeftOpen)
 AnswersLines served.Budget lines = (lines ≡ AllLines) ⊎ (lines ≡ LeftOpen)
 AnswersLines served.OutOfMemory lines = lines ≡ AllLines
 
@@ -260,10 +275,16 @@ abbrev pub IsNotAskedAgain : LinesEnd → List Closing → List Entry → List F
 IsNotAskedAgain lines ended held calls =
     lines ≡ LastOfWork → (earlier : List FanCall) × IsJustClosed ended earlier × (calls ≡ earlier ++ closing_calls (held_numbers held))
 
+-- a session that was left open may be unsettled: the budget was spent, or the line of a frame of it could not be written
+pub data MayBeUnsettled : Served → LinesEnd → Type 0 where
+  IsSpent : {lines : LinesEnd} → MayBeUnsettled served.Budget lines
+  IsUnwritten : {result : Served} → MayBeUnsettled result LastOfTurn
+
 -- the sessions that were left open: by its rules none has an outcome, no call of theirs failed, and each is settled, but for one
--- where the budget is spent. `next` may stop or fail at any wait and changes no session by that, so this holds at each wait
-pub record IsLeft (set : Setting) (result : Served) (held : List Entry) (m : Meaning) : Type 0 where
-  pub settled : (result ≡ served.Budget → ⊥) → (i : ℕ) (e : Entry) → slice_get held i ≡ Some e → IsSettled e.router (m.session e.number)
+-- where the budget is spent or a line of it could not be written. `next` may stop or fail at any wait and changes no session by
+-- that, so this holds at each wait
+pub record IsLeft (set : Setting) (result : Served) (lines : LinesEnd) (held : List Entry) (m : Meaning) : Type 0 where
+  pub settled : (MayBeUnsettled result lines → ⊥) → (i : ℕ) (e : Entry) → slice_get held i ≡ Some e → IsSettled e.router (m.session e.number)
   pub going : (i : ℕ) (e : Entry) → slice_get held i ≡ Some e → outcome_of set.rules.judging set.limit set.max_calls e.router.standing ≡ None
   pub unfailed : AreUnfailed held m
 
@@ -274,29 +295,30 @@ pub record Accounts (set : Setting) (result : Served) (count : ℕ) (past : List
   pub spends : SpendsBy result spent set.events
 
 -- where the server ends, as the fan tells it; the sessions were closed in the order of their lines
-pub record Ending (set : Setting) (result : Served) (lines : LinesEnd) (held : List Entry) (ended : List Closing) (busy : ℕ) (begun m : Meaning) : Type 0 where
-  pub stands : Stands set no_more held ended busy (length held) m
+pub record Ending (set : Setting) (result : Served) (lines : LinesEnd) (held : List Entry) (said : List Said) (busy : ℕ) (begun m : Meaning) : Type 0 where
+  pub stands : Stands set no_more held (closings said) (heard_in said) busy (length held) m
   pub event : EndsOn result m
-  pub left : IsLeft set result held m
-  pub accounts : Accounts set result (length held) ended begun m
-  pub order : IsClosedInOrder begun.calls m.calls (ended_numbers ended ++ held_numbers held)
-  pub not_asked : IsNotAskedAgain lines ended held m.calls
+  pub left : IsLeft set result lines held m
+  pub accounts : Accounts set result (length held) (closings said) begun m
+  pub order : IsClosedInOrder begun.calls m.calls (ended_numbers (closings said) ++ held_numbers held)
+  pub not_asked : IsNotAskedAgain lines (closings said) held m.calls
+  pub in_order : InOrder said
 
--- what the server leaves: the sessions that were left open, those that have ended in order, and the lines of both; each
--- announced session is one of them, closed, and is what the line says
-pub record Serves (set : Setting) (a b : Outside) (result : Served) : Type 0 where
+-- what the server leaves: the sessions that were left open, what was said of all in order, and the lines of both, where a refused
+-- frame's is spelled so; each announced session is one of them, closed, and is what its lines say
+pub record Serves (set : Setting) (text : ℕ → Note → List ℕ) (a b : Outside) (result : Served) : Type 0 where
   pub held : List Entry
-  pub ended : List Closing
+  pub said : List Said
   pub busy : ℕ
   pub lines : LinesEnd
-  pub writes : WritesLines lines a.written b.written a.faults b.faults ended held
+  pub writes : WritesLines text lines a.written b.written a.faults b.faults said held
   pub answers : AnswersLines result lines
-  pub counted : AreCounted a.counts b.counts ended
-  pub keeps : KeepsFrom a.told b.told IsFresh (Ending set result lines held ended busy)
+  pub counted : AreCounted a.counts b.counts (closings said)
+  pub keeps : KeepsFrom a.told b.told IsFresh (Ending set result lines held said busy)
 
 -- the same from what stands outside before to what stands there behind
-abbrev pub ServesBy : Setting → Passage → Served → Type 0
-ServesBy set way result = Serves set way.before way.behind result
+abbrev pub ServesBy : Setting → (ℕ → Note → List ℕ) → Passage → Served → Type 0
+ServesBy set text way result = Serves set text way.before way.behind result
 
 -- what is answered for how the work ended and what came of the last lines
 abbrev pub served_by : End → Wrote → Served
@@ -304,10 +326,12 @@ served_by ends.Stopped wrote.All = served.Stopped
 served_by ends.Stopped wrote.Failed = served.WriteFault
 served_by ends.HubFault w = served.HubFault
 served_by ends.WriteFault w = served.WriteFault
+served_by (ends.Unwritten at) w = served.WriteFault
 served_by (ends.Budget at) w = served.Budget
 
 abbrev pub first_wrote : End → Wrote
 first_wrote ends.Stopped = wrote.All
 first_wrote ends.HubFault = wrote.All
 first_wrote ends.WriteFault = wrote.Failed
+first_wrote (ends.Unwritten at) = wrote.Failed
 first_wrote (ends.Budget at) = wrote.All

@@ -7,6 +7,7 @@ use Rattle.gate_hub.specs.declared.hub.LinkGot.TheVariants as got
 use Rattle.gate_hub.specs.declared.hub.LinkPut.{LinkPut}
 use Rattle.gate_hub.specs.declared.hub.LinkPut.TheVariants as put
 use Rattle.framed_transport.specs.Front.{front, is_part}
+use Rattle.session_core.specs.Notes.{Note}
 use Rattle.session_core.specs.Steps.{is_none}
 use Rattle.service_router.specs.Standing.{History, inbox_of, due_to, room_of}
 use Rattle.service_router.specs.Steps.{IsStill}
@@ -106,9 +107,14 @@ abbrev pub Goes : (Meaning → Type 0) → (Meaning → Type 0) → (History →
 Goes told told' matches matches' k Step =
     (m : Meaning) → told m → IsOpen k m → matches (history_of (m.session k)) → ((n : Meaning) × told' n × matches' (history_of (n.session k)) × Moves k Step m n)
 
+-- the same with what was told of refused frames on the way, whatever was told before
+abbrev pub GoesTelling : (List Note → Type 0) → (Meaning → Type 0) → (Meaning → Type 0) → (List Note → History → Type 0) → (List Note → History → Type 0) → ℕ → (List FanCall → Told → Told → Type 0) → Type 0
+GoesTelling tells told told' matches matches' k Step =
+    (added : List Note) × tells added × ((past : List Note) → Goes told told' (matches past) (matches' (past ++ added)) k Step)
+
 -- so a turn goes: it leads from what the fan tells and this router to what it tells then and that one
-abbrev pub TurnGoes : ℕ → (Meaning → Type 0) → Seen → (Meaning → Type 0) → Seen → RouteTurn → Type 0
-TurnGoes k told old told' new result = Goes told told' (Matches old) (Matches new) k (TurnDoes k new result)
+abbrev pub TurnGoes : ℕ → (List Note → Type 0) → (Meaning → Type 0) → Seen → (Meaning → Type 0) → Seen → RouteTurn → Type 0
+TurnGoes k tells told old told' new result = GoesTelling tells told told' (Matches old) (Matches new) k (TurnDoes k new result)
 
 -- how the answer of a turn goes with the router's outcome, whatever is told
 pub data EndsAs (ending : Option RouteOutcome) : RouteTurn → Type 0 where
@@ -166,9 +172,9 @@ Begins k (Some (ToWrite x n)) made = (answer : LinkPut) × (more : List FanCall)
 Begins k (Some (ToRead x n)) made = (answer : LinkGot) × (more : List FanCall) × (made ≡ Read k x n answer ∷ more)
 
 -- so a turn goes, and its first call is the one that is wanted
-abbrev pub TurnGoesInOrder : ℕ → (Meaning → Type 0) → Seen → (Meaning → Type 0) → Seen → RouteTurn → Type 0
-TurnGoesInOrder k told old told' new result =
-    Goes told told' (Matches old) (Matches new) k
+abbrev pub TurnGoesInOrder : ℕ → (List Note → Type 0) → (Meaning → Type 0) → Seen → (Meaning → Type 0) → Seen → RouteTurn → Type 0
+TurnGoesInOrder k tells told old told' new result =
+    GoesTelling tells told told' (Matches old) (Matches new) k
     (λ made s t. (old.outcome ≡ None → Begins k (wanted no_waits old) made) × TurnDoes k new result made s t)
 
 -- ---- on the way
@@ -207,9 +213,9 @@ CallDoes k targets first (Ok n) v w made s t = Runs k targets first n v w made s
 CallDoes k targets first (Err x) v w made s t = Breaks k first x made s t
 
 -- the same from what the fan tells, the router and the marks to those behind the calls, where the first is wanted so
-abbrev pub Calls : ℕ → (Waits → Seen → Option Wanted) → (Meaning → Type 0) → Seen → Waits → (Meaning → Type 0) → Seen → Waits → Result ℕ ℕ → Type 0
-Calls k first told old waits told' new waits' result =
-    Goes told told' (Matches old) (Matches new) k (CallDoes k (targets_of old) (first waits old) result waits waits')
+abbrev pub Calls : ℕ → (Waits → Seen → Option Wanted) → (List Note → Type 0) → (Meaning → Type 0) → Seen → Waits → (Meaning → Type 0) → Seen → Waits → Result ℕ ℕ → Type 0
+Calls k first tells told old waits told' new waits' result =
+    GoesTelling tells told told' (Matches old) (Matches new) k (CallDoes k (targets_of old) (first waits old) result waits waits')
 
 -- nothing is due to the port, or it isn't ready
 abbrev pub IsWritten : ℕ → Seen → Waits → Type 0

@@ -6,7 +6,12 @@ ghost use Rattle.gate_fan.specs.Fans.{Later};
 ghost use Rattle.gate_hub.specs.declared.hub.HubNext.{HubNext};
 ghost use Rattle.route_server.specs.Lines.{line_text};
 ghost use Rattle.route_server.specs.Serving.{HaveTargets, SpendsBy, left_lines};
-ghost use Rattle.route_server.specs.Steps.{AreGood, Writes, Outside, IsCarriedOn, WorkEnds, StepEnds, IsRefusedAs, served_by, seen, Steps, Attends, Admits, Refuses, Finishes, Settles, Resumes, IsPutLast, LeavesMore, WritesLeft};
+ghost use Rattle.refusal_teller.specs.Tells.{Writes, WritesBehind};
+ghost use Rattle.refusal_teller.specs.Refused.{refusal_lines};
+ghost use Rattle.service_router.specs.Router.{IsSame, HoldsWithin, targets_of};
+ghost use Rattle.route_server.specs.Calling.{LinkRose};
+ghost use Rattle.route_server.specs.Turning.{EndsAs, TurnGoes};
+ghost use Rattle.route_server.specs.Steps.{AreGood, Outside, IsCarriedOn, WorkEnds, StepEnds, IsRefusedAs, served_by, seen, Steps, Attends, Admits, Refuses, Finishes, Settles, Resumes, IsPutLast, LeavesMore, WritesLeft};
 
 use crate::lines::{LINE_ROOM, put_line};
 use crate::table::{OpenSession, find, open_session};
@@ -14,6 +19,7 @@ use crate::turn_end::RouteTurn;
 use gate_fan::{Fan, Target};
 use gate_hub::HubNext;
 use gate_io::{Out, Sink, Wrote, write_all};
+use refusal_teller::{RefusalLines, Teller};
 use service_router::{RouteOutcome, Router};
 use session_judge::Setup;
 use std::alloc::Global;
@@ -40,6 +46,8 @@ pub enum End {
     HubFault,
     /// The line of a session that ended could not be written.
     WriteFault,
+    /// The line of a frame of the session at this place could not be written. The session goes on.
+    Unwritten(usize),
     /// The budget is spent, and the session at this place, if one is there, goes on.
     Budget(usize),
 }
@@ -70,6 +78,57 @@ pub fn tell<O: Sink>(
     write_all(output, line.bytes())
 }
 
+/// Writes a line where no write has failed before.
+fn tell_behind<O: Sink>(
+    wrote: Wrote,
+    line: &mut Out,
+    output: &mut O,
+    number: u64,
+    ending: Option<RouteOutcome>,
+) -> Wrote
+    requires { LINE_ROOM ≤ line.old.room }
+    ensures room { line.new.room ≡ line.old.room }
+    ensures line { WritesBehind wrote result (O.written output.old) (O.written output.new) (line_text number ending) }
+    ensures none { wrote ≡ Wrote.Failed → (result ≡ Wrote.Failed) × (output.new ≡ output.old) }
+    ensures later { O.faults output.old ≤ O.faults output.new }
+    ensures cause { result ≡ Wrote.Failed → (wrote ≡ Wrote.Failed) ⊎ Rose (O.faults output.old) (O.faults output.new) }
+{
+    match wrote {
+        Wrote::All => tell(line, output, number, ending),
+        Wrote::Failed => Wrote::Failed,
+    }
+}
+
+/// One turn of a session, with the lines of its refused frames, and whether each was written.
+fn turn_telling<M: Fan, O: Sink, L: RefusalLines>(
+    session: &mut OpenSession<'_>,
+    lines: &L,
+    fan: &mut M,
+    output: &mut O,
+    line: &mut Out,
+) -> (RouteTurn, Wrote)
+    requires room { L.room lines.now ≤ line.old.room }
+    requires targets { M.target_count fan.old ≡ targets_of session.old.router }
+    ensures turned { TurnGoes session.old.number
+        (λ notes. Writes result.1 (O.written output.old) (O.written output.new) (refusal_lines (L.text lines.now) session.old.number notes))
+        (M.tells fan.old) session.old.router (M.tells fan.new) session.new.router result.0 }
+    ensures number { session.new.number ≡ session.old.number }
+    ensures ending { EndsAs session.new.router.outcome result.0 }
+    ensures same { IsSame session.old.router session.new.router }
+    ensures holds { HoldsWithin session.new.router }
+    ensures room { line.new.room ≡ line.old.room }
+    ensures later { Later (M.counts fan.old) (M.counts fan.new) }
+    ensures targets { M.target_count fan.new ≡ M.target_count fan.old }
+    ensures cause { (port : ℕ) → result.0 ≡ RouteTurn.Ended (RouteOutcome.LinkFault port) →
+        LinkRose (M.counts fan.old) (M.counts fan.new) session.old.number port }
+    ensures output_later { O.faults output.old ≤ O.faults output.new }
+    ensures unwritten { result.1 ≡ Wrote.Failed → Rose (O.faults output.old) (O.faults output.new) }
+{
+    let mut teller = Teller::over(output, line, lines, session.number());
+    let turn = session.turn(fan, &mut teller);
+    (turn, teller.end())
+}
+
 /// The work goes on where the line of a session that ended was written.
 fn after_line(wrote: Wrote) -> Result<(), End>
     ensures all { wrote ≡ Wrote.All → (x : ⊤) × (result ≡ Ok x) }
@@ -81,16 +140,34 @@ fn after_line(wrote: Wrote) -> Result<(), End>
     }
 }
 
+/// The work goes on where each line of the session at a place was written.
+fn after_turn(wrote: Wrote, at: usize) -> Result<(), End>
+    ensures all { wrote ≡ Wrote.All → (x : ⊤) × (result ≡ Ok x) }
+    ensures failed { wrote ≡ Wrote.Failed → result ≡ Err (End.Unwritten at) }
+{
+    match wrote {
+        Wrote::All => Ok(()),
+        Wrote::Failed => Err(End::Unwritten(at)),
+    }
+}
+
 impl<'s> Server<'s> {
     /// Takes events until the fan stops or fails, a line can't be written or the budget is spent.
-    pub fn attend<M: Fan, O: Sink>(&mut self, alloc: Global, fan: &mut M, output: &mut O) -> End
+    pub fn attend<M: Fan, O: Sink, L: RefusalLines>(
+        &mut self,
+        alloc: Global,
+        lines: &L,
+        fan: &mut M,
+        output: &mut O,
+    ) -> End
         requires room { LINE_ROOM ≤ self.old.line.room }
+        requires lines { L.room lines.now ≤ self.old.line.room }
         requires targets { length self.old.terms.targets.now ≡ M.target_count fan.old }
         requires served { HaveTargets (M.target_count fan.old) self.old.sessions.items }
         requires budget { self.old.spent ≤ self.old.terms.events }
         requires good { AreGood self.old.terms }
         ensures room { self.new.line.room ≡ self.old.line.room }
-        ensures goes { Attends self.old (seen M.Fan O.Sink fan.old output.old fan.new output.new) self.new result }
+        ensures goes { Attends (L.text lines.now) self.old (seen M.Fan O.Sink fan.old output.old fan.new output.new) self.new result }
         ensures spends { SpendsBy (served_by result Wrote.All) self.new.spent self.old.terms.events }
         ensures later { Later (M.counts fan.old) (M.counts fan.new) }
         ensures targets { M.target_count fan.new ≡ M.target_count fan.old }
@@ -98,10 +175,11 @@ impl<'s> Server<'s> {
         ensures output_later { O.faults output.old ≤ O.faults output.new }
         ensures hub_cause { result ≡ End.HubFault → Rose (M.counts fan.old).faults (M.counts fan.new).faults }
         ensures cause { result ≡ End.WriteFault → Rose (O.faults output.old) (O.faults output.new) }
+        ensures unwritten { (at : ℕ) → result ≡ End.Unwritten at → Rose (O.faults output.old) (O.faults output.new) }
     {
         let events = self.terms.events;
         'serving: while self.spent < events {
-            match self.step(alloc, fan, output) {
+            match self.step(alloc, lines, fan, output) {
                 Ok(()) => (),
                 Err(ending) => return ending,
             }
@@ -176,17 +254,19 @@ impl<'s> Server<'s> {
         ensures targets { M.target_count fan.new ≡ M.target_count fan.old }
         ensures output_later { O.faults output.old ≤ O.faults output.new }
         ensures cause { result ≡ Err End.WriteFault → Rose (O.faults output.old) (O.faults output.new) }
+        ensures written { (k : ℕ) → result ≡ Err (End.Unwritten k) → ⊥ }
     {
         fan.close(number);
         after_line(tell(&mut self.line, output, number, Some(outcome)))
     }
 
-    /// Closes the session at a place, which has ended, and writes its line. Where it ended by a fault of a port, that was
-    /// counted since `from`.
+    /// Closes the session at a place, which has ended, and writes its line where no write has failed. Where it ended by a
+    /// fault of a port, that was counted since `from`.
     fn finish<M: Fan, O: Sink>(
         &mut self,
         at: usize,
         outcome: RouteOutcome,
+        wrote: Wrote,
         fan: &mut M,
         output: &mut O,
     ) -> Result<(), End>
@@ -195,66 +275,92 @@ impl<'s> Server<'s> {
         ensures same { (self.new.terms ≡ self.old.terms) × (self.new.line.room ≡ self.old.line.room) }
         ensures spent { self.new.spent ≡ self.old.spent }
         ensures ends { WorkEnds result self.new.spent self.old.terms.events }
-        ensures goes { Finishes at outcome self.old (seen M.Fan O.Sink fan.old output.old fan.new output.new) self.new result }
+        ensures goes { Finishes at outcome wrote self.old (seen M.Fan O.Sink fan.old output.old fan.new output.new) self.new result }
         ensures later { Later (M.counts fan.old) (M.counts fan.new) }
         ensures targets { M.target_count fan.new ≡ M.target_count fan.old }
         ensures served { (n : ℕ) → HaveTargets n self.old.sessions.items → HaveTargets n self.new.sessions.items }
         ensures output_later { O.faults output.old ≤ O.faults output.new }
-        ensures cause { result ≡ Err End.WriteFault → Rose (O.faults output.old) (O.faults output.new) }
+        ensures cause { result ≡ Err End.WriteFault → (wrote ≡ Wrote.Failed) ⊎ Rose (O.faults output.old) (O.faults output.new) }
+        ensures written { (k : ℕ) → result ≡ Err (End.Unwritten k) → ⊥ }
     {
         let number = self.sessions[at].number();
         drop(self.sessions.remove(at));
         fan.close(number);
-        after_line(tell(&mut self.line, output, number, Some(outcome)))
+        after_line(tell_behind(
+            wrote,
+            &mut self.line,
+            output,
+            number,
+            Some(outcome),
+        ))
     }
 
     /// Turns the session at a place until it is settled or has ended, or the budget is spent.
-    fn settle<M: Fan, O: Sink>(&mut self, at: usize, fan: &mut M, output: &mut O) -> Result<(), End>
+    fn settle<M: Fan, O: Sink, L: RefusalLines>(
+        &mut self,
+        at: usize,
+        lines: &L,
+        fan: &mut M,
+        output: &mut O,
+    ) -> Result<(), End>
         requires room { LINE_ROOM ≤ self.old.line.room }
+        requires lines { L.room lines.now ≤ self.old.line.room }
         requires served { HaveTargets (M.target_count fan.old) self.old.sessions.items }
         requires budget { self.old.spent ≤ self.old.terms.events }
         requires within { at < length self.old.sessions.items }
         ensures carried { IsCarriedOn self.old.terms self.new.terms self.old.line.room self.new.line.room self.old.spent self.new.spent }
         ensures ends { WorkEnds result self.new.spent self.old.terms.events }
-        ensures goes { Settles at self.old (seen M.Fan O.Sink fan.old output.old fan.new output.new) self.new result }
+        ensures goes { Settles (L.text lines.now) at self.old (seen M.Fan O.Sink fan.old output.old fan.new output.new) self.new result }
         ensures later { Later (M.counts fan.old) (M.counts fan.new) }
         ensures targets { M.target_count fan.new ≡ M.target_count fan.old }
         ensures served { HaveTargets (M.target_count fan.old) self.new.sessions.items }
         ensures output_later { O.faults output.old ≤ O.faults output.new }
         ensures cause { result ≡ Err End.WriteFault → Rose (O.faults output.old) (O.faults output.new) }
+        ensures unwritten { (k : ℕ) → result ≡ Err (End.Unwritten k) → Rose (O.faults output.old) (O.faults output.new) }
     {
         let events = self.terms.events;
         'turns: while self.spent < events {
-            match self.sessions[at].turn(fan) {
-                RouteTurn::Settled => return Ok(()),
-                RouteTurn::Ended(outcome) => return self.finish(at, outcome, fan, output),
+            let (turn, wrote) = turn_telling(
+                &mut self.sessions[at],
+                lines,
+                fan,
+                output,
+                &mut self.line,
+            );
+            match turn {
+                RouteTurn::Settled => return after_turn(wrote, at),
+                RouteTurn::Ended(outcome) => return self.finish(at, outcome, wrote, fan, output),
                 RouteTurn::More => self.spent += 1,
             }
+            after_turn(wrote, at)?;
         }
         Err(End::Budget(at))
     }
 
     /// Opens a session that was announced and turns it, or closes it.
-    fn admit<M: Fan, O: Sink>(
+    fn admit<M: Fan, O: Sink, L: RefusalLines>(
         &mut self,
         alloc: Global,
+        lines: &L,
         number: u64,
         fan: &mut M,
         output: &mut O,
     ) -> Result<(), End>
         requires room { LINE_ROOM ≤ self.old.line.room }
+        requires lines { L.room lines.now ≤ self.old.line.room }
         requires targets { length self.old.terms.targets.now ≡ M.target_count fan.old }
         requires served { HaveTargets (M.target_count fan.old) self.old.sessions.items }
         requires budget { self.old.spent ≤ self.old.terms.events }
         requires good { AreGood self.old.terms }
         ensures carried { IsCarriedOn self.old.terms self.new.terms self.old.line.room self.new.line.room self.old.spent self.new.spent }
         ensures ends { WorkEnds result self.new.spent self.old.terms.events }
-        ensures goes { Admits number self.old (seen M.Fan O.Sink fan.old output.old fan.new output.new) self.new result }
+        ensures goes { Admits (L.text lines.now) number self.old (seen M.Fan O.Sink fan.old output.old fan.new output.new) self.new result }
         ensures later { Later (M.counts fan.old) (M.counts fan.new) }
         ensures targets { M.target_count fan.new ≡ M.target_count fan.old }
         ensures served { HaveTargets (M.target_count fan.old) self.new.sessions.items }
         ensures output_later { O.faults output.old ≤ O.faults output.new }
         ensures cause { result ≡ Err End.WriteFault → Rose (O.faults output.old) (O.faults output.new) }
+        ensures unwritten { (k : ℕ) → result ≡ Err (End.Unwritten k) → Rose (O.faults output.old) (O.faults output.new) }
     {
         if self.sessions.len() >= self.terms.sessions {
             return self.refuse(number, RouteOutcome::Full, fan, output);
@@ -263,7 +369,7 @@ impl<'s> Server<'s> {
             return self.refuse(number, RouteOutcome::NoMemory, fan, output);
         };
         match self.hold(number, router) {
-            Some(at) => self.settle(at, fan, output),
+            Some(at) => self.settle(at, lines, fan, output),
             None => self.refuse(number, RouteOutcome::NoMemory, fan, output),
         }
     }
@@ -282,38 +388,43 @@ impl<'s> Server<'s> {
     }
 
     /// Turns a session that an event names.
-    fn resume<M: Fan, O: Sink>(
+    fn resume<M: Fan, O: Sink, L: RefusalLines>(
         &mut self,
+        lines: &L,
         number: u64,
         fan: &mut M,
         output: &mut O,
     ) -> Result<(), End>
         requires room { LINE_ROOM ≤ self.old.line.room }
+        requires lines { L.room lines.now ≤ self.old.line.room }
         requires served { HaveTargets (M.target_count fan.old) self.old.sessions.items }
         requires budget { self.old.spent ≤ self.old.terms.events }
         ensures carried { IsCarriedOn self.old.terms self.new.terms self.old.line.room self.new.line.room self.old.spent self.new.spent }
         ensures ends { WorkEnds result self.new.spent self.old.terms.events }
-        ensures goes { Resumes number self.old (seen M.Fan O.Sink fan.old output.old fan.new output.new) self.new result }
+        ensures goes { Resumes (L.text lines.now) number self.old (seen M.Fan O.Sink fan.old output.old fan.new output.new) self.new result }
         ensures later { Later (M.counts fan.old) (M.counts fan.new) }
         ensures targets { M.target_count fan.new ≡ M.target_count fan.old }
         ensures served { HaveTargets (M.target_count fan.old) self.new.sessions.items }
         ensures output_later { O.faults output.old ≤ O.faults output.new }
         ensures cause { result ≡ Err End.WriteFault → Rose (O.faults output.old) (O.faults output.new) }
+        ensures unwritten { (k : ℕ) → result ≡ Err (End.Unwritten k) → Rose (O.faults output.old) (O.faults output.new) }
     {
         match find(self.sessions.as_slice(), number) {
-            Some(at) => self.settle(at, fan, output),
+            Some(at) => self.settle(at, lines, fan, output),
             None => Ok(()),
         }
     }
 
     /// Takes the next event, and turns the session that it names. Every open session is settled before.
-    pub fn step<M: Fan, O: Sink>(
+    pub fn step<M: Fan, O: Sink, L: RefusalLines>(
         &mut self,
         alloc: Global,
+        lines: &L,
         fan: &mut M,
         output: &mut O,
     ) -> Result<(), End>
         requires room { LINE_ROOM ≤ self.old.line.room }
+        requires lines { L.room lines.now ≤ self.old.line.room }
         requires targets { length self.old.terms.targets.now ≡ M.target_count fan.old }
         requires served { HaveTargets (M.target_count fan.old) self.old.sessions.items }
         requires budget { self.old.spent < self.old.terms.events }
@@ -321,24 +432,25 @@ impl<'s> Server<'s> {
         requires good { AreGood self.old.terms }
         ensures carried { IsCarriedOn self.old.terms self.new.terms self.old.line.room self.new.line.room self.old.spent self.new.spent }
         ensures ends { StepEnds result self.old.spent self.new.spent self.old.terms.events }
-        ensures goes { Steps self.old (seen M.Fan O.Sink fan.old output.old fan.new output.new) self.new result }
+        ensures goes { Steps (L.text lines.now) self.old (seen M.Fan O.Sink fan.old output.old fan.new output.new) self.new result }
         ensures later { Later (M.counts fan.old) (M.counts fan.new) }
         ensures targets { M.target_count fan.new ≡ M.target_count fan.old }
         ensures served { HaveTargets (M.target_count fan.old) self.new.sessions.items }
         ensures output_later { O.faults output.old ≤ O.faults output.new }
         ensures hub_cause { result ≡ Err End.HubFault → Rose (M.counts fan.old).faults (M.counts fan.new).faults }
         ensures cause { result ≡ Err End.WriteFault → Rose (O.faults output.old) (O.faults output.new) }
+        ensures unwritten { (k : ℕ) → result ≡ Err (End.Unwritten k) → Rose (O.faults output.old) (O.faults output.new) }
     {
         match fan.next() {
             HubNext::Stopped => Err(End::Stopped),
             HubNext::Failed => Err(End::HubFault),
             HubNext::Opened(number) => {
                 self.spent += 1;
-                self.admit(alloc, number, fan, output)
+                self.admit(alloc, lines, number, fan, output)
             }
             HubNext::Ready(number) => {
                 self.spent += 1;
-                self.resume(number, fan, output)
+                self.resume(lines, number, fan, output)
             }
         }
     }

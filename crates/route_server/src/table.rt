@@ -1,5 +1,5 @@
 //! The sessions that are open, in the order of their numbers.
-ghost use Rattle.std.specs.Prelude.{◌≡◌, ◌⊎◌, ◌<◌, ◌≤◌, length, Some, None, IfSome, IfOk, slice_get, ℕ, ◌^◌};
+ghost use Rattle.std.specs.Prelude.{◌≡◌, [], ◌⊎◌, ◌<◌, ◌≤◌, length, Some, None, IfSome, IfOk, slice_get, ℕ, ◌^◌};
 ghost use Rattle.gate_fan.specs.Fans.{Later};
 ghost use Rattle.service_router.specs.Standing.{nothing};
 ghost use Rattle.service_router.specs.Setups.{rules_for};
@@ -16,6 +16,7 @@ use crate::turning::route_turn;
 use gate_base::OutOfMemory;
 use gate_fan::Fan;
 use service_router::{RouteOutcome, Router};
+use session_core::Notes;
 use std::alloc::Global;
 use std::marker::Model;
 
@@ -48,9 +49,10 @@ impl<'s> OpenSession<'s> {
     }
 
     /// One turn of the session.
-    pub fn turn<M: Fan>(&mut self, fan: &mut M) -> RouteTurn
+    pub fn turn<M: Fan, N: Notes>(&mut self, fan: &mut M, notes: &mut N) -> RouteTurn
         requires targets { M.target_count fan.old ≡ targets_of self.old.router }
-        ensures turned { TurnGoes self.old.number (M.tells fan.old) self.old.router (M.tells fan.new) self.new.router result }
+        ensures turned { TurnGoes self.old.number (N.tells notes.old notes.new)
+            (M.tells fan.old) self.old.router (M.tells fan.new) self.new.router result }
         ensures number { self.new.number ≡ self.old.number }
         ensures ending { EndsAs self.new.router.outcome result }
         ensures same { IsSame self.old.router self.new.router }
@@ -60,7 +62,7 @@ impl<'s> OpenSession<'s> {
         ensures cause { (port : ℕ) → result ≡ RouteTurn.Ended (RouteOutcome.LinkFault port) →
             LinkRose (M.counts fan.old) (M.counts fan.new) self.old.number port }
     {
-        route_turn(&mut self.router, fan, self.number)
+        route_turn(&mut self.router, fan, self.number, notes)
     }
 }
 
@@ -70,7 +72,7 @@ pub fn open_session<'s>(alloc: Global, terms: &Terms<'s>) -> Result<Router<'s>, 
     ensures judged { IfOk result (λ r. rules_in r ≡ rules_for terms.now.setup terms.now.targets.now) }
     ensures limits { IfOk result (λ r. (r.limit ≡ terms.now.setup.limit) × (r.max_calls ≡ terms.now.setup.calls)) }
     ensures targets { IfOk result (λ r. targets_of r ≡ length terms.now.targets.now) }
-    ensures matches { IfOk result (λ r. Matches r nothing) }
+    ensures matches { IfOk result (λ r. Matches r [] nothing) }
     ensures going { IfOk result (λ r. r.outcome ≡ None) }
     ensures rooms { IfOk result (λ r. r.rooms ≡ rooms_for terms.now.setup.limit terms.now.setup.calls (length terms.now.targets.now)) }
     ensures holds { IfOk result (λ r. HoldsWithin r) }

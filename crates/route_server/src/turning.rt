@@ -12,7 +12,7 @@ use crate::waiting::{MOST_PORTS, Waits};
 use gate_fan::Fan;
 use gate_hub::{LinkGot, LinkPut};
 use service_router::{RouteOutcome, Router};
-use session_core::Silent;
+use session_core::Notes;
 
 /// At most so many bytes are read or written by a call.
 const PIECE: usize = 4096;
@@ -26,9 +26,14 @@ const MOST_MOVES: u32 = 16;
 /// write is left out where nothing is due, a read where there is no room or the port has ended, and either once it answered in
 /// this turn that it isn't ready. A call that fails is the last, and ends the turn with `RouteOutcome::LinkFault`. It takes no
 /// memory: the router keeps its rooms, and holds no more than it may.
-pub fn route_turn<M: Fan>(router: &mut Router<'_>, fan: &mut M, k: u64) -> RouteTurn
+pub fn route_turn<M: Fan, N: Notes>(
+    router: &mut Router<'_>,
+    fan: &mut M,
+    k: u64,
+    notes: &mut N,
+) -> RouteTurn
     requires targets { M.target_count fan.old ≡ targets_of router.old }
-    ensures turned { TurnGoesInOrder k (M.tells fan.old) router.old (M.tells fan.new) router.new result }
+    ensures turned { TurnGoesInOrder k (N.tells notes.old notes.new) (M.tells fan.old) router.old (M.tells fan.new) router.new result }
     ensures ending { EndsAs router.new.outcome result }
     ensures same { IsSame router.old router.new }
     ensures holds { HoldsWithin router.new }
@@ -44,7 +49,7 @@ pub fn route_turn<M: Fan>(router: &mut Router<'_>, fan: &mut M, k: u64) -> Route
         if let Some(outcome) = router.outcome() {
             return RouteTurn::Ended(outcome);
         }
-        match round(router, fan, k, &mut waits, &mut piece) {
+        match round(router, fan, k, &mut waits, &mut piece, notes) {
             Err(port) => return RouteTurn::Ended(RouteOutcome::LinkFault(port)),
             Ok(0) => return RouteTurn::Settled,
             Ok(count) => moved += count,
@@ -57,16 +62,18 @@ pub fn route_turn<M: Fan>(router: &mut Router<'_>, fan: &mut M, k: u64) -> Route
 }
 
 /// Writes to each port and reads each, and answers how many calls moved something, or the port whose call failed.
-fn round<M: Fan>(
+fn round<M: Fan, N: Notes>(
     router: &mut Router<'_>,
     fan: &mut M,
     k: u64,
     waits: &mut Waits,
     piece: &mut [u8],
+    notes: &mut N,
 ) -> Result<u32, usize>
     requires piece { length piece.old ≡ piece_length }
     requires targets { M.target_count fan.old ≡ targets_of router.old }
-    ensures goes { Calls k wanted (M.tells fan.old) router.old waits.old (M.tells fan.new) router.new waits.new result }
+    ensures goes { Calls k wanted (N.tells notes.old notes.new)
+        (M.tells fan.old) router.old waits.old (M.tells fan.new) router.new waits.new result }
     ensures idle { wanted waits.old router.old ≡ None → (router.new ≡ router.old) × (waits.new ≡ waits.old) }
     ensures same { IsSame router.old router.new }
     ensures holds { HoldsWithin router.new }
@@ -77,20 +84,22 @@ fn round<M: Fan>(
     ensures few { IfOk result (λ n. n ≤ 2 * MOST_PORTS) }
     ensures piece { length piece.new ≡ length piece.old }
 {
-    let written = write_all(router, fan, k, waits)?;
-    let taken = read_all(router, fan, k, waits, piece)?;
+    let written = write_all(router, fan, k, waits, notes)?;
+    let taken = read_all(router, fan, k, waits, piece, notes)?;
     Ok(written + taken)
 }
 
 /// Writes to each port in order.
-fn write_all<M: Fan>(
+fn write_all<M: Fan, N: Notes>(
     router: &mut Router<'_>,
     fan: &mut M,
     k: u64,
     waits: &mut Waits,
+    notes: &mut N,
 ) -> Result<u32, usize>
     requires targets { M.target_count fan.old ≡ targets_of router.old }
-    ensures goes { Calls k (first_port to_write) (M.tells fan.old) router.old waits.old (M.tells fan.new) router.new waits.new result }
+    ensures goes { Calls k (first_port to_write) (N.tells notes.old notes.new)
+        (M.tells fan.old) router.old waits.old (M.tells fan.new) router.new waits.new result }
     ensures idle { first_port to_write waits.old router.old ≡ None → (router.new ≡ router.old) × (waits.new ≡ waits.old) }
     ensures same { IsSame router.old router.new }
     ensures holds { HoldsWithin router.new }
@@ -104,7 +113,7 @@ fn write_all<M: Fan>(
     let mut moved = 0;
     let mut port = 0;
     'ports: while port <= router.targets() {
-        let count = write(router, fan, k, port, waits)?;
+        let count = write(router, fan, k, port, waits, notes)?;
         moved += count;
         port += 1;
     }
@@ -112,16 +121,18 @@ fn write_all<M: Fan>(
 }
 
 /// Reads each port in order.
-fn read_all<M: Fan>(
+fn read_all<M: Fan, N: Notes>(
     router: &mut Router<'_>,
     fan: &mut M,
     k: u64,
     waits: &mut Waits,
     piece: &mut [u8],
+    notes: &mut N,
 ) -> Result<u32, usize>
     requires piece { length piece.old ≡ piece_length }
     requires targets { M.target_count fan.old ≡ targets_of router.old }
-    ensures goes { Calls k (first_port to_read) (M.tells fan.old) router.old waits.old (M.tells fan.new) router.new waits.new result }
+    ensures goes { Calls k (first_port to_read) (N.tells notes.old notes.new)
+        (M.tells fan.old) router.old waits.old (M.tells fan.new) router.new waits.new result }
     ensures idle { first_port to_read waits.old router.old ≡ None → (router.new ≡ router.old) × (waits.new ≡ waits.old) }
     ensures same { IsSame router.old router.new }
     ensures holds { HoldsWithin router.new }
@@ -136,7 +147,7 @@ fn read_all<M: Fan>(
     let mut moved = 0;
     let mut port = 0;
     'ports: while port <= router.targets() {
-        let count = read(router, fan, k, port, waits, piece)?;
+        let count = read(router, fan, k, port, waits, piece, notes)?;
         moved += count;
         port += 1;
     }
@@ -144,17 +155,19 @@ fn read_all<M: Fan>(
 }
 
 /// Writes what is due to a port.
-fn write<M: Fan>(
+fn write<M: Fan, N: Notes>(
     router: &mut Router<'_>,
     fan: &mut M,
     k: u64,
     port: usize,
     waits: &mut Waits,
+    notes: &mut N,
 ) -> Result<u32, usize>
     requires port { port ≤ targets_of router.old }
     requires few { port < MOST_PORTS }
     requires targets { M.target_count fan.old ≡ targets_of router.old }
-    ensures goes { Calls k (to_write port) (M.tells fan.old) router.old waits.old (M.tells fan.new) router.new waits.new result }
+    ensures goes { Calls k (to_write port) (N.tells notes.old notes.new)
+        (M.tells fan.old) router.old waits.old (M.tells fan.new) router.new waits.new result }
     ensures idle { to_write port waits.old router.old ≡ None → (router.new ≡ router.old) × (waits.new ≡ waits.old) }
     ensures same { IsSame router.old router.new }
     ensures holds { HoldsWithin router.new }
@@ -172,7 +185,7 @@ fn write<M: Fan>(
     let count = due.len().min(PIECE);
     match fan.write(k, port, &due[..count]) {
         LinkPut::Took(count) => {
-            pass_on(router, port, count);
+            pass_on(router, port, count, notes);
             Ok(1)
         }
         LinkPut::NotReady => {
@@ -184,19 +197,21 @@ fn write<M: Fan>(
 }
 
 /// Reads what the router has room for of a port.
-fn read<M: Fan>(
+fn read<M: Fan, N: Notes>(
     router: &mut Router<'_>,
     fan: &mut M,
     k: u64,
     port: usize,
     waits: &mut Waits,
     piece: &mut [u8],
+    notes: &mut N,
 ) -> Result<u32, usize>
     requires port { port ≤ targets_of router.old }
     requires few { port < MOST_PORTS }
     requires piece { length piece.old ≡ piece_length }
     requires targets { M.target_count fan.old ≡ targets_of router.old }
-    ensures goes { Calls k (to_read port) (M.tells fan.old) router.old waits.old (M.tells fan.new) router.new waits.new result }
+    ensures goes { Calls k (to_read port) (N.tells notes.old notes.new)
+        (M.tells fan.old) router.old waits.old (M.tells fan.new) router.new waits.new result }
     ensures idle { to_read port waits.old router.old ≡ None → (router.new ≡ router.old) × (waits.new ≡ waits.old) }
     ensures same { IsSame router.old router.new }
     ensures holds { HoldsWithin router.new }
@@ -214,11 +229,11 @@ fn read<M: Fan>(
     }
     match fan.read(k, port, &mut piece[..room]) {
         LinkGot::Bytes(count) => {
-            give(router, port, &piece[..count]);
+            give(router, port, &piece[..count], notes);
             Ok(1)
         }
         LinkGot::End => {
-            finish(router, port);
+            finish(router, port, notes);
             Ok(1)
         }
         LinkGot::NotReady => {
@@ -230,35 +245,33 @@ fn read<M: Fan>(
 }
 
 /// Gives the router bytes of a port that it has room for.
-fn give(router: &mut Router<'_>, port: usize, bytes: &[u8])
+fn give<N: Notes>(router: &mut Router<'_>, port: usize, bytes: &[u8], notes: &mut N)
     requires port { port ≤ targets_of router.old }
     requires room { length bytes.now ≤ room_of router.old.limit router.old.standing (is_some router.old.outcome) port }
-    ensures matches { MatchesOn router.old router.new (λ h. and_received port h bytes.now) }
+    ensures matches { MatchesOn router.old router.new (N.tells notes.old notes.new) (λ h. and_received port h bytes.now) }
     ensures same { IsSame router.old router.new }
     ensures holds { HoldsWithin router.new }
 {
-    let mut silent = Silent;
-    router.take(port, bytes, &mut silent);
+    router.take(port, bytes, notes);
 }
 
 /// So many bytes that were due to a port were sent to it.
-fn pass_on(router: &mut Router<'_>, port: usize, count: usize)
+fn pass_on<N: Notes>(router: &mut Router<'_>, port: usize, count: usize, notes: &mut N)
     requires due { count ≤ length (due_to port router.old.standing) }
-    ensures matches { MatchesOn router.old router.new (λ h. and_sent port h (take count (due_to port router.old.standing))) }
+    ensures matches { MatchesOn router.old router.new (N.tells notes.old notes.new)
+        (λ h. and_sent port h (take count (due_to port router.old.standing))) }
     ensures same { IsSame router.old router.new }
     ensures holds { HoldsWithin router.new }
 {
-    let mut silent = Silent;
-    router.sent(port, count, &mut silent);
+    router.sent(port, count, notes);
 }
 
 /// A port has ended.
-fn finish(router: &mut Router<'_>, port: usize)
+fn finish<N: Notes>(router: &mut Router<'_>, port: usize, notes: &mut N)
     requires port { port ≤ targets_of router.old }
-    ensures matches { MatchesOn router.old router.new (λ h. and_ended port h) }
+    ensures matches { MatchesOn router.old router.new (N.tells notes.old notes.new) (λ h. and_ended port h) }
     ensures same { IsSame router.old router.new }
     ensures holds { HoldsWithin router.new }
 {
-    let mut silent = Silent;
-    router.end(port, &mut silent);
+    router.end(port, notes);
 }

@@ -6,6 +6,7 @@ use gate_fan::{Fan, Target};
 use gate_hub::{Began, Served};
 use gate_memory::{Fails, FanStep, FanSteps, MemFan, MemSink};
 use protocol_traits::Proto;
+use refusal_teller::Untold;
 use route_server::route_serve;
 use session_judge::Setup;
 use std::alloc::Global;
@@ -246,7 +247,16 @@ fn serves(
     if fan.start(alloc, b"127.0.0.1:0", targets, 0, 1) != Began::Done {
         return false;
     }
-    let served = route_serve(alloc, &setup(schema), targets, 4, 1000, fan, output);
+    let served = route_serve(
+        alloc,
+        &setup(schema),
+        targets,
+        4,
+        1000,
+        &Untold,
+        fan,
+        output,
+    );
     served == Served::Stopped
 }
 

@@ -26,11 +26,11 @@ pub halts_is : (s : Setting) (x : List ℕ) (a : Said) (h : Halt) → IsFate s x
 halts_is s x a h (Opens g out j o d p) e = let wrong = sym j ∙ e in absurd (cc)
 halts_is s x a h (Goes out j o d p) e = let wrong = sym j ∙ e in absurd (cc)
 halts_is s x a h (IsAnswered cause answer j o d p) e = let wrong = sym j ∙ e in absurd (cc)
-halts_is s x a h (IsDropped j d p) e = let wrong = sym j ∙ e in absurd (cc)
+halts_is s x a h (IsDropped cause j d p) e = let wrong = sym j ∙ e in absurd (cc)
 halts_is s x a h (Halts g j d p) e = let same : client.Halts g ≡ client.Halts h = sym j ∙ e in d ∙ ap Ends (cc)
 
 pub reply_halts_is : (s : Setting) (call : Header) (y : List ℕ) (r : Said) (h : Halt) → IsReplyFate s call y r → (rules_of s).replied (kept s call) y ≡ upstream.Halts h → EndsUpstream r h
-reply_halts_is s call y r h (Answers v e none) is = let wrong = sym v ∙ is in absurd (cc)
+reply_halts_is s call y r h (Answers refused v e none) is = let wrong = sym v ∙ is in absurd (cc)
 reply_halts_is s call y r h (HaltsReply k v e ends) is = let same : upstream.Halts k ≡ upstream.Halts h = sym v ∙ is in subst (EndsUpstream r) (cc) ends
 
 module _ (s : Setting) (limit : ℕ) (law : StandsAtFront) (small : limit < 2 ^ 31) where

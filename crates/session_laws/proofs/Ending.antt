@@ -60,7 +60,7 @@ done_of rules limit max_calls s o e = done_by s s.to_client s.to_upstream _ o re
 
 reply_halts : (v : UpstreamJudged) (s : Standing) (calls : List Call) (reply rest : List ℕ) (x : Halt) → by_reply v s calls reply rest ≡ steps.Halts x → v ≡ upstream.Halts x
 reply_halts (upstream.Halts y) s calls reply rest x e = ap upstream.Halts (halt_is y x e)
-reply_halts upstream.Answers s calls reply rest x e = absurd (cc)
+reply_halts (upstream.Answers refused) s calls reply rest x e = absurd (cc)
 
 part_halts : (ended : Bool) (x : Halt) → (if ended then steps.Halts halt.Inside else steps.Waits) ≡ steps.Halts x → (ended ≡ true) × (halt.Inside ≡ x)
 part_halts true x e = (refl, halt_is halt.Inside x e)
@@ -112,7 +112,7 @@ client_halts_by (client.Refused cause) s output answer rest x c d e =
     let taken = steps.Takes (record s { client = rest; to_client = framed answer; taken = told (s.taken + 1) }) in
     let is : by_judged (client.Refused cause) s output answer rest ≡ taken = ap (λ t. if is_none t && is_none s.to_client then taken else steps.Waits) c ∙ ap (λ t. if is_none t then taken else steps.Waits) d in
     let wrong : taken ≡ steps.Halts x = sym is ∙ e in absurd (cc)
-client_halts_by client.Dropped s output answer rest x c d e = absurd (cc)
+client_halts_by (client.Dropped cause) s output answer rest x c d e = absurd (cc)
 
 client_waits_by : (v : ClientJudged) (s : Standing) (output answer rest : List ℕ) → s.calls ≡ [] → s.to_client ≡ [] → by_judged v s output answer rest ≡ steps.Waits → ⊥
 client_waits_by (client.Halts y) s output answer rest c d e = cc
@@ -122,7 +122,7 @@ client_waits_by (client.Refused cause) s output answer rest c d e =
     let taken = steps.Takes (record s { client = rest; to_client = framed answer; taken = told (s.taken + 1) }) in
     let is : by_judged (client.Refused cause) s output answer rest ≡ taken = ap (λ t. if is_none t && is_none s.to_client then taken else steps.Waits) c ∙ ap (λ t. if is_none t then taken else steps.Waits) d in
     let wrong : taken ≡ steps.Waits = sym is ∙ e in absurd (cc)
-client_waits_by client.Dropped s output answer rest c d e = cc
+client_waits_by (client.Dropped cause) s output answer rest c d e = cc
 
 client_front_halts : (rules : Rules) (limit : ℕ) (s : Standing) (f : Front) (x : Halt) → s.calls ≡ [] → s.to_client ≡ [] → front limit s.client ≡ f → client_front rules s f ≡ steps.Halts x → Halted (ClientHaltsBy rules) limit s.client s.client_ended x
 client_front_halts rules limit s Part x c d e m = absurd (cc)

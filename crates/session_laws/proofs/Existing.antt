@@ -99,7 +99,7 @@ module _ (s : Setting) (limit : ℕ) (law : StandsAtFront) (small : limit < 2 ^ 
   by_fate x bytes a within says (Opens h out j o d p) all = goes_on x bytes a within says (Opens h out j o d p) (λ k e. let wrong : Waits h ≡ Ends k = sym d ∙ e in absurd (cc)) all
   by_fate x bytes a within says (Goes out j o d p) all = goes_on x bytes a within says (Goes out j o d p) (λ k e. let wrong : exchange.Passes ≡ Ends k = sym d ∙ e in absurd (cc)) all
   by_fate x bytes a within says (IsAnswered cause answer j o d p) all = goes_on x bytes a within says (IsAnswered cause answer j o d p) (λ k e. let wrong : Tells answer ≡ Ends k = sym d ∙ e in absurd (cc)) all
-  by_fate x bytes a within says (IsDropped j d p) all = goes_on x bytes a within says (IsDropped j d p) (λ k e. let wrong : exchange.Passes ≡ Ends k = sym d ∙ e in absurd (cc)) all
+  by_fate x bytes a within says (IsDropped cause j d p) all = goes_on x bytes a within says (IsDropped cause j d p) (λ k e. let wrong : exchange.Passes ≡ Ends k = sym d ∙ e in absurd (cc)) all
   by_fate x bytes a within says (Halts h j d p) all = stops x bytes a h within says j d
 
   client_from : (xs : List (List ℕ)) (rest : List ℕ) → All (λ frame. length frame ≤ limit) xs → AreBytes (flat_map framed xs ++ rest) → is_whole (front limit rest) ≡ false → AllOfClient (flat_map framed xs ++ rest)
@@ -157,7 +157,7 @@ module _ (s : Setting) (limit : ℕ) (law : StandsAtFront) (small : limit < 2 ^ 
   }
 
   by_reply : (call : Header) (hs : List Header) (y bytes : List ℕ) (r : Said) → length y ≤ limit → Says (replying s call) y r → IsReplyFate s call y r → AllOfUpstream hs bytes → AllOfUpstream (call ∷ hs) (framed y ++ bytes)
-  by_reply call hs y bytes r within says (Answers v e none) all = replies_on call hs y bytes r within says (Answers v e none) none all
+  by_reply call hs y bytes r within says (Answers refused v e none) all = replies_on call hs y bytes r within says (Answers refused v e none) none all
   by_reply call hs y bytes r within says (HaltsReply h v e ends) all =
       none_replies (call ∷ hs) (framed y ++ bytes) (λ frame behind other whole at.
       let same : call ≡ other = cc in

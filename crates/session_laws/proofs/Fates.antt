@@ -103,7 +103,7 @@ pub data IsFate (s : Setting) (x : List ℕ) (a : Said) : Type 0 where
   Opens : (h : Header) (out : List ℕ) → (rules_of s).judged x ≡ client.Opens (call_of (method_of s h)) → (rules_of s).output x ≡ out → done s a ≡ Waits h → passed s a ≡ out ∷ [] → IsFate s x a
   Goes : (out : List ℕ) → (rules_of s).judged x ≡ client.Goes → (rules_of s).output x ≡ out → done s a ≡ exchange.Passes → passed s a ≡ out ∷ [] → IsFate s x a
   IsAnswered : (cause : Cause) (answer : List ℕ) → (rules_of s).judged x ≡ client.Refused cause → (rules_of s).answer x ≡ answer → done s a ≡ Tells answer → passed s a ≡ [] → IsFate s x a
-  IsDropped : (rules_of s).judged x ≡ client.Dropped → done s a ≡ exchange.Passes → passed s a ≡ [] → IsFate s x a
+  IsDropped : (cause : Cause) → (rules_of s).judged x ≡ client.Dropped cause → done s a ≡ exchange.Passes → passed s a ≡ [] → IsFate s x a
   Halts : (h : Halt) → (rules_of s).judged x ≡ client.Halts h → done s a ≡ Ends h → passed s a ≡ [] → IsFate s x a
 
 module _ (s : Setting) (x : List ℕ) where
@@ -142,15 +142,15 @@ module _ (s : Setting) (x : List ℕ) where
       → (rules_of s).judged x ≡ refused (method_of s h) cause h.mtype → (rules_of s).answer x ≡ answer_by (answered s.client s.client x) (refused (method_of s h) cause h.mtype)
       → IsFate s x (saying.IsRefused h cause (answered s.client s.client x cause))
   refused_fate h cause types.Call true e b j k =
-      let v : refused (method_of s h) cause h.mtype ≡ client.Refused cause = ap (refused (method_of s h) cause) e ∙ ap (λ t. if t then client.Refused cause else client.Dropped) b in
+      let v : refused (method_of s h) cause h.mtype ≡ client.Refused cause = ap (refused (method_of s h) cause) e ∙ ap (λ t. if t then client.Refused cause else client.Dropped cause) b in
       let way : way_of s h ≡ exchange.Answered = ap (way_by (method_of s h)) e ∙ ap (λ t. if t then exchange.Answered else exchange.Unanswered) b in
       IsAnswered cause (answered s.client s.client x cause) (j ∙ v) (k ∙ ap (answer_by (answered s.client s.client x)) v) (ap (λ w. done_for_refused w (answered s.client s.client x cause)) way) refl
   refused_fate h cause types.Call false e b j k =
-      let v : refused (method_of s h) cause h.mtype ≡ client.Dropped = ap (refused (method_of s h) cause) e ∙ ap (λ t. if t then client.Refused cause else client.Dropped) b in
+      let v : refused (method_of s h) cause h.mtype ≡ client.Dropped cause = ap (refused (method_of s h) cause) e ∙ ap (λ t. if t then client.Refused cause else client.Dropped cause) b in
       let way : way_of s h ≡ exchange.Unanswered = ap (way_by (method_of s h)) e ∙ ap (λ t. if t then exchange.Answered else exchange.Unanswered) b in
-      IsDropped (j ∙ v) (ap (λ w. done_for_refused w (answered s.client s.client x cause)) way) refl
+      IsDropped cause (j ∙ v) (ap (λ w. done_for_refused w (answered s.client s.client x cause)) way) refl
   refused_fate h cause types.Oneway b e f j k =
-      IsDropped (j ∙ ap (refused (method_of s h) cause) e) (ap (λ w. done_for_refused w (answered s.client s.client x cause)) (ap (way_by (method_of s h)) e)) refl
+      IsDropped cause (j ∙ ap (refused (method_of s h) cause) e) (ap (λ w. done_for_refused w (answered s.client s.client x cause)) (ap (way_by (method_of s h)) e)) refl
   refused_fate h cause types.Reply b e f j k =
       Halts halt.WrongWay (j ∙ ap (refused (method_of s h) cause) e) (ap (λ w. done_for_refused w (answered s.client s.client x cause)) (ap (way_by (method_of s h)) e)) refl
   refused_fate h cause types.Exception b e f j k =

@@ -27,7 +27,7 @@ module _ (s : Setting) where
   opened_is x a (Opens h out j o d p) = ap session.opened j ∙ sym (ap (λ t. map (kept s) (opened t)) d)
   opened_is x a (Goes out j o d p) = ap session.opened j ∙ sym (ap (λ t. map (kept s) (opened t)) d)
   opened_is x a (IsAnswered cause answer j o d p) = ap session.opened j ∙ sym (ap (λ t. map (kept s) (opened t)) d)
-  opened_is x a (IsDropped j d p) = ap session.opened j ∙ sym (ap (λ t. map (kept s) (opened t)) d)
+  opened_is x a (IsDropped cause j d p) = ap session.opened j ∙ sym (ap (λ t. map (kept s) (opened t)) d)
   opened_is x a (Halts h j d p) = ap session.opened j ∙ sym (ap (λ t. map (kept s) (opened t)) d)
 
   pub calls_are : (xs : List (List ℕ)) (said : List Said) → Fated s xs said → session.calls_of (rules_of s) xs ≡ map (kept s) (calls s said)
@@ -43,7 +43,7 @@ module _ (s : Setting) where
   sent_is x a (Opens h out j o d p) = ap (λ v. session.sent_on v ((rules_of s).output x)) j ∙ (ap framed o ∙ (sym (append-nil (framed out)) ∙ sym (ap (flat_map framed) p)))
   sent_is x a (Goes out j o d p) = ap (λ v. session.sent_on v ((rules_of s).output x)) j ∙ (ap framed o ∙ (sym (append-nil (framed out)) ∙ sym (ap (flat_map framed) p)))
   sent_is x a (IsAnswered cause answer j o d p) = ap (λ v. session.sent_on v ((rules_of s).output x)) j ∙ sym (ap (flat_map framed) p)
-  sent_is x a (IsDropped j d p) = ap (λ v. session.sent_on v ((rules_of s).output x)) j ∙ sym (ap (flat_map framed) p)
+  sent_is x a (IsDropped cause j d p) = ap (λ v. session.sent_on v ((rules_of s).output x)) j ∙ sym (ap (flat_map framed) p)
   sent_is x a (Halts h j d p) = ap (λ v. session.sent_on v ((rules_of s).output x)) j ∙ sym (ap (flat_map framed) p)
 
   pub onward_is : (xs : List (List ℕ)) (said : List Said) → Fated s xs said → session.onward (rules_of s) xs ≡ flat_map framed (onward s said)
@@ -56,7 +56,7 @@ module _ (s : Setting) where
   -- ---- back
 
   returned_is : (h : Header) (y : List ℕ) (r : Said) → IsReplyFate s h y r → (rules_of s).reply (kept s h) y ≡ returned r
-  returned_is h y r (Answers v e none) = e
+  returned_is h y r (Answers refused v e none) = e
   returned_is h y r (HaltsReply k v e ends) = e
 
   replied_is : (h : Header) (hs : List Header) (next : List (List ℕ) → List ℕ) (next' : List Said → List (List ℕ)) (answer : List ℕ) (ys : List (List ℕ)) (rs : List Said) → RepliesFated s (h ∷ hs) ys rs
@@ -84,7 +84,7 @@ module _ (s : Setting) where
       ap (λ v. session.back_by (rules_of s) v ((rules_of s).answer x) (λ zs. session.back (rules_of s) xs zs) ys) j
       ∙ (ap (λ t. framed t ++ session.back (rules_of s) xs ys) o
       ∙ (ap (λ t. framed answer ++ t) (same ys rs (behind_done a said _ ys rs d f)) ∙ sym (ap (λ t. flat_map framed (back_for t (λ qs. back s said qs) rs)) d)))
-  back_step x a xs said ys rs (IsDropped j d p) f same =
+  back_step x a xs said ys rs (IsDropped cause j d p) f same =
       ap (λ v. session.back_by (rules_of s) v ((rules_of s).answer x) (λ zs. session.back (rules_of s) xs zs) ys) j
       ∙ (same ys rs (behind_done a said _ ys rs d f) ∙ sym (ap (λ t. flat_map framed (back_for t (λ qs. back s said qs) rs)) d))
   back_step x a xs said ys rs (Halts h j d p) f same =

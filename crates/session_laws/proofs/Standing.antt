@@ -32,14 +32,14 @@ tells_is : (s : Setting) (x : List ℕ) (a : Said) (cause : Cause) → IsFate s 
 tells_is s x a cause (Opens g out j o d p) e = let wrong = sym j ∙ e in absurd (cc)
 tells_is s x a cause (Goes out j o d p) e = let wrong = sym j ∙ e in absurd (cc)
 tells_is s x a cause (IsAnswered c answer j o d p) e = (answer, d)
-tells_is s x a cause (IsDropped j d p) e = let wrong = sym j ∙ e in absurd (cc)
+tells_is s x a cause (IsDropped other j d p) e = let wrong = sym j ∙ e in absurd (cc)
 tells_is s x a cause (Halts g j d p) e = let wrong = sym j ∙ e in absurd (cc)
 
 is_refused : (s : Setting) (x : List ℕ) (a : Said) (answer : List ℕ) → IsFate s x a → done s a ≡ Tells answer → (cause : Cause) × ((rules_of s).judged x ≡ client.Refused cause)
 is_refused s x a answer (Opens g out j o d p) e = let wrong : Waits g ≡ Tells answer = sym d ∙ e in absurd (cc)
 is_refused s x a answer (Goes out j o d p) e = let wrong : exchange.Passes ≡ Tells answer = sym d ∙ e in absurd (cc)
 is_refused s x a answer (IsAnswered cause told j o d p) e = (cause, j)
-is_refused s x a answer (IsDropped j d p) e = let wrong : exchange.Passes ≡ Tells answer = sym d ∙ e in absurd (cc)
+is_refused s x a answer (IsDropped cause j d p) e = let wrong : exchange.Passes ≡ Tells answer = sym d ∙ e in absurd (cc)
 is_refused s x a answer (Halts g j d p) e = let wrong : Ends g ≡ Tells answer = sym d ∙ e in absurd (cc)
 
 get_longer : {X : Type 0} (xs more : List X) (k : ℕ) (x : X) → slice_get xs k ≡ Some x → slice_get (xs ++ more) k ≡ Some x

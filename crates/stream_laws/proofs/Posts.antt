@@ -54,7 +54,7 @@ as_passed told told' s start a b (inl c) =
     inl (record {
       result = c.result;
       held = c.held;
-      ended = c.ended;
+      said = c.said;
       lines = c.lines;
       writes = c.writes;
       answers = c.answers;
@@ -123,7 +123,7 @@ module _ {H : Type 0} (tells : H → Meaning → Type 0) (counts : H → Counts)
       inl (record {
         result = c.result;
         held = c.held;
-        ended = c.ended;
+        said = c.said;
         lines = c.lines;
         writes = c.writes;
         answers = c.answers;

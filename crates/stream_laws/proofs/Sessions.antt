@@ -15,7 +15,8 @@ use Rattle.gate_run.specs.Outcome.{Streams}
 use Rattle.gate_words.specs.declared.peers.Front.{Front}
 use Rattle.gate_run.specs.Posts.{ServesByFront}
 use Rattle.gate_run.specs.Peers.{ServesBySides}
-use Rattle.gate_run.specs.Serving.{ServesAll, Began, NotBegun, Unfound, NoMemory, started_by, setting_by, settings, served_from}
+use Rattle.gate_run.specs.Serving.{ServesAll, Began, NotBegun, Unfound, NoMemory, started_by, setting_by, settings, telling_by, served_from}
+use Rattle.refusal_lines.specs.Told.{told_text}
 use Rattle.gate_run.specs.Undisturbed.{IsUntouched}
 use Rattle.gate_run.specs.declared.start.NoStart.{NoStart}
 use Rattle.gate_run.specs.declared.start.Start.{Start}
@@ -30,7 +31,7 @@ fresh s m n before e = subst (λ (x : Meaning). IsFresh x) (sym e) (record { sta
 
 -- the law of a server of these sessions
 abbrev pub IsServer : Serving → Start → Outside → Outside → Type 0
-IsServer s start a b = (result : Served) → Serves Setting rules_of (settings s start) a b result → CarriesAll (setting_by s start) s.limit s.calls a b result
+IsServer s start a b = (result : Served) → Serves Setting rules_of (settings s start) (told_text (telling_by s)) a b result → CarriesAll (setting_by s start) s.limit s.calls (told_text (telling_by s)) a b result
 
 -- the same of any two moments, where what is told was received consists of bytes
 abbrev pub IsLaw : Serving → Start → Type 1
@@ -43,7 +44,7 @@ module _ {H : Type 0} (tells : H → Meaning → Type 0) (counts : H → Counts)
       inl (record {
         result = result;
         held = all.held;
-        ended = all.ended;
+        said = all.said;
         lines = all.lines;
         writes = all.writes;
         answers = all.answers;

@@ -53,7 +53,7 @@ module _ {H : Type 0} (tells : H → Meaning → Type 0) (counts : H → Counts)
       inl (record {
         result = result;
         held = all.held;
-        ended = all.ended;
+        said = all.said;
         lines = all.lines;
         writes = all.writes;
         answers = all.answers;

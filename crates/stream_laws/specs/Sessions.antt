@@ -7,7 +7,9 @@ use Rattle.gate_hub.specs.declared.hub.Side.TheVariants as side
 use Rattle.stream_messages.specs.declared.lanes.Wrapping.{Wrapping}
 use Rattle.unframed_laws.specs.Wrapped.{SideIsTold}
 use Rattle.session_judge.specs.Setting.{Setting}
-use Rattle.proxy_server.specs.Serving.{Entry, Closing, KeepsFrom}
+use Rattle.session_core.specs.Notes.{Note}
+use Rattle.proxy_server.specs.Saying.{Closing, Said, closings}
+use Rattle.proxy_server.specs.Serving.{Entry, KeepsFrom}
 use Rattle.proxy_server.specs.Steps.{LinesEnd, WritesLines, AnswersLines}
 use Rattle.gate_words.specs.Commands.{command}
 use Rattle.gate_words.specs.declared.command.Command.TheVariants.{Serve}
@@ -17,7 +19,8 @@ use Rattle.gate_words.specs.declared.serving.Serving.{Serving}
 use Rattle.gate_run.specs.Outcome.{Streams}
 use Rattle.gate_run.specs.Peers.{wrapping_by}
 use Rattle.gate_run.specs.Running.{StartsWith}
-use Rattle.gate_run.specs.Serving.{setting_by}
+use Rattle.gate_run.specs.Serving.{setting_by, telling_by}
+use Rattle.refusal_lines.specs.Told.{told_text}
 use Rattle.gate_run.specs.Starting.{Halts}
 use Rattle.gate_run.specs.Undisturbed.{ServerRun, IsUntouched}
 use Rattle.gate_run.specs.declared.start.Start.{Start}
@@ -29,19 +32,19 @@ pub record HasNotServed (told told' : Meaning → Type 0) (a b : Streams) : Type
   pub written : b.written ≡ a.written
 
 -- the lines were written, as far as they go with the answer, and what is told leads to what is told then, by which the sessions are so
-pub record HasCarriedBy (told told' : Meaning → Type 0) (a b : Streams) (Sessions : Served → List (Entry Setting) → List Closing → Meaning → Type 0) : Type 0 where
+pub record HasCarriedBy (told told' : Meaning → Type 0) (text : ℕ → Note → List ℕ) (a b : Streams) (Sessions : Served → LinesEnd → List (Entry Setting) → List Closing → Meaning → Type 0) : Type 0 where
   pub result : Served
   pub held : List (Entry Setting)
-  pub ended : List Closing
+  pub said : List Said
   pub lines : LinesEnd
-  pub writes : WritesLines lines a.written b.written a.output_faults b.output_faults ended held
+  pub writes : WritesLines text lines a.written b.written a.output_faults b.output_faults said held
   pub answers : AnswersLines result lines
-  pub sessions : KeepsFrom told told' IsUntouched (λ m n. Sessions result held ended n)
+  pub sessions : KeepsFrom told told' IsUntouched (λ m n. Sessions result lines held (closings said) n)
 
 -- each session that was announced has a course that its line tells
 abbrev pub HasCarried : (Meaning → Type 0) → (Meaning → Type 0) → Serving → Start → Streams → Streams → Type 0
 HasCarried told told' s start a b =
-    HasCarriedBy told told' a b (λ result held ended n. (k : ℕ) → (n.session k).announced ≡ true → HasCourse (setting_by s start) s.limit s.calls result held ended n k)
+    HasCarriedBy told told' (told_text (telling_by s)) a b (λ result lines held ended n. (k : ℕ) → (n.session k).announced ≡ true → HasCourse (setting_by s start) s.limit s.calls result lines held ended n k)
 
 abbrev pub CarriesMessages : (Meaning → Type 0) → (Meaning → Type 0) → Serving → Start → Streams → Streams → Type 0
 CarriesMessages told told' s start a b = HasCarried told told' s start a b ⊎ HasNotServed told told' a b
@@ -50,16 +53,16 @@ CarriesMessages told told' s start a b = HasCarried told told' s start a b ⊎ H
 
 -- over the session that the hub tells, this one: what was read of a side without frames is a front of the frames of the messages that the
 -- hub received there, and what the hub sent is what was written without the lengths. It has a course that its line tells.
-pub record IsCarriedOver (w : Wrapping) (s : Setting) (limit max_calls : ℕ) (result : Served) (held : List (Entry Setting)) (ended : List Closing) (inner outer : Meaning) (k : ℕ) : Type 0 where
+pub record IsCarriedOver (w : Wrapping) (s : Setting) (limit max_calls : ℕ) (result : Served) (lines : LinesEnd) (held : List (Entry Setting)) (ended : List Closing) (inner outer : Meaning) (k : ℕ) : Type 0 where
   pub client : SideIsTold w side.Client (inner.session k) (outer.session k)
   pub upstream : SideIsTold w side.Upstream (inner.session k) (outer.session k)
-  pub course : HasCourse s limit max_calls result held ended outer k
+  pub course : HasCourse s limit max_calls result lines held ended outer k
 
 -- each session that was announced has a course over one of frames
 abbrev pub HasCarriedOver : Wrapping → (Meaning → Type 0) → (Meaning → Type 0) → Serving → Start → Streams → Streams → Type 0
 HasCarriedOver w told told' s start a b =
-    HasCarriedBy told told' a b
-    (λ result held ended n. (outer : Meaning) × ((k : ℕ) → (n.session k).announced ≡ true → IsCarriedOver w (setting_by s start) s.limit s.calls result held ended n outer k))
+    HasCarriedBy told told' (told_text (telling_by s)) a b
+    (λ result lines held ended n. (outer : Meaning) × ((k : ℕ) → (n.session k).announced ≡ true → IsCarriedOver w (setting_by s start) s.limit s.calls result lines held ended n outer k))
 
 -- the hub didn't start, and nothing was written
 pub record HasNotServedOver (told told' : Meaning → Type 0) (a b : Streams) : Type 0 where

@@ -22,6 +22,6 @@ returns g c x commanded runs plain =
     subst (λ hub. CarriesPosts (tells x.hub) (tells hub) s start a b) over.1
     (carried_posts tells counts c.told_clients_are_served.ensures s start x.hub over.0 over.2 a b x.ending small.0.0 small.0.1 c.wrapped_sides_are_framed.ensures
     (λ before behind bytes result by.
-    carries_all (setting_by s start) s.limit s.calls s.sessions s.events c.frame_stands_at_the_front.ensures c.a_stream_is_split.ensures small.0.1 small.1 before behind result bytes by)
+    carries_all (setting_by s start) s.limit s.calls s.sessions s.events c.frame_stands_at_the_front.ensures c.a_stream_is_split.ensures small.0.1 small.1 _ before behind result bytes by)
     (λ n told. g.met.H.Hub.bytes over.0.inner n told) plain small.2 over.3))
     runs

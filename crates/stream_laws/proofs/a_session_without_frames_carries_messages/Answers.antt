@@ -25,7 +25,7 @@ returns g c x sides commanded runs plain =
     subst (λ hub. CarriesMessagesOver w (tells x.hub) (tells hub) s start a b) over.1
     (carried_over tells counts w small.0.0 small.0.1 c.wrapped_sides_are_framed.ensures s start x.hub over.0 over.2 (λ n told. g.met.H.Hub.bytes over.0.inner n told) a b x.ending
     (λ mid result by.
-    carries_all (setting_by s start) s.limit s.calls s.sessions s.events c.frame_stands_at_the_front.ensures c.a_stream_is_split.ensures small.0.1 small.1 _ _ result
+    carries_all (setting_by s start) s.limit s.calls s.sessions s.events c.frame_stands_at_the_front.ensures c.a_stream_is_split.ensures small.0.1 small.1 _ _ _ result
     (bytes_over (tells over.0.inner) over.0.wrapping over.0.slots (λ n told. g.met.H.Hub.bytes over.0.inner n told)) by)
     over.3))
     runs

@@ -3,7 +3,7 @@ use Rattle.gate_fan.specs.Fans.{Later}
 use Rattle.service_router.specs.Router.{IsSame, HoldsWithin, targets_of}
 use Rattle.route_server.specs.Calling.{piece_length}
 use Rattle.route_server.specs.Matching.{Matches}
-use Rattle.route_server.specs.Turning.{Goes, Runs, to_read, first_of, IsRead, AreDone, KeepsMarks}
+use Rattle.route_server.specs.Turning.{GoesTelling, Runs, to_read, first_of, IsRead, AreDone, KeepsMarks}
 use Rattle.route_server.proofs.Running.{Idle}
 use Rattle.route_server.proofs.turning.read_all.Given as goal
 
@@ -14,7 +14,7 @@ invariant-ports g l =
     let r0 = l.fn.router in
     let w0 = l.fn.waits in
     record {
-      goes : Goes (fan.tells l.fn.fan) (fan.tells l.fan) (Matches r0) (Matches l.router) l.fn.k (Runs l.fn.k (targets_of r0) (first_of to_read l.port w0 r0) l.moved w0 l.waits);
+      goes : GoesTelling (g.N.Notes.tells l.fn.notes l.notes) (fan.tells l.fn.fan) (fan.tells l.fan) (Matches r0) (Matches l.router) l.fn.k (Runs l.fn.k (targets_of r0) (first_of to_read l.port w0 r0) l.moved w0 l.waits);
       idle : Idle (first_of to_read l.port w0 r0) r0 l.router w0 l.waits;
       same : IsSame r0 l.router;
       holds : 0 < l.port → HoldsWithin l.router;

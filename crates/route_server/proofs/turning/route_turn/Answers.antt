@@ -5,7 +5,7 @@ use Rattle.route_server.specs.Calling.{Wanted}
 use Rattle.route_server.specs.Matching.{Matches}
 use Rattle.route_server.specs.Turning.{Goes, Begins, Runs, Breaks, amount, wanted, no_waits, or_else, Settles, GoesOn, BreaksOff, Ends, ByLink, ByRouter}
 use Rattle.route_server.specs.declared.waiting.Waits.{Waits}
-use Rattle.route_server.proofs.Running.{goes_on, goes_nowhere, goes_weaker, then_runs, then_breaks, runs_at, runs_on, runs_not, settles, later_on, later_not, same_on, same_not, want_on}
+use Rattle.route_server.proofs.Running.{telling_on, telling_by, telling_none, goes_on, goes_nowhere, goes_weaker, then_runs, then_breaks, runs_at, runs_on, runs_not, settles, later_on, later_not, same_on, same_not, want_on}
 use Rattle.route_server.proofs.turning.route_turn.Goals as goal
 
 -- how the calls so far began: none was made and nothing has changed, or with what was wanted first
@@ -54,7 +54,8 @@ rounds-init g c =
     record {
       goes = (
         None,
-        subst (λ (w : Waits). Goes tells tells (Matches r) (Matches r) k (Runs k targets None 0 no_waits w)) (sym c.none-waits.ensures) (goes_nowhere tells (Matches r) k (Runs k targets None 0 no_waits no_waits) (runs_not k targets no_waits)),
+        telling_none _ tells tells (Matches r) (Matches r) k _ (g.met.N.Notes.stays _)
+            (λ past. subst (λ (w : Waits). Goes tells tells (Matches r past) (Matches r past) k (Runs k targets None 0 no_waits w)) (sym c.none-waits.ensures) (goes_nowhere tells (Matches r past) k (Runs k targets None 0 no_waits no_waits) (runs_not k targets no_waits))),
         inl (refl, refl, refl, c.none-waits.ensures),
       );
       idle = λ _. (refl, c.none-waits.ensures);
@@ -80,11 +81,13 @@ returns-in-Some-clause-turned g c =
     let k = c.args.k in
     let r0 = c.args.router.now in
     let r = c.rounds.router in
-    goes_weaker (tells c.args.fan.now) (tells c.rounds.fan) (Matches r0) (Matches r) k _ _
+    telling_by _ (tells c.args.fan.now) (tells c.rounds.fan) (Matches r0) (Matches r) k _ _
+    (λ d e went. goes_weaker (tells c.args.fan.now) (tells c.rounds.fan) (Matches r0 d) (Matches r e) k _ _
     (λ made a b p. (
       (λ going. begins_whole k r0 r c.rounds.waits c.rounds.moved i.goes.0 made i.goes.2 (λ same. some_none r0.outcome c.in-Some.outcome (ap (λ t. t.outcome) (sym same) ∙ sym c.in-Some.ensures.told) going) p.begins),
       (p.grows, ByRouter (sym c.in-Some.ensures.told) c.in-Some.ensures.own p.none_failed),
     ))
+    went)
     i.goes.1
 
 pub returns-in-Err-clause-turned : goal.returns-in-Err-clause-turned
@@ -98,12 +101,14 @@ returns-in-Err-clause-turned g c =
     let r = c.rounds.router in
     let w = c.rounds.waits in
     let x = c.in-Err.port in
-    goes_weaker (tells c.args.fan.now) (tells new.fan) (Matches r0) (Matches new.router) k (Breaks k (or_else i.goes.0 (wanted w r)) x) _
+    telling_on _ _ _ (tells c.args.fan.now) (tells c.rounds.fan) (tells new.fan) (Matches r0) (Matches r) (Matches new.router) k _ _ _ (λ xs ys. g.met.N.Notes.follows _ _ _ xs ys)
+    (λ d e f first second. goes_weaker (tells c.args.fan.now) (tells new.fan) (Matches r0 d) (Matches new.router f) k (Breaks k (or_else i.goes.0 (wanted w r)) x) _
     (λ made a b p. (
-      (λ _. subst (λ (f : Option Wanted). Begins k f made) (whole r0 r w n i.goes.0 i.goes.2 i.idle) p.begins),
+      (λ _. subst (λ (v : Option Wanted). Begins k v made) (whole r0 r w n i.goes.0 i.goes.2 i.idle) p.begins),
       (p.grows, ByLink x refl p.last p.failed p.others),
     ))
-    (then_breaks (tells c.args.fan.now) (tells c.rounds.fan) (tells new.fan) (Matches r0) (Matches r) (Matches new.router) k (targets_of r0) i.goes.0 (wanted w r) n no_waits w x i.goes.1 c.in-Err.ensures.goes)
+    (then_breaks (tells c.args.fan.now) (tells c.rounds.fan) (tells new.fan) (Matches r0 d) (Matches r e) (Matches new.router f) k (targets_of r0) i.goes.0 (wanted w r) n no_waits w x first second))
+    i.goes.1 c.in-Err.ensures.goes
 
 pub returns-in-Err-clause-ending : goal.returns-in-Err-clause-ending
 returns-in-Err-clause-ending g c = BreaksOff c.in-Err.port
@@ -122,15 +127,17 @@ returns-in-Ok-eq0-clause-turned g c =
     let targets = targets_of r0 in
     let quiet = c.in-Ok-eq0.ensures.quiet (ap Ok c.in-Ok-eq0.field-0-test) in
     let going : new.router.outcome ≡ None = ap (λ t. t.outcome) quiet.0 ∙ sym c.in_default.ensures.told in
-    goes_on (tells c.args.fan.now) (tells c.rounds.fan) (tells new.fan) (Matches r0) (Matches r) (Matches new.router) k (Runs k targets i.goes.0 n no_waits w) (Runs k targets (wanted w r) m w new.waits) _
+    telling_on _ _ _ (tells c.args.fan.now) (tells c.rounds.fan) (tells new.fan) (Matches r0) (Matches r) (Matches new.router) k _ _ _ (λ xs ys. g.met.N.Notes.follows _ _ _ xs ys)
+    (λ d e l first second. goes_on (tells c.args.fan.now) (tells c.rounds.fan) (tells new.fan) (Matches r0 d) (Matches r e) (Matches new.router l) k (Runs k targets i.goes.0 n no_waits w) (Runs k targets (wanted w r) m w new.waits) _
     (λ made a b p. (p.grows.announced, p.grows.closed))
     (λ made more s a b p q fit.
     let both = runs_on k targets i.goes.0 (wanted w r) n m no_waits w new.waits made more s a b p q in (
       (λ _. subst (λ (f : Option Wanted). Begins k f (made ++ more)) (whole r0 r w n i.goes.0 i.goes.2 i.idle) both.begins),
-      settles new.router k targets _ (n + m) new.waits (made ++ more) s b going quiet.1 fit both,
+      settles new.router l k targets _ (n + m) new.waits (made ++ more) s b going quiet.1 fit both,
     ))
-    i.goes.1
-    (runs_at (tells c.rounds.fan) (tells new.fan) (Matches r) (Matches new.router) k m targets (targets_of r) (wanted w r) (wanted w r) w new.waits i.same.targets refl c.in-Ok-eq0.ensures.goes)
+    first
+    (runs_at (tells c.rounds.fan) (tells new.fan) (Matches r e) (Matches new.router l) k m targets (targets_of r) (wanted w r) (wanted w r) w new.waits i.same.targets refl second))
+    i.goes.1 c.in-Ok-eq0.ensures.goes
 
 pub returns-in-Ok-eq0-clause-ending : goal.returns-in-Ok-eq0-clause-ending
 returns-in-Ok-eq0-clause-ending g c =
@@ -149,12 +156,14 @@ rounds-preserved g c =
     let r = c.rounds.router in
     let w = c.rounds.waits in
     let targets = targets_of r0 in
-    let second = runs_at (tells c.rounds.fan) (tells new.fan) (Matches r) (Matches new.router) k m targets (targets_of r) (wanted w r) (wanted w r) w new.waits i.same.targets refl c.in-Ok.ensures.goes in
     record {
       goes = (
         wanted no_waits r0,
-        runs_at (tells c.args.fan.now) (tells new.fan) (Matches r0) (Matches new.router) k (n + m) targets targets (or_else i.goes.0 (wanted w r)) (wanted no_waits r0) no_waits new.waits refl (whole r0 r w n i.goes.0 i.goes.2 i.idle)
-            (then_runs (tells c.args.fan.now) (tells c.rounds.fan) (tells new.fan) (Matches r0) (Matches r) (Matches new.router) k targets i.goes.0 (wanted w r) n m no_waits w new.waits i.goes.1 second),
+        telling_on _ _ _ (tells c.args.fan.now) (tells c.rounds.fan) (tells new.fan) (Matches r0) (Matches r) (Matches new.router) k _ _ _ (λ xs ys. g.met.N.Notes.follows _ _ _ xs ys)
+            (λ d e f first second. runs_at (tells c.args.fan.now) (tells new.fan) (Matches r0 d) (Matches new.router f) k (n + m) targets targets (or_else i.goes.0 (wanted w r)) (wanted no_waits r0) no_waits new.waits refl (whole r0 r w n i.goes.0 i.goes.2 i.idle)
+            (then_runs (tells c.args.fan.now) (tells c.rounds.fan) (tells new.fan) (Matches r0 d) (Matches r e) (Matches new.router f) k targets i.goes.0 (wanted w r) n m no_waits w new.waits first
+            (runs_at (tells c.rounds.fan) (tells new.fan) (Matches r e) (Matches new.router f) k m targets (targets_of r) (wanted w r) (wanted w r) w new.waits i.same.targets refl second)))
+            i.goes.1 c.in-Ok.ensures.goes,
         inr refl,
       );
       idle = λ none.
@@ -179,11 +188,13 @@ returns-in-Some-outcome-clause-turned g c =
     let k = c.args.k in
     let r0 = c.args.router.now in
     let r = c.rounds.router in
-    goes_weaker (tells c.args.fan.now) (tells c.rounds.fan) (Matches r0) (Matches r) k _ _
+    telling_by _ (tells c.args.fan.now) (tells c.rounds.fan) (Matches r0) (Matches r) k _ _
+    (λ d e went. goes_weaker (tells c.args.fan.now) (tells c.rounds.fan) (Matches r0 d) (Matches r e) k _ _
     (λ made a b p. (
       (λ _. begins_moved k r0 r c.rounds.waits c.rounds.moved i.goes.0 made i.goes.2 (omega (arith, c.rounds-test.false)) p.begins),
       (p.grows, ByRouter (sym c.in-Some-outcome.ensures.told) c.in-Some-outcome.ensures.own p.none_failed),
     ))
+    went)
     i.goes.1
 
 pub returns-in-None-clause-ending : goal.returns-in-None-clause-ending
@@ -196,9 +207,11 @@ returns-in-None-clause-turned g c =
     let k = c.args.k in
     let r0 = c.args.router.now in
     let r = c.rounds.router in
-    goes_weaker (tells c.args.fan.now) (tells c.rounds.fan) (Matches r0) (Matches r) k _ _
+    telling_by _ (tells c.args.fan.now) (tells c.rounds.fan) (Matches r0) (Matches r) k _ _
+    (λ d e went. goes_weaker (tells c.args.fan.now) (tells c.rounds.fan) (Matches r0 d) (Matches r e) k _ _
     (λ made a b p. (
       (λ _. begins_moved k r0 r c.rounds.waits c.rounds.moved i.goes.0 made i.goes.2 (omega (arith, c.rounds-test.false)) p.begins),
       (p.grows, p.none_failed, subst (λ (n : ℕ). amount n a + 16 ≤ amount n b) (sym i.same.targets) (omega (arith, p.amount_is, c.rounds-test.false)), sym c.in-None.ensures.told),
     ))
+    went)
     i.goes.1

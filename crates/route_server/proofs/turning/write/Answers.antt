@@ -1,11 +1,11 @@
-use Rattle.std.proofs.Common.{rules, arith, ◌≡◌, ◌⊎◌, ◌==◌, inl, inr, true, length, refl, ap, sym, ◌∙◌, subst, take}
+use Rattle.std.proofs.Common.{rules, arith, ◌≡◌, ◌⊎◌, ◌==◌, inl, inr, true, length, ◌++◌, refl, ap, sym, ◌∙◌, subst, take}
 use Rattle.gate_fan.specs.Meaning.{Wrote}
 use Rattle.gate_hub.specs.declared.hub.LinkPut.TheVariants as put
 use Rattle.service_router.specs.Standing.{and_sent}
 use Rattle.service_router.specs.Router.{targets_of}
 use Rattle.route_server.specs.Matching.{Matches}
 use Rattle.route_server.specs.Turning.{to_write, write_waits}
-use Rattle.route_server.proofs.Running.{goes_by, took, write_waited, write_failed, take_of_front, leaves_out, write_wants, write_left_out, writes_first}
+use Rattle.route_server.proofs.Running.{telling_none, goes_by, took, write_waited, write_failed, take_of_front, leaves_out, write_wants, write_left_out, writes_first}
 use Rattle.route_server.proofs.turning.write.Goals.{then-is_empty-via-then-is_empty, then-is_empty-via-else-is_empty+then-write}
 use Rattle.route_server.proofs.turning.write.Goals as goal
 
@@ -20,7 +20,8 @@ returns-then-is_empty-clause-goes g c =
       | then-is_empty-via-then-is_empty v ↦ inl (sym c.is_empty.ensures ∙ v.if-is_empty.true)
       | then-is_empty-via-else-is_empty+then-write v ↦ inr (sym v.write.ensures ∙ v.if-write.true)
     ] in
-    leaves_out (g.M.Fan.tells c.args.fan.now) (Matches r) c.args.k (targets_of r) (to_write x w r) w (write_left_out x w r due c.due-due.ensures.bytes why)
+    telling_none _ _ _ (Matches r) (Matches r) c.args.k _ (g.met.N.Notes.stays _)
+    (λ past. leaves_out (g.M.Fan.tells c.args.fan.now) (Matches r past) c.args.k (targets_of r) (to_write x w r) w (write_left_out x w r due c.due-due.ensures.bytes why))
 
 pub returns-in-Took-clause-goes : goal.returns-in-Took-clause-goes
 returns-in-Took-clause-goes g c =
@@ -36,9 +37,13 @@ returns-in-Took-clause-goes g c =
     let wants = write_wants x w r due c.min-count.result c.due-due.ensures.bytes (sym c.if-is_empty.ensures) (sym c.if-write.ensures) c.min-count.ensures in
     let first = to_write x w r in
     let call = Wrote k x (length from) (put.Took n) in
-    goes_by _ _ (Matches r) (Matches r') k x _ call _ _ (omega (arith, c.requires.port, c.requires.targets)) (refl, wants.1) c.in-Took.ensures.leads
-    (λ a b fit does. took k (targets_of r) first call x from n w r r' a b (writes_first k x (length from) (put.Took n) first wants.0) c.requires.port c.in-Took.ensures.within.0 c.in-Took.ensures.within.1 (sym c.if-write.ensures)
-    (λ h m. subst (λ xs. Matches r' (and_sent x h xs)) (sym same) (c.pass_on.ensures.matches h m)) fit does)
+    let m = c.pass_on.ensures.matches in (
+      m.0,
+      m.1,
+      λ past. goes_by _ _ (Matches r past) (Matches r' (past ++ m.0)) k x _ call _ _ (omega (arith, c.requires.port, c.requires.targets)) (refl, wants.1) c.in-Took.ensures.leads
+          (λ a b fit does. took k (targets_of r) first call x from n w r r' past (past ++ m.0) a b (writes_first k x (length from) (put.Took n) first wants.0) c.requires.port c.in-Took.ensures.within.0 c.in-Took.ensures.within.1 (sym c.if-write.ensures)
+    (λ h q. subst (λ xs. Matches r' (past ++ m.0) (and_sent x h xs)) (sym same) (m.2 past h q)) fit does),
+    )
 
 pub returns-in-NotReady-clause-goes : goal.returns-in-NotReady-clause-goes
 returns-in-NotReady-clause-goes g c =
@@ -51,8 +56,9 @@ returns-in-NotReady-clause-goes g c =
     let wants = write_wants x w r due c.min-count.result c.due-due.ensures.bytes (sym c.if-is_empty.ensures) (sym c.if-write.ensures) c.min-count.ensures in
     let first = to_write x w r in
     let call = Wrote k x (length from) put.NotReady in
-    goes_by _ _ (Matches r) (Matches r) k x _ call _ _ (omega (arith, c.requires.port, c.requires.targets)) (refl, wants.1) c.in-NotReady.ensures.leads
-    (λ a b fit does. write_waited k (targets_of r) first call x from w c.mark_write.new.self r a b (writes_first k x (length from) put.NotReady first wants.0) c.requires.port c.mark_write.ensures fit does)
+    telling_none _ _ _ (Matches r) (Matches r) k _ (g.met.N.Notes.stays _)
+    (λ past. goes_by _ _ (Matches r past) (Matches r past) k x _ call _ _ (omega (arith, c.requires.port, c.requires.targets)) (refl, wants.1) c.in-NotReady.ensures.leads
+    (λ a b fit does. write_waited k (targets_of r) first call x from w c.mark_write.new.self r past a b (writes_first k x (length from) put.NotReady first wants.0) c.requires.port c.mark_write.ensures fit does))
 
 pub returns-in-Failed-clause-goes : goal.returns-in-Failed-clause-goes
 returns-in-Failed-clause-goes g c =
@@ -65,5 +71,6 @@ returns-in-Failed-clause-goes g c =
     let wants = write_wants x w r due c.min-count.result c.due-due.ensures.bytes (sym c.if-is_empty.ensures) (sym c.if-write.ensures) c.min-count.ensures in
     let first = to_write x w r in
     let call = Wrote k x (length from) put.Failed in
-    goes_by _ _ (Matches r) (Matches r) k x _ call _ _ (omega (arith, c.requires.port, c.requires.targets)) (refl, wants.1) c.in-Failed.ensures.leads
-    (λ a b fit does. write_failed k first call x from r a b (writes_first k x (length from) put.Failed first wants.0) (refl, refl, refl) fit does)
+    telling_none _ _ _ (Matches r) (Matches r) k _ (g.met.N.Notes.stays _)
+    (λ past. goes_by _ _ (Matches r past) (Matches r past) k x _ call _ _ (omega (arith, c.requires.port, c.requires.targets)) (refl, wants.1) c.in-Failed.ensures.leads
+    (λ a b fit does. write_failed k first call x from r past a b (writes_first k x (length from) put.Failed first wants.0) (refl, refl, refl) fit does))

@@ -2,7 +2,7 @@ use Rattle.std.proofs.Common.{rules, ◌≡◌, ◌+◌, None, Ok, Err, arith, r
 use Rattle.service_router.specs.Router.{targets_of}
 use Rattle.route_server.specs.Matching.{Matches}
 use Rattle.route_server.specs.Turning.{Runs, to_write, first_of, first_port, IsWritten}
-use Rattle.route_server.proofs.Running.{goes_nowhere, runs_not, runs_at, same_not, same_on, later_not, later_on, marks_not, marks_on, port_runs, port_breaks, idle_next, idle_wider, done_next, done_all, written_still, ok_is}
+use Rattle.route_server.proofs.Running.{telling_on, telling_by, telling_none, goes_nowhere, runs_not, runs_at, same_not, same_on, later_not, later_on, marks_not, marks_on, port_runs, port_breaks, idle_next, idle_wider, done_next, done_all, written_still, ok_is}
 use Rattle.route_server.proofs.turning.write_all.Goals as goal
 
 pub ports-init : goal.ports-init
@@ -11,7 +11,7 @@ ports-init g c =
     let w = c.args.waits.now in
     let k = c.args.k in
     record {
-      goes = goes_nowhere (g.M.Fan.tells c.args.fan.now) (Matches r) k (Runs k (targets_of r) None 0 w w) (runs_not k (targets_of r) w);
+      goes = telling_none _ _ _ (Matches r) (Matches r) k _ (g.met.N.Notes.stays _) (λ past. goes_nowhere (g.M.Fan.tells c.args.fan.now) (Matches r past) k (Runs k (targets_of r) None 0 w w) (runs_not k (targets_of r) w));
       idle = λ _. (refl, refl);
       same = same_not r;
       holds = λ some. absurd (omega (arith, some));
@@ -42,7 +42,8 @@ ports-preserved g c =
     let does = c.write.ensures in
     let n = c.in_ok-count.count in
     record {
-      goes = port_runs to_write (tells c.args.fan.now) (tells c.ports.fan) (tells new.fan) r0 r new.router k (targets_of r0) at c.ports.moved n w0 w new.waits i.same.targets i.idle i.goes c.in_ok-count.ensures.goes;
+      goes = telling_on _ _ _ (tells c.args.fan.now) (tells c.ports.fan) (tells new.fan) (Matches r0) (Matches r) (Matches new.router) k _ _ _ (λ xs ys. g.met.N.Notes.follows _ _ _ xs ys)
+          (λ a b d p q. port_runs to_write (tells c.args.fan.now) (tells c.ports.fan) (tells new.fan) (Matches r0 a) (Matches r b) (Matches new.router d) r0 r k (targets_of r0) at c.ports.moved n w0 w new.waits i.same.targets i.idle p q) i.goes c.in_ok-count.ensures.goes;
       idle = idle_next to_write at r0 r new.router w0 w new.waits i.idle does.idle;
       same = same_on r0 r new.router i.same does.same;
       holds = λ _. does.holds;
@@ -67,8 +68,10 @@ returns-in_err-count-clause-goes g c =
     let i = c.ports.invariant in
     let r0 = c.args.router.now in
     let new = c.write.new in
-    port_breaks to_write (tells c.args.fan.now) (tells c.ports.fan) (tells new.fan) r0 c.ports.router new.router c.args.k (targets_of r0) c.ports.port c.ports.moved c.in_err-count.field-0.0 c.args.waits.now c.ports.waits new.waits _ is
-    (omega (arith, c.ports-test.true, c.targets.ensures.count, i.same.targets)) i.idle i.goes c.in_err-count.ensures.goes
+    let r = c.ports.router in
+    telling_on _ _ _ (tells c.args.fan.now) (tells c.ports.fan) (tells new.fan) (Matches r0) (Matches r) (Matches new.router) c.args.k _ _ _ (λ xs ys. g.met.N.Notes.follows _ _ _ xs ys)
+    (λ a b d p q. port_breaks to_write (tells c.args.fan.now) (tells c.ports.fan) (tells new.fan) (Matches r0 a) (Matches r b) (Matches new.router d) r0 r c.args.k (targets_of r0) c.ports.port c.ports.moved c.in_err-count.field-0.0 c.args.waits.now c.ports.waits new.waits _ is
+    (omega (arith, c.ports-test.true, c.targets.ensures.count, i.same.targets)) i.idle p q) i.goes c.in_err-count.ensures.goes
 
 pub returns-in_err-count-clause-idle : goal.returns-in_err-count-clause-idle
 returns-in_err-count-clause-idle g c =
@@ -88,8 +91,9 @@ returns-clause-goes g c =
     let w0 = c.args.waits.now in
     let at = c.ports.port in
     let end : at ≡ targets_of r0 + 1 = omega (arith, c.ports-test.false, c.targets.ensures.count, i.within, i.same.targets) in
-    runs_at (tells c.args.fan.now) (tells c.ports.fan) (Matches r0) (Matches c.ports.router) c.args.k c.ports.moved (targets_of r0) (targets_of r0) (first_of to_write at w0 r0) (first_port to_write w0 r0) w0 c.ports.waits refl
-    (ap (λ z. first_of to_write z w0 r0) end) i.goes
+    telling_by _ (tells c.args.fan.now) (tells c.ports.fan) (Matches r0) (Matches c.ports.router) c.args.k _ _
+    (λ a b p. runs_at (tells c.args.fan.now) (tells c.ports.fan) (Matches r0 a) (Matches c.ports.router b) c.args.k c.ports.moved (targets_of r0) (targets_of r0) (first_of to_write at w0 r0) (first_port to_write w0 r0) w0 c.ports.waits refl
+    (ap (λ z. first_of to_write z w0 r0) end) p) i.goes
 
 pub returns-clause-idle : goal.returns-clause-idle
 returns-clause-idle g c =

@@ -23,7 +23,8 @@ returns-in-Some-clause-goes g c =
     let held' = c.hold.new.self.sessions.items in
     let moment = outside tells g.M.Fan.counts g.O.Sink.written g.O.Sink.faults in
     let now = moment c.args.fan.now c.args.output.now in
-    goes_after set now now (moment c.settle.new.fan c.settle.new.output) (λ begun. Awaits set begun spent k held) (λ begun. IsBusy set begun c.hold.new.self.spent at held') c.settle.new.self.spent c.settle.new.self.sessions.items c.settle.result refl (later_not _)
+    let text = g.L.RefusalLines.text c.args.lines.now in
+    goes_after set text now now (moment c.settle.new.fan c.settle.new.output) (λ begun. Awaits set begun spent k held) (λ begun. IsBusy set begun c.hold.new.self.spent at held') c.settle.new.self.spent c.settle.new.self.sessions.items c.settle.result refl (later_not _)
     (λ begun past. stays_so (tells c.args.fan.now) (Awaits set begun spent k held past) (IsBusy set begun c.hold.new.self.spent at held' past)
     (λ m a. subst (λ n. IsBusy set begun n at held' past m) (sym c.hold.ensures.same.2)
     (subst (λ xs. IsBusy set begun spent at xs past m) (sym some.1)
@@ -34,12 +35,12 @@ returns-in-Some-clause-goes g c =
 pub returns-then-len-self-clause-goes : goal.returns-then-len-self-clause-goes
 returns-then-len-self-clause-goes g c =
     let set = setting_of c.args.self.now.terms in
-    c.refuse.ensures.goes set refl
+    c.refuse.ensures.goes set (g.L.RefusalLines.text c.args.lines.now) refl
 
 pub returns-in_default-clause-goes : goal.returns-in_default-clause-goes
 returns-in_default-clause-goes g c =
     let set = setting_of c.args.self.now.terms in
-    c.refuse-in_default.ensures.goes set refl
+    c.refuse-in_default.ensures.goes set (g.L.RefusalLines.text c.args.lines.now) refl
 
 pub returns-in-None-clause-goes : goal.returns-in-None-clause-goes
 returns-in-None-clause-goes g c =
@@ -48,10 +49,20 @@ returns-in-None-clause-goes g c =
     let k = c.args.number in
     let set = setting_of c.args.self.now.terms in
     let r = c.refuse-in-None in
-    let goes = r.ensures.goes set (sym (ap (λ l. l.sessions) c.hold.ensures.same.0)) in
+    let text = g.L.RefusalLines.text c.args.lines.now in
+    let goes = r.ensures.goes set text (sym (ap (λ l. l.sessions) c.hold.ensures.same.0)) in
     let moment = outside tells g.M.Fan.counts g.O.Sink.written g.O.Sink.faults in
-    subst (λ n. Goes set (moment c.args.fan.now c.args.output.now) (moment r.new.fan r.new.output) (λ begun. Awaits set begun n k held) r.new.self.spent r.new.self.sessions.items r.result) c.hold.ensures.same.2
-    (subst (λ xs. Goes set (moment c.args.fan.now c.args.output.now) (moment r.new.fan r.new.output) (λ begun. Awaits set begun c.hold.new.self.spent k xs) r.new.self.spent r.new.self.sessions.items r.result) (c.in-None.ensures.none refl) goes)
+    subst (λ n. Goes set text (moment c.args.fan.now c.args.output.now) (moment r.new.fan r.new.output) (λ begun. Awaits set begun n k held) r.new.self.spent r.new.self.sessions.items r.result) c.hold.ensures.same.2
+    (subst (λ xs. Goes set text (moment c.args.fan.now c.args.output.now) (moment r.new.fan r.new.output) (λ begun. Awaits set begun c.hold.new.self.spent k xs) r.new.self.spent r.new.self.sessions.items r.result) (c.in-None.ensures.none refl) goes)
+
+pub returns-then-len-self-clause-unwritten : goal.returns-then-len-self-clause-unwritten
+returns-then-len-self-clause-unwritten g c = λ k is. absurd (c.refuse.ensures.written k is)
+
+pub returns-in_default-clause-unwritten : goal.returns-in_default-clause-unwritten
+returns-in_default-clause-unwritten g c = λ k is. absurd (c.refuse-in_default.ensures.written k is)
+
+pub returns-in-None-clause-unwritten : goal.returns-in-None-clause-unwritten
+returns-in-None-clause-unwritten g c = λ k is. absurd (c.refuse-in-None.ensures.written k is)
 
 pub settle-requires-clause-served : goal.settle-requires-clause-served
 settle-requires-clause-served g c =

@@ -18,7 +18,7 @@ serving-init g c =
     record {
       terms = refl;
       room = refl;
-      goes = (tt, goes_quietly set now now (λ begun. Waits set begun spent held) spent held _ (appends_none _) (λ begun past. stays_so (tells c.args.fan.now) (Waits set begun spent held past) (Waits set begun spent held past) (λ m s. s)));
+      goes = (tt, goes_quietly set (g.L.RefusalLines.text c.args.lines.now) now now (λ begun. Waits set begun spent held) spent held _ (appends_none _) (λ begun past. stays_so (tells c.args.fan.now) (Waits set begun spent held past) (Waits set begun spent held past) (λ m s. s)));
       budget = c.requires.budget;
       later = later_not _;
       output_later = omega arith;
@@ -30,6 +30,7 @@ pub serving-preserved : goal.serving-preserved
 serving-preserved g c =
     let tells = g.M.Fan.tells in
     let moment = outside tells g.M.Fan.counts g.O.Sink.written g.O.Sink.faults in
+    let text = g.L.RefusalLines.text c.args.lines.now in
     let set = setting_of c.args.self.now.terms in
     let i = c.serving.invariant in
     let before = moment c.args.fan.now c.args.output.now in
@@ -39,12 +40,12 @@ serving-preserved g c =
     let held = c.serving.self.sessions.items in
     let spent = c.serving.self.spent in
     let new = c.step.new.self in
-    let went = subst (λ r. Goes set mid after (λ begun. Waits set begun spent held) new.spent new.sessions.items r) c.in-Ok.is
-    (subst (λ t. Goes (setting_of t) mid after (λ begun. Waits (setting_of t) begun spent held) new.spent new.sessions.items c.step.result) i.terms c.step.ensures.goes) in
+    let went = subst (λ r. Goes set text mid after (λ begun. Waits set begun spent held) new.spent new.sessions.items r) c.in-Ok.is
+    (subst (λ t. Goes (setting_of t) text mid after (λ begun. Waits (setting_of t) begun spent held) new.spent new.sessions.items c.step.result) i.terms c.step.ensures.goes) in
     record {
       terms = c.step.ensures.carried.0 ∙ i.terms;
       room = c.step.ensures.carried.1 ∙ i.room;
-      goes = (_, chained set before mid after i.goes.0 old.spent spent new.spent old.sessions.items held new.sessions.items _ i.later c.step.ensures.later i.goes.1 went);
+      goes = (_, chained set text before mid after i.goes.0 old.spent spent new.spent old.sessions.items held new.sessions.items _ i.later c.step.ensures.later i.goes.1 went);
       budget = omega (arith, c.step.ensures.carried.3, ap (λ l. l.events) i.terms);
       later = later_on _ _ _ i.later c.step.ensures.later;
       output_later = omega (arith, i.output_later, c.step.ensures.output_later);
@@ -56,6 +57,7 @@ pub returns-in-Err-clause-goes : goal.returns-in-Err-clause-goes
 returns-in-Err-clause-goes g c =
     let tells = g.M.Fan.tells in
     let moment = outside tells g.M.Fan.counts g.O.Sink.written g.O.Sink.faults in
+    let text = g.L.RefusalLines.text c.args.lines.now in
     let set = setting_of c.args.self.now.terms in
     let i = c.serving.invariant in
     let before = moment c.args.fan.now c.args.output.now in
@@ -65,8 +67,8 @@ returns-in-Err-clause-goes g c =
     let held = c.serving.self.sessions.items in
     let spent = c.serving.self.spent in
     let new = c.step.new.self in
-    let went = subst (λ t. Goes (setting_of t) mid after (λ begun. Waits (setting_of t) begun spent held) new.spent new.sessions.items (Err c.in-Err.ending)) i.terms c.in-Err.ensures.goes in
-    chained set before mid after i.goes.0 old.spent spent new.spent old.sessions.items held new.sessions.items (Err c.in-Err.ending) i.later c.step.ensures.later i.goes.1 went
+    let went = subst (λ t. Goes (setting_of t) text mid after (λ begun. Waits (setting_of t) begun spent held) new.spent new.sessions.items (Err c.in-Err.ending)) i.terms c.in-Err.ensures.goes in
+    chained set text before mid after i.goes.0 old.spent spent new.spent old.sessions.items held new.sessions.items (Err c.in-Err.ending) i.later c.step.ensures.later i.goes.1 went
 
 pub returns-clause-goes : goal.returns-clause-goes
 returns-clause-goes g c =
@@ -74,7 +76,7 @@ returns-clause-goes g c =
     let set = setting_of c.args.self.now.terms in
     let i = c.serving.invariant in
     let all : c.len.result ≡ length c.serving.self.sessions.items = search rules in
-    at_budget set (moment c.args.fan.now c.args.output.now) (moment c.serving.fan c.serving.output) i.goes.0 c.args.self.now.spent c.serving.self.spent c.len.result c.args.self.now.sessions.items c.serving.self.sessions.items all i.goes.1
+    at_budget set (g.L.RefusalLines.text c.args.lines.now) (moment c.args.fan.now c.args.output.now) (moment c.serving.fan c.serving.output) i.goes.0 c.args.self.now.spent c.serving.self.spent c.len.result c.args.self.now.sessions.items c.serving.self.sessions.items all i.goes.1
 
 pub step-requires-clause-targets : goal.step-requires-clause-targets
 step-requires-clause-targets g c =

@@ -16,7 +16,7 @@ invariant-serving g l =
     record {
       terms : l.self.terms ≡ l.fn.self.terms;
       room : l.self.line.room ≡ l.fn.self.line.room;
-      goes : (x : ⊤) × Goes set (moment l.fn.fan l.fn.output) (moment l.fan l.output) (λ begun. Waits set begun l.fn.self.spent l.fn.self.sessions.items) l.self.spent l.self.sessions.items (Ok x);
+      goes : (x : ⊤) × Goes set (g.L.RefusalLines.text l.lines) (moment l.fn.fan l.fn.output) (moment l.fan l.output) (λ begun. Waits set begun l.fn.self.spent l.fn.self.sessions.items) l.self.spent l.self.sessions.items (Ok x);
       budget : l.self.spent ≤ l.fn.self.terms.events;
       later : Later (fan.counts l.fn.fan) (fan.counts l.fan);
       output_later : sink.faults l.fn.output ≤ sink.faults l.output;

@@ -3,7 +3,8 @@ use Rattle.std.specs.List.{slice_get}
 use Rattle.std.proofs.lemmas.List.{take_all}
 use Rattle.gate_io.specs.declared.writing.Wrote.TheVariants as wrote
 use Rattle.route_server.specs.Serving.{Keeps, left_lines}
-use Rattle.route_server.specs.Steps.{Writes, Leaves}
+use Rattle.refusal_teller.specs.Tells.{Writes}
+use Rattle.route_server.specs.Steps.{Leaves}
 use Rattle.route_server.proofs.Places.{get_some}
 use Rattle.route_server.proofs.Running.{later_on, later_not}
 use Rattle.gate_io.proofs.Streams.{appends_none}

@@ -3,7 +3,7 @@ use Rattle.std.specs.List.{slice_get}
 use Rattle.std.proofs.lemmas.Option.{slice_get_read}
 use Rattle.route_server.specs.Lines.{line_text}
 use Rattle.route_server.specs.Serving.{Entry}
-use Rattle.route_server.specs.Steps.{Writes}
+use Rattle.refusal_teller.specs.Tells.{Writes}
 use Rattle.route_server.proofs.Places.{some_same}
 use Rattle.route_server.proofs.Calls.{leaves_next}
 use Rattle.route_server.proofs.server.Server.leave_at.Goals as goal

@@ -18,7 +18,7 @@ returns-in-Some-clause-goes g c =
     let at = c.in-Some.at in
     let found = c.in-Some.ensures.found in
     let now = moment c.args.fan.now c.args.output.now in
-    λ set. goes_after set now now (moment c.settle.new.fan c.settle.new.output) (λ begun. IsNamed set begun spent k held) (λ begun. IsBusy set begun spent at held) c.settle.new.self.spent c.settle.new.self.sessions.items c.settle.result refl (later_not _)
+    λ set. goes_after set (g.L.RefusalLines.text c.args.lines.now) now now (moment c.settle.new.fan c.settle.new.output) (λ begun. IsNamed set begun spent k held) (λ begun. IsBusy set begun spent at held) c.settle.new.self.spent c.settle.new.self.sessions.items c.settle.result refl (later_not _)
     (λ begun past. stays_so (tells c.args.fan.now) (IsNamed set begun spent k held past) (IsBusy set begun spent at held past)
     (λ m. named_busy set begun spent held past k at found.0 m (ap (λ xs. slice_get xs at) (sym c.as_slice.ensures.value) ∙ found.1) found.2))
     (c.settle.ensures.goes set)
@@ -31,7 +31,7 @@ returns-in-None-clause-goes g c =
     let spent = c.args.self.now.spent in
     let k = c.args.number in
     let now = moment c.args.fan.now c.args.output.now in
-    λ set. goes_quietly set now now (λ begun. IsNamed set begun spent k held) spent held _ (appends_none _)
+    λ set. goes_quietly set (g.L.RefusalLines.text c.args.lines.now) now now (λ begun. IsNamed set begun spent k held) spent held _ (appends_none _)
     (λ begun past. stays_so (tells c.args.fan.now) (IsNamed set begun spent k held past) (Waits set begun spent held past)
     (λ m. named_none set begun spent held past k (Waits set begun spent held past) m
     (subst (λ xs. IsRising xs → (i : ℕ) (e : Entry) → slice_get xs i ≡ Some e → e.number ≡ k → ⊥) c.as_slice.ensures.value (c.in-None.ensures.none refl))))

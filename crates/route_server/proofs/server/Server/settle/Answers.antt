@@ -1,77 +1,123 @@
-use Rattle.std.proofs.Common.{◌++◌, ◌+◌, length, subst, sym, refl, ap, ◌∙◌, arith}
+use Rattle.std.proofs.Common.{rules as found}
+use Rattle.std.proofs.Common.{◌≡◌, ◌++◌, ◌+◌, [], length, subst, sym, refl, ap, ◌∙◌, arith, append_assoc, Err}
+use Rattle.std.proofs.lemmas.List.{append-nil}
 use Rattle.std.proofs.Math.ListN.{set as put}
 use Rattle.std.proofs.lemmas.Option.{slice_get_read}
 use Rattle.std.proofs.lemmas.List.{length-set}
+use Rattle.std.specs.Io.KnownBytes.{Appends}
+use Rattle.gate_io.proofs.Streams.{appends_none, appends_on}
+use Rattle.refusal_teller.specs.Tells.{Writes}
+use Rattle.refusal_teller.specs.Refused.{refusal_lines}
+use Rattle.route_server.specs.declared.server.End.TheVariants as ends
 use Rattle.route_server.specs.declared.turn_end.RouteTurn.TheVariants as turn
-use Rattle.route_server.specs.Working.{IsBusy, HasEndedAt, Waits}
-use Rattle.route_server.specs.Steps.{StepWrites, EndedTo, outside}
-use Rattle.route_server.proofs.Places.{targets_at, targets_put}
-use Rattle.route_server.proofs.Running.{later_on, later_not}
-use Rattle.route_server.proofs.Calls.{keeps_then, turned_settled, turned_more, turned_ended, goes_quietly, unwritten, counted_at}
+use Rattle.route_server.specs.Matching.{Matches}
+use Rattle.route_server.specs.Saying.{closings, heard_in, refusals, said_lines, AreOf}
+use Rattle.route_server.specs.Serving.{Keeps}
+use Rattle.route_server.specs.Working.{IsBusy, HasEndedAt}
+use Rattle.route_server.specs.Steps.{Goes, outside}
+use Rattle.route_server.proofs.Places.{get_put_same, get_within, targets_at, targets_put}
+use Rattle.route_server.proofs.Sayings.{closings_on, refusals_close_none, lines_on}
+use Rattle.route_server.proofs.Running.{later_on, later_not, turn_is}
+use Rattle.route_server.proofs.Calls.{keeps_then, turned_settled, turned_more, turned_ended, goes_quietly, goes_behind, settled_goes, unwritten_goes, ended_goes, counted_at, failed_by, written_at}
 use Rattle.route_server.proofs.server.Server.settle.Goals as goal
 
 pub returns-in-Settled-clause-goes : goal.returns-in-Settled-clause-goes
 returns-in-Settled-clause-goes g c =
     let tells = g.M.Fan.tells in
-    let written = g.O.Sink.written in
-    let moment = outside tells g.M.Fan.counts written g.O.Sink.faults in
+    let moment = outside tells g.M.Fan.counts g.O.Sink.written g.O.Sink.faults in
+    let text = g.L.RefusalLines.text c.args.lines.now in
     let i = c.turns.invariant in
     let at = c.args.at in
     let old = c.args.self.now in
     let held = c.turns.self.sessions.items in
     let spent = c.turns.self.spent in
+    let call = c.turn_telling-turn in
     let e = c.index_mut.result.now in
+    let e' = call.new.session in
     let was = slice_get_read held (length held) at e refl i.within c.index_mut.ensures.value in
-    λ set. goes_quietly set (moment c.args.fan.now c.args.output.now) (moment c.turn.new.fan c.turns.output) (λ begun. IsBusy set begun old.spent at old.sessions.items) spent (put held at c.turn.new.self) _ (unwritten (written c.args.output.now) (written c.turns.output) (ap written i.output))
-    (λ begun past. keeps_then (tells c.args.fan.now) (tells c.turns.fan) (tells c.turn.new.fan) (IsBusy set begun old.spent at old.sessions.items past) (IsBusy set begun spent at held past) (Waits set begun spent (put held at c.turn.new.self) past) (i.keeps set begun past)
-    (turned_settled set begun spent held past at e c.turn.new.self (tells c.turns.fan) (tells c.turn.new.fan) was c.turn.ensures.number c.turn.ensures.same c.turn.ensures.holds c.in-Settled.ensures.turned))
+    let turned = turn_is _ (tells c.turns.fan) (tells call.new.fan) (Matches e.router) (Matches e'.router) e.number e'.router call.result.0 turn.Settled c.in-Settled.is call.ensures.turned in
+    λ set. goes_behind set text (moment c.args.fan.now c.args.output.now) (moment c.turns.fan c.turns.output) (moment call.new.fan call.new.output) (λ begun. IsBusy set begun old.spent at old.sessions.items) (λ begun. IsBusy set begun spent at held) spent (put held at e') c.after_turn.result i.told.0 i.told.1 i.told.2 i.later (i.told.3 set)
+    (settled_goes set text (moment c.turns.fan c.turns.output) (moment call.new.fan call.new.output) (λ begun. IsBusy set begun spent at held) spent (put held at e') e.number at turned.0 call.result.1 c.after_turn.result c.after_turn.ensures.all c.after_turn.ensures.failed turned.1
+    (λ begun past. turned_settled set begun spent held past turned.0 at e e' (tells c.turns.fan) (tells call.new.fan) was call.ensures.number call.ensures.same call.ensures.holds (turned.2 (heard_in past e.number))))
 
 pub returns-in-Ended-clause-goes : goal.returns-in-Ended-clause-goes
 returns-in-Ended-clause-goes g c =
     let tells = g.M.Fan.tells in
     let counts = g.M.Fan.counts in
-    let written = g.O.Sink.written in
+    let moment = outside tells counts g.O.Sink.written g.O.Sink.faults in
+    let text = g.L.RefusalLines.text c.args.lines.now in
     let i = c.turns.invariant in
     let at = c.args.at in
     let old = c.args.self.now in
     let held = c.turns.self.sessions.items in
     let spent = c.turns.self.spent in
+    let call = c.turn_telling-turn in
     let e = c.index_mut.result.now in
+    let e' = call.new.session in
     let o = c.in-Ended.outcome in
     let was = slice_get_read held (length held) at e refl i.within c.index_mut.ensures.value in
+    let turned = turn_is _ (tells c.turns.fan) (tells call.new.fan) (Matches e.router) (Matches e'.router) e.number e'.router call.result.0 (turn.Ended o) c.in-Ended.is call.ensures.turned in
     λ set.
-    let f = c.finish.ensures.goes set (counts c.args.fan.now) (later_on _ _ _ i.later c.turn.ensures.later)
-    (counted_at held at e c.turn.new.self o (counts c.args.fan.now) (counts c.turns.fan) (counts c.turn.new.fan) was c.turn.ensures.number i.later (λ x is. c.in-Ended.ensures.cause x (ap turn.Ended is))) in
-    record {
+    let f = c.finish.ensures.goes set text (counts c.turns.fan) call.ensures.later
+    (counted_at held at e e' o (counts c.turns.fan) (counts c.turns.fan) (counts call.new.fan) was call.ensures.number (later_not _) (λ x is. call.ensures.cause x (c.in-Ended.is ∙ ap turn.Ended is))) in
+    goes_behind set text (moment c.args.fan.now c.args.output.now) (moment c.turns.fan c.turns.output) (moment c.finish.new.fan c.finish.new.output) (λ begun. IsBusy set begun old.spent at old.sessions.items) (λ begun. IsBusy set begun spent at held) c.finish.new.self.spent c.finish.new.self.sessions.items c.finish.result i.told.0 i.told.1 i.told.2 i.later (i.told.3 set)
+    (ended_goes set text (moment c.turns.fan c.turns.output) (moment call.new.fan call.new.output) (moment c.finish.new.fan c.finish.new.output) (counts c.turns.fan) (λ begun. IsBusy set begun spent at held) (λ begun. HasEndedAt set begun spent at o (put held at e')) c.finish.new.self.spent c.finish.new.self.sessions.items e.number turned.0 call.result.1 c.finish.result turned.1 refl
+    (λ begun past. turned_ended set begun spent held past turned.0 at e e' o (tells c.turns.fan) (tells call.new.fan) was call.ensures.number call.ensures.same call.ensures.holds (turned.2 (heard_in past e.number)))
+    (record {
       more = f.more;
-      writes = subst (λ out. StepWrites c.finish.result (written out) (written c.finish.new.output) f.more) i.output f.writes;
+      writes = (subst (λ k. AreOf k f.more) call.ensures.number (f.writes.0 e' (get_put_same held at e' (get_within held at e was))), f.writes.1);
       counted = f.counted;
-      keeps = λ begun past. keeps_then (tells c.args.fan.now) (tells c.turn.new.fan) (tells c.finish.new.fan) (IsBusy set begun old.spent at old.sessions.items past) (HasEndedAt set begun spent at o (put held at c.turn.new.self) past) (EndedTo c.finish.result set begun c.finish.new.self.spent c.finish.new.self.sessions.items (past ++ f.more))
-          (keeps_then (tells c.args.fan.now) (tells c.turns.fan) (tells c.turn.new.fan) (IsBusy set begun old.spent at old.sessions.items past) (IsBusy set begun spent at held past) (HasEndedAt set begun spent at o (put held at c.turn.new.self) past) (i.keeps set begun past)
-          (turned_ended set begun spent held past at e c.turn.new.self o (tells c.turns.fan) (tells c.turn.new.fan) was c.turn.ensures.number c.turn.ensures.same c.turn.ensures.holds c.in-Ended.ensures.turned))
-          (f.keeps begun past);
-    }
+      keeps = f.keeps;
+    }))
 
-pub returns-clause-goes : goal.returns-clause-goes
-returns-clause-goes g c =
+pub returns-in_err-after_turn-clause-goes : goal.returns-in_err-after_turn-clause-goes
+returns-in_err-after_turn-clause-goes g c =
+    let is : c.from_residual.result ≡ Err c.in_err-after_turn.field-0.0 = search found in
     let tells = g.M.Fan.tells in
     let written = g.O.Sink.written in
     let moment = outside tells g.M.Fan.counts written g.O.Sink.faults in
+    let text = g.L.RefusalLines.text c.args.lines.now in
     let i = c.turns.invariant in
     let at = c.args.at in
     let old = c.args.self.now in
-    λ set. goes_quietly set (moment c.args.fan.now c.args.output.now) (moment c.turns.fan c.turns.output) (λ begun. IsBusy set begun old.spent at old.sessions.items) c.turns.self.spent c.turns.self.sessions.items _ (unwritten (written c.args.output.now) (written c.turns.output) (ap written i.output))
-    (λ begun past. i.keeps set begun past)
+    let held = c.turns.self.sessions.items in
+    let spent = c.turns.self.spent in
+    let call = c.turn_telling-turn in
+    let e = c.index_mut.result.now in
+    let e' = call.new.session in
+    let was = slice_get_read held (length held) at e refl i.within c.index_mut.ensures.value in
+    let turned = turn_is _ (tells c.turns.fan) (tells call.new.fan) (Matches e.router) (Matches e'.router) e.number e'.router call.result.0 turn.More c.in-More.is call.ensures.turned in
+    let why = failed_by call.result.1 _ c.in_err-after_turn.field-0.0 at refl c.in_err-after_turn.ensures.all c.in_err-after_turn.ensures.failed in
+    let before = moment c.args.fan.now c.args.output.now in
+    let mid = moment c.turns.fan c.turns.output in
+    let after = moment call.new.fan call.new.output in
+    λ set. subst (λ r. Goes set text before after (λ begun. IsBusy set begun old.spent at old.sessions.items) (spent + 1) (put held at e') r) (sym (is ∙ ap Err why.1))
+    (goes_behind set text before mid after (λ begun. IsBusy set begun old.spent at old.sessions.items) (λ begun. IsBusy set begun spent at held) (spent + 1) (put held at e') (Err (ends.Unwritten at)) i.told.0 i.told.1 i.told.2 i.later (i.told.3 set)
+    (unwritten_goes set text mid after (λ begun. IsBusy set begun spent at held) (spent + 1) (put held at e') e.number at turned.0 (subst (λ w. Writes w (written c.turns.output) (written call.new.output) (refusal_lines text e.number turned.0)) why.0 turned.1)
+    (λ begun past. turned_more set begun spent held past turned.0 at e e' (tells c.turns.fan) (tells call.new.fan) was call.ensures.number call.ensures.same call.ensures.holds (turned.2 (heard_in past e.number)))))
+
+pub returns-clause-goes : goal.returns-clause-goes
+returns-clause-goes g c =
+    let moment = outside g.M.Fan.tells g.M.Fan.counts g.O.Sink.written g.O.Sink.faults in
+    let text = g.L.RefusalLines.text c.args.lines.now in
+    let i = c.turns.invariant in
+    let at = c.args.at in
+    let old = c.args.self.now in
+    let held = c.turns.self.sessions.items in
+    let spent = c.turns.self.spent in
+    let now = moment c.turns.fan c.turns.output in
+    λ set. goes_behind set text (moment c.args.fan.now c.args.output.now) now now (λ begun. IsBusy set begun old.spent at old.sessions.items) (λ begun. IsBusy set begun spent at held) spent held _ i.told.0 i.told.1 i.told.2 i.later (i.told.3 set)
+    (goes_quietly set text now now (λ begun. IsBusy set begun spent at held) spent held _ (appends_none _) (λ begun past m tells s. (m, tells, s)))
 
 pub turns-init : goal.turns-init
 turns-init g c = record {
   terms = refl;
   room = refl;
   within = c.requires.within;
-  output = refl;
+  told = ([], refl, appends_none _, λ set begun past m tells is. (m, tells, subst (λ xs. IsBusy set begun c.args.self.now.spent c.args.at c.args.self.now.sessions.items xs m) (sym (append-nil past)) is));
+  output_later = omega arith;
   spent = omega arith;
   budget = c.requires.budget;
-  keeps = λ set begun past m tells is. (m, tells, is);
   later = later_not _;
   stays = refl;
   served = c.requires.served;
@@ -80,34 +126,49 @@ turns-init g c = record {
 pub turns-preserved : goal.turns-preserved
 turns-preserved g c =
     let tells = g.M.Fan.tells in
+    let written = g.O.Sink.written in
+    let text = g.L.RefusalLines.text c.args.lines.now in
     let i = c.turns.invariant in
     let at = c.args.at in
     let old = c.args.self.now in
     let held = c.turns.self.sessions.items in
     let spent = c.turns.self.spent in
+    let call = c.turn_telling-turn in
     let e = c.index_mut.result.now in
+    let e' = call.new.session in
     let was = slice_get_read held (length held) at e refl i.within c.index_mut.ensures.value in
+    let turned = turn_is _ (tells c.turns.fan) (tells call.new.fan) (Matches e.router) (Matches e'.router) e.number e'.router call.result.0 turn.More c.in-More.is call.ensures.turned in
+    let added = turned.0 in
+    let lines : Appends (written c.turns.output) (written call.new.output) (said_lines text (refusals e.number added)) =
+    written_at text e.number at added call.result.1 c.after_turn-in-turns.result _ _ c.after_turn-in-turns.ensures.all c.after_turn-in-turns.ensures.failed (search found) turned.1 in
     record {
       terms = i.terms;
-      room = i.room;
-      within = omega (arith, i.within, length-set held at c.turn.new.self);
-      output = i.output;
+      room = call.ensures.room ∙ i.room;
+      within = omega (arith, i.within, length-set held at e');
+      told = (
+        i.told.0 ++ refusals e.number added,
+        closings_on i.told.0 (refusals e.number added) ∙ (ap (λ cs. cs ++ closings (refusals e.number added)) i.told.1 ∙ refusals_close_none e.number added),
+        subst (λ xs. Appends (written c.args.output.now) (written call.new.output) xs) (sym (lines_on text i.told.0 (refusals e.number added))) (appends_on (written c.args.output.now) (written c.turns.output) (written call.new.output) (said_lines text i.told.0) (said_lines text (refusals e.number added)) i.told.2 lines),
+        (λ set begun past.
+            subst (λ xs. Keeps (tells c.args.fan.now) (tells call.new.fan) (IsBusy set begun old.spent at old.sessions.items past) (IsBusy set begun (spent + 1) at (put held at e') xs)) (append_assoc past i.told.0 (refusals e.number added))
+            (keeps_then (tells c.args.fan.now) (tells c.turns.fan) (tells call.new.fan) (IsBusy set begun old.spent at old.sessions.items past) (IsBusy set begun spent at held (past ++ i.told.0)) (IsBusy set begun (spent + 1) at (put held at e') ((past ++ i.told.0) ++ refusals e.number added)) (i.told.3 set begun past)
+            (turned_more set begun spent held (past ++ i.told.0) added at e e' (tells c.turns.fan) (tells call.new.fan) was call.ensures.number call.ensures.same call.ensures.holds (turned.2 (heard_in (past ++ i.told.0) e.number))))),
+      );
+      output_later = omega (arith, i.output_later, call.ensures.output_later);
       spent = omega (arith, i.spent);
       budget = omega (arith, c.turns-test.true);
-      keeps = λ set begun past. keeps_then (tells c.args.fan.now) (tells c.turns.fan) (tells c.turn.new.fan) (IsBusy set begun old.spent at old.sessions.items past) (IsBusy set begun spent at held past) (IsBusy set begun (spent + 1) at (put held at c.turn.new.self) past) (i.keeps set begun past)
-          (turned_more set begun spent held past at e c.turn.new.self (tells c.turns.fan) (tells c.turn.new.fan) was c.turn.ensures.number c.turn.ensures.same c.turn.ensures.holds c.in-More.ensures.turned);
-      later = later_on _ _ _ i.later c.turn.ensures.later;
-      stays = c.turn.ensures.targets ∙ i.stays;
-      served = targets_put _ held at c.turn.new.self i.served i.within (c.turn.ensures.same.targets ∙ targets_at _ held at e i.served was);
+      later = later_on _ _ _ i.later call.ensures.later;
+      stays = call.ensures.targets ∙ i.stays;
+      served = targets_put _ held at e' i.served i.within (call.ensures.same.targets ∙ targets_at _ held at e i.served was);
     }
 
-pub turn-requires : goal.turn-requires
-turn-requires g c =
+pub turn_telling-turn-requires-clause-targets : goal.turn_telling-turn-requires-clause-targets
+turn_telling-turn-requires-clause-targets g c =
     let i = c.turns.invariant in
     let held = c.turns.self.sessions.items in
     let e = c.index_mut.result.now in
     let was = slice_get_read held (length held) c.args.at e refl i.within c.index_mut.ensures.value in
-    record { targets = i.stays ∙ sym (targets_at _ held c.args.at e i.served was) }
+    i.stays ∙ sym (targets_at _ held c.args.at e i.served was)
 
 pub returns-in-Settled-clause-served : goal.returns-in-Settled-clause-served
 returns-in-Settled-clause-served g c =
@@ -115,7 +176,15 @@ returns-in-Settled-clause-served g c =
     let held = c.turns.self.sessions.items in
     let e = c.index_mut.result.now in
     let was = slice_get_read held (length held) c.args.at e refl i.within c.index_mut.ensures.value in
-    targets_put _ held c.args.at c.turn.new.self i.served i.within (c.turn.ensures.same.targets ∙ targets_at _ held c.args.at e i.served was)
+    targets_put _ held c.args.at c.turn_telling-turn.new.session i.served i.within (c.turn_telling-turn.ensures.same.targets ∙ targets_at _ held c.args.at e i.served was)
+
+pub returns-in_err-after_turn-clause-served : goal.returns-in_err-after_turn-clause-served
+returns-in_err-after_turn-clause-served g c =
+    let i = c.turns.invariant in
+    let held = c.turns.self.sessions.items in
+    let e = c.index_mut.result.now in
+    let was = slice_get_read held (length held) c.args.at e refl i.within c.index_mut.ensures.value in
+    targets_put _ held c.args.at c.turn_telling-turn.new.session i.served i.within (c.turn_telling-turn.ensures.same.targets ∙ targets_at _ held c.args.at e i.served was)
 
 pub returns-in-Ended-clause-served : goal.returns-in-Ended-clause-served
 returns-in-Ended-clause-served g c =
@@ -123,4 +192,4 @@ returns-in-Ended-clause-served g c =
     let held = c.turns.self.sessions.items in
     let e = c.index_mut.result.now in
     let was = slice_get_read held (length held) c.args.at e refl i.within c.index_mut.ensures.value in
-    c.finish.ensures.served _ (targets_put _ held c.args.at c.turn.new.self i.served i.within (c.turn.ensures.same.targets ∙ targets_at _ held c.args.at e i.served was))
+    c.finish.ensures.served _ (targets_put _ held c.args.at c.turn_telling-turn.new.session i.served i.within (c.turn_telling-turn.ensures.same.targets ∙ targets_at _ held c.args.at e i.served was))

@@ -12,7 +12,7 @@ returns-in-Stopped-clause-goes g c =
     let held = c.args.self.now.sessions.items in
     let spent = c.args.self.now.spent in
     let set = setting_of c.args.self.now.terms in
-    goes_quietly set (moment c.args.fan.now c.args.output.now) (moment c.next.new.self c.args.output.now) (λ begun. Waits set begun spent held) spent held _ (appends_none _)
+    goes_quietly set (g.L.RefusalLines.text c.args.lines.now) (moment c.args.fan.now c.args.output.now) (moment c.next.new.self c.args.output.now) (λ begun. Waits set begun spent held) spent held _ (appends_none _)
     (λ begun past. stopped_on set begun spent held past (tells c.args.fan.now) (tells c.next.new.self) c.in-Stopped.ensures.leads)
 
 pub returns-in-Failed-clause-goes : goal.returns-in-Failed-clause-goes
@@ -22,7 +22,7 @@ returns-in-Failed-clause-goes g c =
     let held = c.args.self.now.sessions.items in
     let spent = c.args.self.now.spent in
     let set = setting_of c.args.self.now.terms in
-    goes_quietly set (moment c.args.fan.now c.args.output.now) (moment c.next.new.self c.args.output.now) (λ begun. Waits set begun spent held) spent held _ (appends_none _)
+    goes_quietly set (g.L.RefusalLines.text c.args.lines.now) (moment c.args.fan.now c.args.output.now) (moment c.next.new.self c.args.output.now) (λ begun. Waits set begun spent held) spent held _ (appends_none _)
     (λ begun past. failed_on set begun spent held past (tells c.args.fan.now) (tells c.next.new.self) c.in-Failed.ensures.leads)
 
 pub returns-in-Opened-clause-ends : goal.returns-in-Opened-clause-ends
@@ -45,7 +45,7 @@ returns-in-Opened-clause-goes g c =
     let spent = c.args.self.now.spent in
     let k = c.in-Opened.number in
     let set = setting_of c.args.self.now.terms in
-    goes_after set (moment c.args.fan.now c.args.output.now) (moment c.next.new.self c.args.output.now) (moment c.admit.new.fan c.admit.new.output) (λ begun. Waits set begun spent held) (λ begun. Awaits set begun (spent + 1) k held) c.admit.new.self.spent c.admit.new.self.sessions.items c.admit.result refl c.next.ensures.later
+    goes_after set (g.L.RefusalLines.text c.args.lines.now) (moment c.args.fan.now c.args.output.now) (moment c.next.new.self c.args.output.now) (moment c.admit.new.fan c.admit.new.output) (λ begun. Waits set begun spent held) (λ begun. Awaits set begun (spent + 1) k held) c.admit.new.self.spent c.admit.new.self.sessions.items c.admit.result refl c.next.ensures.later
     (λ begun past. opened_on set begun spent held past k (tells c.args.fan.now) (tells c.next.new.self) c.in-Opened.ensures.leads) c.admit.ensures.goes
 
 pub returns-in-Ready-clause-goes : goal.returns-in-Ready-clause-goes
@@ -56,5 +56,5 @@ returns-in-Ready-clause-goes g c =
     let spent = c.args.self.now.spent in
     let k = c.in-Ready.number in
     let set = setting_of c.args.self.now.terms in
-    goes_after set (moment c.args.fan.now c.args.output.now) (moment c.next.new.self c.args.output.now) (moment c.resume.new.fan c.resume.new.output) (λ begun. Waits set begun spent held) (λ begun. IsNamed set begun (spent + 1) k held) c.resume.new.self.spent c.resume.new.self.sessions.items c.resume.result refl c.next.ensures.later
+    goes_after set (g.L.RefusalLines.text c.args.lines.now) (moment c.args.fan.now c.args.output.now) (moment c.next.new.self c.args.output.now) (moment c.resume.new.fan c.resume.new.output) (λ begun. Waits set begun spent held) (λ begun. IsNamed set begun (spent + 1) k held) c.resume.new.self.spent c.resume.new.self.sessions.items c.resume.result refl c.next.ensures.later
     (λ begun past. ready_on set begun spent held past k (tells c.args.fan.now) (tells c.next.new.self) c.in-Ready.ensures.leads) (c.resume.ensures.goes set)
