@@ -10,5 +10,5 @@ use Rattle.check_laws.proofs.Texts.{walk_is_held}
 
 pub have_tables : (holds : List ℕ → Option (List ℕ)) (root : List ℕ) → Loads holds root (Err NoTables) → ⊥
 have_tables holds root x =
-    let held = subst (IsWalked holds) x.1 (walk_is_held holds root) in
-    x.3 (can_stand x.0 x.2 (dotless holds x.0 held))
+    let held = subst (IsWalked holds) x.1.0 (walk_is_held holds root) in
+    x.1.1.1 (can_stand x.0 x.1.1.0 (dotless holds x.0 held))

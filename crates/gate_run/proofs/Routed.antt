@@ -54,9 +54,16 @@ all_settled result LastOfTurn IsUnwritten e f = absurd (cc)
 module _ {M : Type 0} (fans : Fan M) (mid h' : M) (r : Routing) (start : Start) (m : Meaning) (known : fans.tells mid m) (is_fresh : IsFresh m) where
   stopped : (a b : Streams) → Serves (routed_setting r start) (told_text (routed_telling r)) (routed_from fans mid a) (routed_from fans h' b) served.Stopped → HasRouted (fans.tells h') r start
   stopped a b x =
-      let after = x.keeps m known is_fresh in
-      (after.0, after.1, after.2.event, λ k announced. (heard_in x.said k, each (routed_setting r start) x.held (closings x.said) (heard_in x.said) x.busy after.0 after.2.stands
-          (after.2.left.settled (λ may. all_settled served.Stopped x.lines may refl x.answers)) k (after.2.stands.covers k announced)))
+      let after = x.keeps m known is_fresh in (
+        after.0,
+        after.1,
+        after.2.event,
+        λ k announced. (
+          heard_in x.said k,
+          each (routed_setting r start) x.held (closings x.said) (heard_in x.said) x.busy after.0 after.2.stands
+              (after.2.left.settled (λ may. all_settled served.Stopped x.lines may refl x.answers)) k (after.2.stands.covers k announced),
+        ),
+      )
 
   spent : (a b : Streams) → Serves (routed_setting r start) (told_text (routed_telling r)) (routed_from fans mid a) (routed_from fans h' b) served.Budget → RoutesOn (fans.tells h')
   spent a b x =

@@ -94,12 +94,7 @@ fn sends_all(
     Ok(code == 0 && was_sent_all(outside, output))
 }
 
-fn is_routed(
-    alloc: Global,
-    line: &[u8],
-    output: &[u8],
-    chunk: usize,
-) -> Result<bool, OutOfMemory>
+fn is_routed(alloc: Global, line: &[u8], output: &[u8], chunk: usize) -> Result<bool, OutOfMemory>
     requires { 0 < chunk }
 {
     let mut outside = with_steps(alloc, chunk)?;

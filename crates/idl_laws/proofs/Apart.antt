@@ -1,5 +1,5 @@
 -- Of files in which nothing is refused no two services have one name in the root file.
-use Rattle.std.proofs.Common.{◌≡◌, ◌∙◌, ap, sym, subst, refl, ℕ, zero, suc, ◌+◌, ◌||◌, ◌⊎◌, inl, inr, List, [], ◌∷◌, ◌++◌, length, take, slice_get, Option, Some, None, Bool, true, false, cond, nat_eq, option_and_then, arith, true≢false}
+use Rattle.std.proofs.Common.{◌≡◌, ◌∙◌, ap, sym, subst, refl, ℕ, suc, ◌+◌, ◌||◌, ◌⊎◌, inl, inr, List, [], ◌∷◌, ◌++◌, length, take, slice_get, Option, Some, None, Bool, true, false, cond, nat_eq, option_and_then, arith, true≢false}
 use Rattle.std.specs.Cmp.Lexicographic.{bytes_decides, pointwise, same_text}
 use Rattle.std.specs.List.{list_any}
 use Rattle.idl_document.specs.declared.document.Name.{Name}
@@ -8,11 +8,9 @@ use Rattle.idl_rules.specs.declared.row.IdlRow.TheVariants as rows
 use Rattle.idl_rules.specs.declared.scopes.Scope.TheVariants as scopes
 use Rattle.idl_rules.specs.Doubles.{is_among, repeated, when}
 use Rattle.idl_rules.specs.Rules.{all_inner, names_in, scope_refusals}
-use Rattle.idl_names.specs.declared.documents.Spot.{Spot}
 use Rattle.idl_names.specs.Files.{FileTree}
 use Rattle.idl_names.specs.Meaning.{included, spot_at}
 use Rattle.idl_names.specs.Paths.{last_place}
-use Rattle.idl_names.specs.Targets.{definition_at}
 use Rattle.type_tables.specs.declared.declared.ServiceId.{ServiceId}
 use Rattle.type_tables.specs.Names.{value_of}
 use Rattle.type_tables.specs.Services.{number}

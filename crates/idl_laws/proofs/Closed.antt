@@ -11,7 +11,7 @@ use Rattle.idl_names.specs.declared.cycles.Cycle.{Cycle}
 use Rattle.idl_names.specs.declared.documents.Spot.{Spot}
 use Rattle.idl_names.specs.Cycles.{TellsCycles}
 use Rattle.idl_names.specs.Files.{FileTree}
-use Rattle.idl_names.specs.Meaning.{declares, meaning, spot_at}
+use Rattle.idl_names.specs.Meaning.{declares, spot_at}
 use Rattle.idl_names.specs.Refusals.{base_refusals, cycle_refusals, fields_refusals, function_refusals, functions_refusals, returned_refusals, throws_refusals}
 use Rattle.idl_names.specs.Targets.{definition_at}
 use Rattle.type_tables.specs.declared.declared.FieldInfo.{FieldInfo}
@@ -22,19 +22,19 @@ use Rattle.type_tables.specs.declared.services.ServiceDecl.{ServiceDecl}
 use Rattle.type_tables.specs.declared.tables.StructDecl.{StructDecl}
 use Rattle.type_tables.specs.Declarations.{Declarations}
 use Rattle.type_tables.specs.Known.{failure_struct, IsClosed, IsKnown, IsKnownBase, IsKnownMethod, KnowsMethods}
-use Rattle.idl_schema.specs.Fields.{fields_from, fields_types, returns_types}
+use Rattle.idl_schema.specs.Fields.{fields_from, fields_types}
 use Rattle.idl_schema.specs.Methods.{args_struct, methods_from, methods_structs, methods_types, result_struct, result_types}
-use Rattle.idl_schema.specs.Numbers.{fields_parts, first_of, method_parts, numbers_of, parts, returns_parts, start}
+use Rattle.idl_schema.specs.Numbers.{fields_parts, first_of, method_parts, numbers_of, start}
 use Rattle.idl_schema.specs.Schema.{declarations_of}
 use Rattle.idl_schema.specs.Shares.{base_of, share}
 use Rattle.idl_schema.specs.Types.{base_ty, ty_in}
 use Rattle.idl_schema.proofs.Counting.{fields_length}
 use Rattle.idl_resolve.specs.Refused.{first_refusal}
 use Rattle.idl_laws.specs.Counts.{enum_number, service_number, struct_number}
-use Rattle.idl_laws.specs.Declared.{AreFields, AreMethods, AreResults, HasAll, HasDeclared, HasEnum, HasService, IsBase}
+use Rattle.idl_laws.specs.Declared.{AreFields, AreMethods, AreResults, HasAll, HasService, IsBase}
 use Rattle.idl_laws.specs.Denoted.{Denotes, IsTypeOf}
 use Rattle.idl_laws.specs.TypeMeanings.{TypeMeaning, base_type, enum_at, struct_at, map_of, set_of, list_of, TypeOf, a_base, a_map, a_set, a_list, an_enum, a_struct, a_typedef}
-use Rattle.idl_laws.proofs.Everywhere.{Each, each_none, each_more, each_both, files_each}
+use Rattle.idl_laws.proofs.Everywhere.{Each, each_none, each_more, files_each}
 use Rattle.idl_laws.proofs.Firsts.{First}
 use Rattle.idl_laws.proofs.Lawful.{none_refused}
 use Rattle.idl_laws.proofs.Numbered.{service_counts}

@@ -1,13 +1,12 @@
 -- Where nothing is refused, each name of a type means one, and no typedef leads to itself.
-use Rattle.std.proofs.Common.{◌≡◌, ◌∙◌, ap, sym, subst, refl, ℕ, zero, suc, ◌+◌, List, [], ◌∷◌, ◌++◌, slice_get, Option, Some, None, Bool, true, false, cond, not, is_some, option_and_then, arith}
+use Rattle.std.proofs.Common.{◌≡◌, ◌∙◌, ap, sym, subst, refl, ℕ, zero, suc, ◌+◌, List, [], ◌∷◌, ◌++◌, slice_get, Option, Some, None, Bool, true, false, not, is_some, option_and_then, arith}
 use Rattle.idl_document.specs.declared.document.Name.{Name}
 use Rattle.idl_document.specs.Trees.{DefinitionTree, FunctionTree, service_of, typedef_of, TypeTree}
-use Rattle.idl_rules.specs.declared.row.IdlFault.{IdlFault}
 use Rattle.idl_rules.specs.declared.row.IdlRow.{IdlRow}
 use Rattle.idl_rules.specs.declared.row.IdlRow.TheVariants as rows
 use Rattle.idl_rules.specs.declared.scopes.Scope.TheVariants as scopes
 use Rattle.idl_rules.specs.Doubles.{when}
-use Rattle.idl_rules.specs.Order.{Refusal, is_before, least_of, lesser}
+use Rattle.idl_rules.specs.Order.{least_of}
 use Rattle.idl_rules.specs.Rules.{rule_refusals}
 use Rattle.idl_names.specs.declared.cycles.Cycle.{Cycle}
 use Rattle.idl_names.specs.declared.cycles.Cycle.TheVariants as cycles

@@ -1,5 +1,5 @@
 -- Each part of a type in the tables is what a type expression means.
-use Rattle.std.proofs.Common.{◌≡◌, sym, subst, refl, ℕ, zero, suc, ◌+◌, List, [], ◌∷◌, ◌++◌, slice_get, Option, Some, None, option_and_then, arith}
+use Rattle.std.proofs.Common.{◌≡◌, sym, subst, refl, ℕ, ◌+◌, List, [], ◌∷◌, ◌++◌, slice_get, Option, Some, None, arith}
 use Rattle.idl_document.specs.Trees.{DefinitionTree, const_of, typedef_of, enum_of, struct_of, service_of, FieldTree, FunctionTree, TypeTree, base_at, named_at, map_at, set_at, list_at}
 use Rattle.idl_rules.specs.declared.row.IdlRow.TheVariants as rows
 use Rattle.idl_names.specs.declared.cycles.Cycle.{Cycle}
@@ -13,9 +13,9 @@ use Rattle.type_tables.specs.declared.declared.Ty.{Ty}
 use Rattle.type_tables.specs.Declarations.{Declarations}
 use Rattle.idl_schema.specs.Fields.{fields_types, returns_types}
 use Rattle.idl_schema.specs.Methods.{methods_types, result_types}
-use Rattle.idl_schema.specs.Numbers.{after, after_all, fields_parts, files_numbers, first_of, method_parts, numbers_in, numbers_of, parts, returns_parts, start}
+use Rattle.idl_schema.specs.Numbers.{fields_parts, first_of, method_parts, numbers_of, parts, returns_parts, start}
 use Rattle.idl_schema.specs.Schema.{declarations_of}
-use Rattle.idl_schema.specs.Shares.{files_shares, share, shares}
+use Rattle.idl_schema.specs.Shares.{share}
 use Rattle.idl_schema.specs.Types.{part_types, ty_in}
 use Rattle.idl_schema.proofs.Counting.{fields_length, parts_length, returns_length}
 use Rattle.idl_resolve.specs.Loads.{Resolved}

@@ -1,5 +1,5 @@
 -- Tables can have what files declare in which nothing is refused.
-use Rattle.std.proofs.Common.{◌≡◌, refl, sym, List, Option, None}
+use Rattle.std.proofs.Common.{refl, sym, List, None}
 use Rattle.idl_names.specs.Files.{FileTree}
 use Rattle.idl_schema.specs.Schema.{declarations_of}
 use Rattle.idl_schema.specs.Stands.{CanStand}

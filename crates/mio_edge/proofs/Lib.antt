@@ -3,6 +3,7 @@ pub mod Ports
 pub mod Received
 pub mod Searching
 pub mod Sessions
+pub mod Standing
 pub mod Tables
 pub mod Telling
 pub mod Turns

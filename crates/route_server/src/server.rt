@@ -286,13 +286,7 @@ impl<'s> Server<'s> {
         let number = self.sessions[at].number();
         drop(self.sessions.remove(at));
         fan.close(number);
-        after_line(tell_behind(
-            wrote,
-            &mut self.line,
-            output,
-            number,
-            Some(outcome),
-        ))
+        after_line(tell_behind(wrote, &mut self.line, output, number, Some(outcome)))
     }
 
     /// Turns the session at a place until it is settled or has ended, or the budget is spent.

@@ -37,23 +37,23 @@ fed_on rules limit max_calls h past s port piece within t =
     let bytes = h.received port ++ piece in
     record {
       fits = record {
-          xs = f.xs;
-          ys = f.ys;
-          lawful = f.lawful;
-          came = λ other. each_port (λ o i. IsTaken limit (but_at port bytes h.received o) (frames_of rules f.xs f.ys o) i.held) port other inbox s within
-              (λ same.
-              subst (λ (b : Bool). IsTaken limit (if b then bytes else h.received other) (frames_of rules f.xs f.ys other) inbox.held) (sym same)
-              (subst (λ o. IsTaken limit bytes (frames_of rules f.xs f.ys o) inbox.held) (sym (same_port other port same))
-              (taken_fed limit (h.received port) (frames_of rules f.xs f.ys port) (inbox_of port s).held piece (f.came port))))
-              (λ differs. subst (λ (b : Bool). IsTaken limit (if b then bytes else h.received other) (frames_of rules f.xs f.ys other) (inbox_of other s).held) (sym differs) (f.came other));
-          went = λ other. ap (λ (b : List ℕ). h.sent other ++ b) (same_due port other inbox s) ∙ f.went other;
-          calls = same_calls port inbox s ∙ f.calls;
-          counted = λ other. each_port (λ o i. i.taken ≡ told (length (frames_of rules f.xs f.ys o))) port other inbox s within
-              (λ same. subst (λ o. inbox.taken ≡ told (length (frames_of rules f.xs f.ys o))) (sym (same_port other port same)) (f.counted port))
-              (λ differs. f.counted other);
-          ended = λ other. each_port (λ o i. i.ended ≡ h.ended o) port other inbox s within
-              (λ same. subst (λ o. inbox.ended ≡ h.ended o) (sym (same_port other port same)) (f.ended port))
-              (λ differs. f.ended other);
+        xs = f.xs;
+        ys = f.ys;
+        lawful = f.lawful;
+        came = λ other. each_port (λ o i. IsTaken limit (but_at port bytes h.received o) (frames_of rules f.xs f.ys o) i.held) port other inbox s within
+            (λ same.
+            subst (λ (b : Bool). IsTaken limit (if b then bytes else h.received other) (frames_of rules f.xs f.ys other) inbox.held) (sym same)
+            (subst (λ o. IsTaken limit bytes (frames_of rules f.xs f.ys o) inbox.held) (sym (same_port other port same))
+            (taken_fed limit (h.received port) (frames_of rules f.xs f.ys port) (inbox_of port s).held piece (f.came port))))
+            (λ differs. subst (λ (b : Bool). IsTaken limit (if b then bytes else h.received other) (frames_of rules f.xs f.ys other) (inbox_of other s).held) (sym differs) (f.came other));
+        went = λ other. ap (λ (b : List ℕ). h.sent other ++ b) (same_due port other inbox s) ∙ f.went other;
+        calls = same_calls port inbox s ∙ f.calls;
+        counted = λ other. each_port (λ o i. i.taken ≡ told (length (frames_of rules f.xs f.ys o))) port other inbox s within
+            (λ same. subst (λ o. inbox.taken ≡ told (length (frames_of rules f.xs f.ys o))) (sym (same_port other port same)) (f.counted port))
+            (λ differs. f.counted other);
+        ended = λ other. each_port (λ o i. i.ended ≡ h.ended o) port other inbox s within
+            (λ same. subst (λ o. inbox.ended ≡ h.ended o) (sym (same_port other port same)) (f.ended port))
+            (λ differs. f.ended other);
       };
       course = t.course;
       asked = t.asked;
@@ -70,20 +70,20 @@ ended_on rules limit max_calls h past s port within t =
     let inbox = ended (inbox_of port s) in
     record {
       fits = record {
-          xs = f.xs;
-          ys = f.ys;
-          lawful = f.lawful;
-          came = λ other. each_port (λ o i. IsTaken limit (h.received o) (frames_of rules f.xs f.ys o) i.held) port other inbox s within
-              (λ same. subst (λ o. IsTaken limit (h.received o) (frames_of rules f.xs f.ys o) inbox.held) (sym (same_port other port same)) (f.came port))
-              (λ differs. f.came other);
-          went = λ other. ap (λ (b : List ℕ). h.sent other ++ b) (same_due port other inbox s) ∙ f.went other;
-          calls = same_calls port inbox s ∙ f.calls;
-          counted = λ other. each_port (λ o i. i.taken ≡ told (length (frames_of rules f.xs f.ys o))) port other inbox s within
-              (λ same. subst (λ o. inbox.taken ≡ told (length (frames_of rules f.xs f.ys o))) (sym (same_port other port same)) (f.counted port))
-              (λ differs. f.counted other);
-          ended = λ other. each_port (λ o i. i.ended ≡ but_at port true h.ended o) port other inbox s within
-              (λ same. sym (ap (λ (b : Bool). if b then true else h.ended other) same))
-              (λ differs. f.ended other ∙ sym (ap (λ (b : Bool). if b then true else h.ended other) differs));
+        xs = f.xs;
+        ys = f.ys;
+        lawful = f.lawful;
+        came = λ other. each_port (λ o i. IsTaken limit (h.received o) (frames_of rules f.xs f.ys o) i.held) port other inbox s within
+            (λ same. subst (λ o. IsTaken limit (h.received o) (frames_of rules f.xs f.ys o) inbox.held) (sym (same_port other port same)) (f.came port))
+            (λ differs. f.came other);
+        went = λ other. ap (λ (b : List ℕ). h.sent other ++ b) (same_due port other inbox s) ∙ f.went other;
+        calls = same_calls port inbox s ∙ f.calls;
+        counted = λ other. each_port (λ o i. i.taken ≡ told (length (frames_of rules f.xs f.ys o))) port other inbox s within
+            (λ same. subst (λ o. inbox.taken ≡ told (length (frames_of rules f.xs f.ys o))) (sym (same_port other port same)) (f.counted port))
+            (λ differs. f.counted other);
+        ended = λ other. each_port (λ o i. i.ended ≡ but_at port true h.ended o) port other inbox s within
+            (λ same. sym (ap (λ (b : Bool). if b then true else h.ended other) same))
+            (λ differs. f.ended other ∙ sym (ap (λ (b : Bool). if b then true else h.ended other) differs));
       };
       course = t.course;
       asked = t.asked;
@@ -147,14 +147,14 @@ sent_on rules limit max_calls h past s port n t =
     let bytes = h.sent port ++ take n (due_to port s) in
     record {
       fits = record {
-          xs = f.xs;
-          ys = f.ys;
-          lawful = f.lawful;
-          came = λ other. subst (λ (i : Inbox). IsTaken limit (h.received other) (frames_of rules f.xs f.ys other) i.held) (sym (left_inbox port other n s)) (f.came other);
-          went = λ other. ap (λ (b : List ℕ). but_at port bytes h.sent other ++ b) (left_due port other n s) ∙ by other (other == port) refl;
-          calls = left_calls port n s ∙ f.calls;
-          counted = λ other. ap (λ (i : Inbox). i.taken) (left_inbox port other n s) ∙ f.counted other;
-          ended = λ other. ap (λ (i : Inbox). i.ended) (left_inbox port other n s) ∙ f.ended other;
+        xs = f.xs;
+        ys = f.ys;
+        lawful = f.lawful;
+        came = λ other. subst (λ (i : Inbox). IsTaken limit (h.received other) (frames_of rules f.xs f.ys other) i.held) (sym (left_inbox port other n s)) (f.came other);
+        went = λ other. ap (λ (b : List ℕ). but_at port bytes h.sent other ++ b) (left_due port other n s) ∙ by other (other == port) refl;
+        calls = left_calls port n s ∙ f.calls;
+        counted = λ other. ap (λ (i : Inbox). i.taken) (left_inbox port other n s) ∙ f.counted other;
+        ended = λ other. ap (λ (i : Inbox). i.ended) (left_inbox port other n s) ∙ f.ended other;
       };
       course = t.course;
       asked = t.asked;

@@ -117,7 +117,8 @@ impl<'s> Router<'s> {
         ensures same { IsSame self.old self.new }
         ensures rest { RestsBy self.old self.new }
         ensures holds { HoldsWithin self.new }
-        ensures fits { FitsAndTells self.old self.new (N.tells notes.old notes.new) (λ h. and_sent port h (take n (due_to port self.old.standing))) }
+        ensures fits { FitsAndTells self.old self.new (N.tells notes.old notes.new)
+            (λ h. and_sent port h (take n (due_to port self.old.standing))) }
     {
         self.state.sent(&mut self.judge, port, n, notes);
     }

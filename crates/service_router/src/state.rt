@@ -291,7 +291,11 @@ impl State {
     }
 
     /// Takes all that can be taken, and answers the outcome.
-    fn advance<N: Notes>(&mut self, judge: &mut RouteJudge<'_>, notes: &mut N) -> Option<RouteOutcome>
+    fn advance<N: Notes>(
+        &mut self,
+        judge: &mut RouteJudge<'_>,
+        notes: &mut N,
+    ) -> Option<RouteOutcome>
         requires works { Works judge.old self.old }
         ensures same { judge.new ≡ judge.old }
         ensures keeps { Keeps judge.old self.old self.new }

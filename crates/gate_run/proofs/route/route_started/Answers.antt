@@ -17,4 +17,4 @@ route_serve-requires-clause-targets g c = c.requires.targets ∙ ap length (sym 
 pub returns-clause-serves : goal.returns-clause-serves
 returns-clause-serves g c =
     let serves = c.route_serve.ensures.serves in
-    rw c.as_slice-targets.ensures.value at serves
+    rw (c.as_slice-targets.ensures.value, c.new-telling.ensures) at serves

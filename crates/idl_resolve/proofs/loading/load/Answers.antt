@@ -1,4 +1,4 @@
-use Rattle.std.proofs.Common.{◌≡◌, ℕ, List, Option, Result, Err, inl, rules}
+use Rattle.std.proofs.Common.{◌≡◌, ℕ, List, Option, Err, inl, rules}
 use Rattle.idl_names.specs.declared.documents.FileDoc.{FileDoc}
 use Rattle.idl_names.specs.Files.{file_trees}
 use Rattle.idl_files.specs.declared.fault.LoadError.{LoadError}

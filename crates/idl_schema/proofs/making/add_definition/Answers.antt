@@ -2,7 +2,6 @@ use Rattle.std.proofs.Common.{◌≡◌, ◌∙◌, ap, sym, subst, map, [], Lis
 use Rattle.idl_document.specs.declared.document.Definition.{Definition}
 use Rattle.idl_document.specs.declared.document.FieldDecl.{FieldDecl}
 use Rattle.idl_document.specs.declared.document.Function.{Function}
-use Rattle.idl_document.specs.declared.document.Member.{Member}
 use Rattle.idl_document.specs.Trees.{definition_tree, field_trees, function_trees}
 use Rattle.idl_rules.specs.Ids.{ids_from, refused_ids}
 use Rattle.idl_rules.specs.Rules.{inner_refusals, methods_refusals}

@@ -1,4 +1,4 @@
-use Rattle.std.proofs.Common.{◌≡◌, ◌∙◌, ap, refl, subst, [], ◌∷◌, map, List, ℕ, Option, Some, Err}
+use Rattle.std.proofs.Common.{◌≡◌, ◌∙◌, ap, refl, subst, [], map, List, ℕ, Option, Some, Err}
 use Rattle.idl_document.specs.Trees.{FunctionTree, function_trees}
 use Rattle.idl_rules.specs.declared.row.IdlRow.TheVariants as rows
 use Rattle.idl_rules.specs.Doubles.{repeated}

@@ -1,4 +1,4 @@
-use Rattle.std.proofs.Common.{◌≡◌, ◌∙◌, ap, map, [], List}
+use Rattle.std.proofs.Common.{◌∙◌, ap, map, [], List}
 use Rattle.idl_document.specs.declared.document.FieldDecl.{FieldDecl}
 use Rattle.idl_document.specs.Trees.{field_trees, function_tree}
 use Rattle.idl_rules.specs.Ids.{ids_from, refused_ids}

@@ -43,7 +43,7 @@ returns-in-Bytes-clause-goes g c =
       m.1,
       λ past. goes_by _ _ (Matches r past) (Matches r' (past ++ m.0)) k x _ call _ _ (omega (arith, c.requires.port, c.requires.targets)) (refl, wants.1) c.in-Bytes.ensures.leads
           (λ a b fit does. got_bytes k (targets_of r) first call x into n w r r' past (past ++ m.0) a b (reads_first k x asked (got.Bytes n) first wants.0) c.requires.port some.0 some.1 (sym c.if-read.ensures)
-    (λ h q. subst (λ xs. Matches r' (past ++ m.0) (and_received x h xs)) (take-append-le n into (drop c.min-room.result piece) some.1) (m.2 past h q)) fit does),
+          (λ h q. subst (λ xs. Matches r' (past ++ m.0) (and_received x h xs)) (take-append-le n into (drop c.min-room.result piece) some.1) (m.2 past h q)) fit does),
     )
 
 pub returns-in-End-clause-goes : goal.returns-in-End-clause-goes

@@ -42,7 +42,7 @@ returns-in-Took-clause-goes g c =
       m.1,
       λ past. goes_by _ _ (Matches r past) (Matches r' (past ++ m.0)) k x _ call _ _ (omega (arith, c.requires.port, c.requires.targets)) (refl, wants.1) c.in-Took.ensures.leads
           (λ a b fit does. took k (targets_of r) first call x from n w r r' past (past ++ m.0) a b (writes_first k x (length from) (put.Took n) first wants.0) c.requires.port c.in-Took.ensures.within.0 c.in-Took.ensures.within.1 (sym c.if-write.ensures)
-    (λ h q. subst (λ xs. Matches r' (past ++ m.0) (and_sent x h xs)) (sym same) (m.2 past h q)) fit does),
+          (λ h q. subst (λ xs. Matches r' (past ++ m.0) (and_sent x h xs)) (sym same) (m.2 past h q)) fit does),
     )
 
 pub returns-in-NotReady-clause-goes : goal.returns-in-NotReady-clause-goes

@@ -1,5 +1,6 @@
 use Rattle.std.proofs.Common.{sym, refl}
-use Rattle.mio_edge.proofs.Tables.{closed_moved, idle_closed, attached, still_idle}
+use Rattle.mio_edge.proofs.Standing.{closed_moved}
+use Rattle.mio_edge.proofs.Tables.{idle_closed, attached, still_idle}
 use Rattle.mio_edge.proofs.table.Table.attach.Goals as goal
 
 pub returns-in-Some-clause-keeps : goal.returns-in-Some-clause-keeps

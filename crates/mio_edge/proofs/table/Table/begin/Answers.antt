@@ -3,7 +3,8 @@ use Rattle.std.proofs.lemmas.List.{length-append}
 use Rattle.mio_edge.specs.Sessions.{PortsTell, new_links}
 use Rattle.mio_edge.specs.Tables.{IsNew, IsPrepared}
 use Rattle.mio_edge.proofs.Sessions.{session_new}
-use Rattle.mio_edge.proofs.Tables.{as_many, fewer, fewer_spare, spare_popped}
+use Rattle.mio_edge.proofs.Standing.{fewer_spare}
+use Rattle.mio_edge.proofs.Tables.{as_many, fewer, spare_popped}
 use Rattle.mio_edge.proofs.table.Table.begin.Goals as goal
 
 pub returns-in_err-ports-clause-keeps : goal.returns-in_err-ports-clause-keeps

@@ -1,7 +1,8 @@
 use Rattle.std.proofs.Common.{sym, refl}
 use Rattle.slab.specs.Slab.{with_value}
 use Rattle.mio_edge.specs.Sessions.{new_links}
-use Rattle.mio_edge.proofs.Tables.{still_kept, attached, still_idle}
+use Rattle.mio_edge.proofs.Standing.{still_kept}
+use Rattle.mio_edge.proofs.Tables.{attached, still_idle}
 use Rattle.mio_edge.proofs.table.Table.defer.Goals as goal
 
 pub returns-in-Some : goal.returns-in-Some

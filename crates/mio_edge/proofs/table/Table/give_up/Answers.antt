@@ -1,5 +1,5 @@
 use Rattle.std.proofs.Common.{sym}
-use Rattle.mio_edge.proofs.Tables.{still_kept}
+use Rattle.mio_edge.proofs.Standing.{still_kept}
 use Rattle.mio_edge.proofs.table.Table.give_up.Goals as goal
 
 pub returns-in-Some : goal.returns-in-Some

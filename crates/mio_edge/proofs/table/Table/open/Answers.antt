@@ -1,5 +1,5 @@
 use Rattle.std.proofs.Common.{arith, length}
-use Rattle.mio_edge.proofs.Tables.{empty_tells, empty_queues}
+use Rattle.mio_edge.proofs.Standing.{empty_tells, empty_queues}
 use Rattle.mio_edge.proofs.table.Table.open.Goals as goal
 
 pub returns : goal.returns

@@ -1,5 +1,6 @@
 use Rattle.std.proofs.Common.{length, refl, sym}
-use Rattle.mio_edge.proofs.Tables.{kept_at, stood_behind, rest_same, rest_written}
+use Rattle.mio_edge.proofs.Standing.{stood_behind, rest_same, rest_written}
+use Rattle.mio_edge.proofs.Tables.{kept_at}
 use Rattle.mio_edge.proofs.table.Table.put_behind.Goals as goal
 
 pub returns-in-Some-clause-keeps : goal.returns-in-Some-clause-keeps

@@ -1,6 +1,7 @@
 use Rattle.std.proofs.Common.{length, sym, ◌∙◌}
 use Rattle.gate_hub.specs.Hubs.{LinkReads}
-use Rattle.mio_edge.proofs.Tables.{not_lost, not_empty, at_open, stood_behind, rest_same, rest_written, then_is, same_still, unspent}
+use Rattle.mio_edge.proofs.Standing.{stood_behind, rest_same, rest_written, unspent}
+use Rattle.mio_edge.proofs.Tables.{not_lost, not_empty, at_open, then_is, same_still}
 use Rattle.mio_edge.proofs.Turns.{queues_still}
 use Rattle.mio_edge.proofs.table.Table.read.Goals as goal
 

@@ -1,5 +1,5 @@
 use Rattle.std.proofs.Common.{length, ap, ◌∙◌, arith}
-use Rattle.mio_edge.proofs.Tables.{recalled}
+use Rattle.mio_edge.proofs.Standing.{recalled}
 use Rattle.mio_edge.proofs.Turns.{recall_room}
 use Rattle.mio_edge.proofs.table.Table.recall.Goals as goal
 

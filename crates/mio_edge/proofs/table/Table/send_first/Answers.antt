@@ -1,7 +1,8 @@
 use Rattle.std.proofs.Common.{length, false, sym, refl, ap, subst}
 use Rattle.slab.specs.Slab.{with_value}
 use Rattle.mio_edge.specs.Turns.{QueuesStand}
-use Rattle.mio_edge.proofs.Tables.{kept_at, then_is, stood_ready, rest_same, unsent_from, put_twice, put_over}
+use Rattle.mio_edge.proofs.Standing.{stood_ready, rest_same, put_twice, put_over}
+use Rattle.mio_edge.proofs.Tables.{kept_at, then_is, unsent_from}
 use Rattle.mio_edge.proofs.Turns.{queues_taken}
 use Rattle.mio_edge.proofs.table.Table.send_first.Goals as goal
 

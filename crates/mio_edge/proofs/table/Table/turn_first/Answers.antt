@@ -5,7 +5,8 @@ use Rattle.mio_edge.specs.Sessions.{IsSame, IsUnsentAt}
 use Rattle.mio_edge.specs.Tables.{IsClosedAt, Names}
 use Rattle.mio_edge.specs.Turns.{QueuesStand}
 use Rattle.mio_edge.specs.declared.session.Session.{Session}
-use Rattle.mio_edge.proofs.Tables.{moved_at, still_closed, named_at, session_named, not_free, put_twice, put_over, written_down, not_down, stood_from, from_rest}
+use Rattle.mio_edge.proofs.Standing.{not_free, put_twice, put_over, written_down, not_down, stood_from, from_rest}
+use Rattle.mio_edge.proofs.Tables.{moved_at, still_closed, named_at, session_named}
 use Rattle.mio_edge.proofs.Turns.{queues_popped}
 use Rattle.mio_edge.proofs.table.Table.turn_first.Goals as goal
 

@@ -1,5 +1,5 @@
 use Rattle.std.proofs.Common.{sym}
-use Rattle.mio_edge.proofs.Tables.{closed_moved, put_idle}
+use Rattle.mio_edge.proofs.Standing.{closed_moved, put_idle}
 use Rattle.mio_edge.proofs.table.Table.wind_up.Goals as goal
 
 pub returns-in-Unsent-clause-keeps : goal.returns-in-Unsent-clause-keeps

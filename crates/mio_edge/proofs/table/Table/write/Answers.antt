@@ -2,7 +2,8 @@ use Rattle.std.proofs.Common.{length, sym, ◌∙◌, subst, inl, inr}
 use Rattle.slab.specs.Slab.{with_value}
 use Rattle.gate_hub.specs.Hubs.{LinkWrites}
 use Rattle.mio_edge.specs.Turns.{QueuesStand}
-use Rattle.mio_edge.proofs.Tables.{not_lost, not_empty, at_open, stood_behind, rest_same, rest_written, then_is, same_still, unspent, written_down, down_same, down_tells, down_allowance, not_down, stood_from, from_rest}
+use Rattle.mio_edge.proofs.Standing.{stood_behind, rest_same, rest_written, unspent, written_down, down_same, down_tells, down_allowance, not_down, stood_from, from_rest}
+use Rattle.mio_edge.proofs.Tables.{not_lost, not_empty, at_open, then_is, same_still}
 use Rattle.mio_edge.proofs.table.Table.write.Goals as goal
 
 pub returns-in_default-clause-leads : goal.returns-in_default-clause-leads

@@ -5,7 +5,8 @@ use Rattle.mio_edge.specs.Sessions.{PortsTell}
 use Rattle.mio_edge.specs.Moving.{noted}
 use Rattle.mio_edge.specs.Turns.{QueuesStand, TableStands}
 use Rattle.mio_edge.proofs.Sessions.{session_queued}
-use Rattle.mio_edge.proofs.Tables.{kept_at, still_kept, same_still, then_is, rest_same, Stood, stood_ready, put_over, put_twice, notes_at, news_at}
+use Rattle.mio_edge.proofs.Standing.{still_kept, rest_same, Stood, stood_ready, put_over, put_twice, notes_at, news_at}
+use Rattle.mio_edge.proofs.Tables.{kept_at, same_still, then_is}
 use Rattle.mio_edge.proofs.Turns.{queues_still}
 use Rattle.mio_edge.proofs.table.TableReports.report.Goals as goal
 

@@ -43,9 +43,12 @@ returns-in-Opens-clause-comes g c =
     let frame = c.in-Frame.frame.now in
     let rest = c.in-Frame.ensures.exact.0 in
     let whole = c.in-Frame.ensures.exact.1 in
-    let toward = c.client-routed.ensures.target (ap goes_on c.in-Opens.is) in
-    ([], g.met.N.Notes.stays _, asks_in rules s.client.limit s.calls.capacity (standing s) (standing c.open_call.new.self) frame rest (client.Opens c.in-Opens.call) c.requires.empty c.requires.few whole (c.in-Frame.ensures.cut frame rest whole) (sym c.client-routed.ensures.verdict ∙ c.in-Opens.is)
-    (stands_behind (standing s) (standing c.open_call.new.self) _ rest c.client-routed.new.out.bytes (framed (rules.judging.output frame)) c.client-routed.result.target (rules.target frame) c.open_call.new.self.calls.items _ (ap standing c.open_call.ensures.others) (behind_whole s.client.limit s.client.held frame rest whole) (ap (λ (b : Buffer). b.bytes) c.client-routed.ensures.out) toward (led_to s.calls.items c.in-Opens.call c.client-routed.result.target (rules.target frame) c.open_call.new.self.calls.items c.open_call.ensures.calls toward)))
+    let toward = c.client-routed.ensures.target (ap goes_on c.in-Opens.is) in (
+      [],
+      g.met.N.Notes.stays _,
+      asks_in rules s.client.limit s.calls.capacity (standing s) (standing c.open_call.new.self) frame rest (client.Opens c.in-Opens.call) c.requires.empty c.requires.few whole (c.in-Frame.ensures.cut frame rest whole) (sym c.client-routed.ensures.verdict ∙ c.in-Opens.is)
+          (stands_behind (standing s) (standing c.open_call.new.self) _ rest c.client-routed.new.out.bytes (framed (rules.judging.output frame)) c.client-routed.result.target (rules.target frame) c.open_call.new.self.calls.items _ (ap standing c.open_call.ensures.others) (behind_whole s.client.limit s.client.held frame rest whole) (ap (λ (b : Buffer). b.bytes) c.client-routed.ensures.out) toward (led_to s.calls.items c.in-Opens.call c.client-routed.result.target (rules.target frame) c.open_call.new.self.calls.items c.open_call.ensures.calls toward)),
+    )
 
 pub returns-in-Goes-clause-comes : goal.returns-in-Goes-clause-comes
 returns-in-Goes-clause-comes g c =
@@ -54,9 +57,12 @@ returns-in-Goes-clause-comes g c =
     let frame = c.in-Frame.frame.now in
     let rest = c.in-Frame.ensures.exact.0 in
     let whole = c.in-Frame.ensures.exact.1 in
-    let toward = c.client-routed.ensures.target (ap goes_on c.in-Goes.is) in
-    ([], g.met.N.Notes.stays _, asks_in rules s.client.limit s.calls.capacity (standing s) (standing c.count_frame.new.self) frame rest client.Goes c.requires.empty c.requires.few whole (c.in-Frame.ensures.cut frame rest whole) (sym c.client-routed.ensures.verdict ∙ c.in-Goes.is)
-    (stands_behind (standing s) (standing c.count_frame.new.self) _ rest c.client-routed.new.out.bytes (framed (rules.judging.output frame)) c.client-routed.result.target (rules.target frame) s.calls.items s.calls.items (ap standing c.count_frame.ensures) (behind_whole s.client.limit s.client.held frame rest whole) (ap (λ (b : Buffer). b.bytes) c.client-routed.ensures.out) toward refl))
+    let toward = c.client-routed.ensures.target (ap goes_on c.in-Goes.is) in (
+      [],
+      g.met.N.Notes.stays _,
+      asks_in rules s.client.limit s.calls.capacity (standing s) (standing c.count_frame.new.self) frame rest client.Goes c.requires.empty c.requires.few whole (c.in-Frame.ensures.cut frame rest whole) (sym c.client-routed.ensures.verdict ∙ c.in-Goes.is)
+          (stands_behind (standing s) (standing c.count_frame.new.self) _ rest c.client-routed.new.out.bytes (framed (rules.judging.output frame)) c.client-routed.result.target (rules.target frame) s.calls.items s.calls.items (ap standing c.count_frame.ensures) (behind_whole s.client.limit s.client.held frame rest whole) (ap (λ (b : Buffer). b.bytes) c.client-routed.ensures.out) toward refl),
+    )
 
 pub returns-in-Dropped-clause-comes : goal.returns-in-Dropped-clause-comes
 returns-in-Dropped-clause-comes g c =
@@ -66,12 +72,11 @@ returns-in-Dropped-clause-comes g c =
     let rest = c.in-Frame.ensures.exact.0 in
     let whole = c.in-Frame.ensures.exact.1 in
     let out : c.cut.new.self.bytes ≡ [] = ap (λ (b : Buffer). b.bytes) c.cut.ensures in
-    let cause = c.in-Dropped.cause in
-    (
+    let cause = c.in-Dropped.cause in (
       note_of (refused_call (told (s.client.taken + 1)) cause true) frame ∷ [],
       subst (λ k. g.N.Notes.tells c.args.notes.now c.note_call.new.notes (note_of (refused_call (told (k + 1)) cause true) frame ∷ [])) c.taken.ensures c.note_call.ensures,
       asks_in rules s.client.limit s.calls.capacity (standing s) (standing c.count_frame-in-Dropped.new.self) frame rest (client.Dropped c.in-Dropped.cause) c.requires.empty c.requires.few whole (c.in-Frame.ensures.cut frame rest whole) (sym c.client-routed.ensures.verdict ∙ c.in-Dropped.is)
-    (stands_behind (standing s) (standing c.count_frame-in-Dropped.new.self) _ rest c.cut.new.self.bytes s.to_upstream.bytes s.toward s.toward s.calls.items s.calls.items (ap standing c.count_frame-in-Dropped.ensures) (behind_whole s.client.limit s.client.held frame rest whole) (out ∙ sym c.requires.empty) refl refl),
+          (stands_behind (standing s) (standing c.count_frame-in-Dropped.new.self) _ rest c.cut.new.self.bytes s.to_upstream.bytes s.toward s.toward s.calls.items s.calls.items (ap standing c.count_frame-in-Dropped.ensures) (behind_whole s.client.limit s.client.held frame rest whole) (out ∙ sym c.requires.empty) refl refl),
     )
 
 pub returns-in-Halts-clause-comes : goal.returns-in-Halts-clause-comes
@@ -80,8 +85,11 @@ returns-in-Halts-clause-comes g c =
     let out : c.cut-in-Halts.new.self.bytes ≡ [] = ap (λ (b : Buffer). b.bytes) c.cut-in-Halts.ensures in (
       [],
       g.met.N.Notes.stays _,
-      (client_judged_is (rules_of c.args.judge.now).judging s.client.limit s.calls.capacity (standing s) c.in-Frame.frame.now c.in-Frame.ensures.exact.0 (client.Halts c.in-Halts.halt) c.requires.empty c.requires.few c.in-Frame.ensures.exact.1 (sym c.client-routed.ensures.verdict ∙ c.in-Halts.is),
-      ap (λ (b : List ℕ). let x : Standing = record (standing s) { to_upstream = b } in x) (out ∙ sym c.requires.empty), refl),
+      (
+        client_judged_is (rules_of c.args.judge.now).judging s.client.limit s.calls.capacity (standing s) c.in-Frame.frame.now c.in-Frame.ensures.exact.0 (client.Halts c.in-Halts.halt) c.requires.empty c.requires.few c.in-Frame.ensures.exact.1 (sym c.client-routed.ensures.verdict ∙ c.in-Halts.is),
+        ap (λ (b : List ℕ). let x : Standing = record (standing s) { to_upstream = b } in x) (out ∙ sym c.requires.empty),
+        refl,
+      ),
     )
 
 -- ---- what is kept

@@ -25,9 +25,12 @@ returns-then-not-is_empty-clause-comes g c =
     let r = c.requires.works.ready in
     let calls : s.calls.items ≡ first ∷ drop 1 s.calls.items = first_of s.calls.items first (sym c.in-Some.ensures) in
     let within = target_known _ _ _ s first r calls in
-    let is = target_read s first inbox within c.index-port.ensures in
-    ([], g.met.N.Notes.stays _, ends_first (rules_of c.args.judge.now).judging s.client.limit (standing s) first (drop 1 s.calls.items) inbox c.ends.result calls is (target_limit _ _ _ s first inbox r within is) c.ends.ensures
-    (some_is c.is_empty.result c.bytes.result.now s.to_client.bytes c.if-not-is_empty.true c.is_empty.ensures c.bytes.ensures.bytes))
+    let is = target_read s first inbox within c.index-port.ensures in (
+      [],
+      g.met.N.Notes.stays _,
+      ends_first (rules_of c.args.judge.now).judging s.client.limit (standing s) first (drop 1 s.calls.items) inbox c.ends.result calls is (target_limit _ _ _ s first inbox r within is) c.ends.ensures
+          (some_is c.is_empty.result c.bytes.result.now s.to_client.bytes c.if-not-is_empty.true c.is_empty.ensures c.bytes.ensures.bytes),
+    )
 
 pub upstream-requires-clause-fits : goal.upstream-requires-clause-fits
 upstream-requires-clause-fits g c =
@@ -61,9 +64,12 @@ returns-in-NeedMore-clause-comes g c =
     let r = c.requires.works.ready in
     let calls : s.calls.items ≡ first ∷ drop 1 s.calls.items = first_of s.calls.items first (sym c.in-Some.ensures) in
     let within = target_known _ _ _ s first r calls in
-    let is = target_read s first inbox within c.index-port.ensures in
-    ([], g.met.N.Notes.stays _, ends_part (rules_of c.args.judge.now).judging s.client.limit (standing s) first (drop 1 s.calls.items) inbox c.ends-in-NeedMore.result calls is (target_limit _ _ _ s first inbox r within is) c.ends-in-NeedMore.ensures
-    (empty_is c.is_empty.result c.bytes.result.now s.to_client.bytes c.if-not-is_empty.false c.is_empty.ensures c.bytes.ensures.bytes) c.in-NeedMore.ensures.exact)
+    let is = target_read s first inbox within c.index-port.ensures in (
+      [],
+      g.met.N.Notes.stays _,
+      ends_part (rules_of c.args.judge.now).judging s.client.limit (standing s) first (drop 1 s.calls.items) inbox c.ends-in-NeedMore.result calls is (target_limit _ _ _ s first inbox r within is) c.ends-in-NeedMore.ensures
+          (empty_is c.is_empty.result c.bytes.result.now s.to_client.bytes c.if-not-is_empty.false c.is_empty.ensures c.bytes.ensures.bytes) c.in-NeedMore.ensures.exact,
+    )
 
 pub returns-in-TooLarge-clause-comes : goal.returns-in-TooLarge-clause-comes
 returns-in-TooLarge-clause-comes g c =
@@ -77,8 +83,12 @@ returns-in-TooLarge-clause-comes g c =
     let fits : SFits w32 c.in-TooLarge.length = search rules in (
       [],
       g.met.N.Notes.stays _,
-      (rw (to_z-of_z w32 c.in-TooLarge.length fits) (asks_front (rules_of c.args.judge.now).judging s.client.limit (standing s) first (drop 1 s.calls.items) inbox (Large c.in-TooLarge.length) calls is (target_limit _ _ _ s first inbox r within is)
-          (empty_is c.is_empty.result c.bytes.result.now s.to_client.bytes c.if-not-is_empty.false c.is_empty.ensures c.bytes.ensures.bytes) c.in-TooLarge.ensures.exact), refl, refl),
+      (
+        rw (to_z-of_z w32 c.in-TooLarge.length fits) (asks_front (rules_of c.args.judge.now).judging s.client.limit (standing s) first (drop 1 s.calls.items) inbox (Large c.in-TooLarge.length) calls is (target_limit _ _ _ s first inbox r within is)
+            (empty_is c.is_empty.result c.bytes.result.now s.to_client.bytes c.if-not-is_empty.false c.is_empty.ensures c.bytes.ensures.bytes) c.in-TooLarge.ensures.exact),
+        refl,
+        refl,
+      ),
     )
 
 pub returns-in-Halts-clause-comes : goal.returns-in-Halts-clause-comes
@@ -94,8 +104,11 @@ returns-in-Halts-clause-comes g c =
     let out : c.cut.new.self.bytes ≡ [] = ap (λ (b : Buffer). b.bytes) c.cut.ensures in (
       [],
       g.met.N.Notes.stays _,
-      (reply_halts (rules_of c.args.judge.now).judging s.client.limit (standing s) first (drop 1 s.calls.items) inbox c.in-Frame.frame.now c.in-Frame.ensures.exact.0 c.in-Halts.halt calls is (target_limit _ _ _ s first inbox r within is) none c.in-Frame.ensures.exact.1 (sym c.in-Halts.ensures.verdict),
-      ap (λ (b : List ℕ). let x : Standing = record (standing s) { to_client = b } in x) (out ∙ sym none), refl),
+      (
+        reply_halts (rules_of c.args.judge.now).judging s.client.limit (standing s) first (drop 1 s.calls.items) inbox c.in-Frame.frame.now c.in-Frame.ensures.exact.0 c.in-Halts.halt calls is (target_limit _ _ _ s first inbox r within is) none c.in-Frame.ensures.exact.1 (sym c.in-Halts.ensures.verdict),
+        ap (λ (b : List ℕ). let x : Standing = record (standing s) { to_client = b } in x) (out ∙ sym none),
+        refl,
+      ),
     )
 
 pub returns-in-Answers-clause-keeps : goal.returns-in-Answers-clause-keeps
@@ -117,8 +130,7 @@ returns-in-Answers-clause-comes g c =
     let is = target_read s first inbox within c.index-port.ensures in
     let frame = c.in-Frame.frame.now in
     let rest = c.in-Frame.ensures.exact.0 in
-    let refused = c.in-Answers.refused in
-    (
+    let refused = c.in-Answers.refused in (
       reply_notes_by (suc first.target) refused (told (inbox.taken + 1)) frame,
       subst (λ k. g.N.Notes.tells c.args.notes.now c.note_answer.new.notes (reply_notes_by (suc first.target) refused (told (k + 1)) frame)) c.taken.ensures c.note_answer.ensures,
       answers_in (rules_of c.args.judge.now).judging s.client.limit s c.close_call.new.self first inbox frame rest c.upstream.new.out refused calls within is (target_limit _ _ _ s first inbox r within is)
