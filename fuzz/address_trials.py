@@ -11,7 +11,6 @@ or a router, and sees that calls come through, or that the program ends with the
 THRIFT_GATE names another build of the program. `hosts_file` puts a file of its own in the place of /etc/hosts, for the gateway
 alone: it needs `unshare` and leave to mount. The status is 0 where every trial went well.
 """
-import argparse
 import contextlib
 import os
 import socket
@@ -23,11 +22,10 @@ import time
 from typing import Callable, Dict, Iterator, List, Optional
 
 import trials
-from trials import PROGRAM, Failed, answering, calls, want
+from trials import PROGRAM, Failed, answering, are_usage, calls, want
 
 # No label of a name has over 63 letters, so the system knows this one without asking anyone.
 UNKNOWN = "a" * 64
-USAGE = "usage: thrift_gate check|convert|show|serve|drill|help\n"
 
 
 class Listener:
@@ -156,24 +154,16 @@ NO_TARGETS = NO_LISTENERS[2:] + [
 
 def usage() -> str:
     """Words that are no addresses are a usage error, and so is a name where the gateway is to listen."""
-    for word in NO_LISTENERS:
-        want(ends(["serve", "binary", "compact", word, "127.0.0.1:9"]) == (2, USAGE), "LISTEN %r" % word)
-        want(ends(["route", "binary", "compact", word, "A=127.0.0.1:9"]) == (2, USAGE), "LISTEN %r of a router" % word)
-    for word in NO_TARGETS:
-        want(ends(["serve", "binary", "compact", "127.0.0.1:1", word]) == (2, USAGE), "TARGET %r" % word)
-        want(ends(["route", "binary", "compact", "127.0.0.1:1", "A=" + word]) == (2, USAGE), "TARGET %r of a router" % word)
-    return "%d commands" % (2 * len(NO_LISTENERS + NO_TARGETS))
+    commands = [["serve", "binary", "compact", word, "127.0.0.1:9"] for word in NO_LISTENERS]
+    commands += [["route", "binary", "compact", word, "A=127.0.0.1:9"] for word in NO_LISTENERS]
+    commands += [["serve", "binary", "compact", "127.0.0.1:1", word] for word in NO_TARGETS]
+    commands += [["route", "binary", "compact", "127.0.0.1:1", "A=" + word] for word in NO_TARGETS]
+    return are_usage(commands)
 
 
 TRIALS: Dict[str, Callable[[], str]] = {trial.__name__: trial for trial in (
     ipv6, both_families, known_name, hosts_file, unknown_names, usage)}
 
 
-def main() -> int:
-    parser = argparse.ArgumentParser(description=__doc__, formatter_class=argparse.RawDescriptionHelpFormatter)
-    parser.add_argument("trials", nargs="*", choices=[[], *TRIALS], metavar="TRIAL")
-    return trials.run(TRIALS, parser.parse_args().trials)
-
-
 if __name__ == "__main__":
-    sys.exit(main())
+    sys.exit(trials.main(__doc__, TRIALS))

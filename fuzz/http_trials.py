@@ -11,7 +11,6 @@ and an upstream that answers each call and keeps what it was sent. A trial sees 
 nothing behind a refused head comes to the upstream, and that another session goes on meanwhile. THRIFT_GATE names another build of the program.
 The status is 0 where every trial went well.
 """
-import argparse
 import contextlib
 import random
 import re
@@ -385,11 +384,5 @@ TRIALS: Dict[str, Callable[[], str]] = {trial.__name__: trial for trial in (
     good_posts, heads_cut, byte_by_byte, long_heads, bad_heads, second_is_bad, bodies, last_requests, one_at_a_time, endless_body, garbage, mutations)}
 
 
-def main() -> int:
-    parser = argparse.ArgumentParser(description=__doc__, formatter_class=argparse.RawDescriptionHelpFormatter)
-    parser.add_argument("trials", nargs="*", choices=[[], *TRIALS], metavar="TRIAL")
-    return trials.run(TRIALS, parser.parse_args().trials)
-
-
 if __name__ == "__main__":
-    sys.exit(main())
+    sys.exit(trials.main(__doc__, TRIALS))

@@ -11,19 +11,18 @@ and sees what the client and each target get, the line of the session, and that 
 of the program. After each trial the greatest resident memory has to lie within what docs/SERVE.md states for the sessions and the
 sockets, and 16 MB. The status is 0 where every trial went well.
 """
-import argparse
 import contextlib
 import random
 import re
 import socket
 import struct
-import subprocess
 import sys
 import threading
 import time
 from typing import Callable, Dict, Iterator, List, NamedTuple
 
-from trials import HOST, PROGRAM, REST, SOCKETS_OF_FEW, Failed, Gateway, Upstream, answering, exchange, free_port, gets, read_bytes, read_to_end, want
+import trials
+from trials import HOST, PROGRAM, REST, SOCKETS_OF_FEW, Failed, Gateway, Upstream, answering, are_usage, exchange, free_port, gets, read_bytes, read_to_end, want
 
 LIMIT = 1024
 SESSIONS = 32
@@ -307,29 +306,12 @@ USAGE = [
 
 def usage() -> str:
     """Words that name no targets, or more memory than is allowed, are a usage error."""
-    for words in USAGE:
-        command = PROGRAM.split() + ["route", "binary", "compact", "127.0.0.1:%d" % free_port()] + words.split()
-        done = subprocess.run(command, capture_output=True, text=True, timeout=10)
-        want((done.returncode, done.stderr) == (2, "usage: thrift_gate check|convert|show|serve|drill|help\n"), "%r: status %d" % (words, done.returncode))
-    return "%d commands" % len(USAGE)
+    return are_usage([["route", "binary", "compact", "127.0.0.1:%d" % free_port(), *words.split()] for words in USAGE])
 
 
 TRIALS: Dict[str, Callable[[], str]] = {trial.__name__: trial for trial in (
     good_calls, names, bad_targets, dead_target, never_reads, broken_targets, garbage, usage, sixteen_targets)}
 
 
-def main() -> int:
-    parser = argparse.ArgumentParser(description=__doc__, formatter_class=argparse.RawDescriptionHelpFormatter)
-    parser.add_argument("trials", nargs="*", choices=[[], *TRIALS], metavar="TRIAL")
-    faults = 0
-    for name in parser.parse_args().trials or TRIALS:
-        try:
-            print("ok     %s: %s" % (name, TRIALS[name]()), flush=True)
-        except (Failed, OSError, subprocess.TimeoutExpired) as fault:
-            faults += 1
-            print("FAILED %s: %s" % (name, fault), flush=True)
-    return min(faults, 1)
-
-
 if __name__ == "__main__":
-    sys.exit(main())
+    sys.exit(trials.main(__doc__, TRIALS))

@@ -10,7 +10,6 @@ Without names all trials are run, in half a minute. Each starts a server from Bi
 sends it good frames and such as it refuses, and compares its lines with those that docs/SERVE.md states for them. THRIFT_GATE names another
 build of the program. The status is 0 where every trial went well.
 """
-import argparse
 import random
 import socket
 import struct
@@ -21,7 +20,7 @@ import time
 from typing import Callable, Dict, List, NamedTuple
 
 import trials
-from trials import COMMAND, HOST, PROGRAM, Failed, Gateway, Upstream, answering, call, calls, ask, free_port, gateway, read_bytes, read_to_end, want
+from trials import COMMAND, HOST, PROGRAM, Gateway, Upstream, answering, are_usage, call, calls, ask, free_port, gateway, read_bytes, read_to_end, want
 
 TELLING = COMMAND + " --tell refused"
 ROUTING = PROGRAM + " route binary binary {listen} {target} --accept {accept} --sessions {sessions} --limit 1024 --tell refused"
@@ -272,21 +271,12 @@ def usage() -> str:
     ends = ["127.0.0.1:%d" % free_port(), "127.0.0.1:1"]
     commands = [["serve", "binary", "compact", *ends, *words.split()] for words in USAGE]
     commands += [["convert", "binary", "compact", "--tell", "refused"], ["show", "binary", "--tell", "refused"]]
-    for command in commands:
-        done = subprocess.run(PROGRAM.split() + command, capture_output=True, text=True, timeout=10)
-        want((done.returncode, done.stderr) == (2, "usage: thrift_gate check|convert|show|serve|drill|help\n"), "%r: status %d" % (command, done.returncode))
-    return "%d commands" % len(commands)
+    return are_usage(commands)
 
 
 TRIALS: Dict[str, Callable[[], str]] = {trial.__name__: trial for trial in (
     mixed, names, without_the_words, refused_answers, halts, routed, no_output, usage, many)}
 
 
-def main() -> int:
-    parser = argparse.ArgumentParser(description=__doc__, formatter_class=argparse.RawDescriptionHelpFormatter)
-    parser.add_argument("trials", nargs="*", choices=[[], *TRIALS], metavar="TRIAL")
-    return trials.run(TRIALS, parser.parse_args().trials)
-
-
 if __name__ == "__main__":
-    sys.exit(main())
+    sys.exit(trials.main(__doc__, TRIALS))

@@ -1,4 +1,5 @@
 """What the trials of a running gateway share: the gateway, an upstream, calls and their answers, and how trials are run and told."""
+import argparse
 import contextlib
 import os
 import re
@@ -245,6 +246,14 @@ def single(sent: bytes) -> List[bytes]:
     return [sent[at:at + 1] for at in range(len(sent))]
 
 
+def are_usage(commands: List[List[str]]) -> str:
+    """Sees that each of these words is a usage error, and says how many there were."""
+    for command in commands:
+        done = subprocess.run(PROGRAM.split() + command, capture_output=True, text=True, timeout=10)
+        want((done.returncode, done.stderr) == (2, "usage: thrift_gate check|convert|show|serve|drill|help\n"), "%r: status %d" % (command, done.returncode))
+    return "%d commands" % len(commands)
+
+
 def run(trials: Dict[str, Callable[[], str]], names: List[str]) -> int:
     """Runs these trials, or all, and prints a line for each. The answer is 0 where every one went well."""
     faults = 0
@@ -255,3 +264,10 @@ def run(trials: Dict[str, Callable[[], str]], names: List[str]) -> int:
             faults += 1
             print("FAILED %s: %s" % (name, fault), flush=True)
     return min(faults, 1)
+
+
+def main(description: Optional[str], trials: Dict[str, Callable[[], str]]) -> int:
+    """Runs the trials that the words of the command name, or all."""
+    parser = argparse.ArgumentParser(description=description, formatter_class=argparse.RawDescriptionHelpFormatter)
+    parser.add_argument("trials", nargs="*", choices=[[], *trials], metavar="TRIAL")
+    return run(trials, parser.parse_args().trials)

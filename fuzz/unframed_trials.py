@@ -10,7 +10,6 @@ Without names all trials are run, in a minute. Each starts a gateway from Binary
 and sees what a peer gets for its bytes, the line of its session, and that another session goes on meanwhile.
 THRIFT_GATE names another build of the program. The status is 0 where every trial went well.
 """
-import argparse
 import contextlib
 import random
 import re
@@ -225,11 +224,5 @@ TRIALS: Dict[str, Callable[[], str]] = {trial.__name__: trial for trial in (
     good_calls, garbage, mutations, endless_message, to_the_limit, bad_kind, ends_inside, other_form, bad_upstream)}
 
 
-def main() -> int:
-    parser = argparse.ArgumentParser(description=__doc__, formatter_class=argparse.RawDescriptionHelpFormatter)
-    parser.add_argument("trials", nargs="*", choices=[[], *TRIALS], metavar="TRIAL")
-    return trials.run(TRIALS, parser.parse_args().trials)
-
-
 if __name__ == "__main__":
-    sys.exit(main())
+    sys.exit(trials.main(__doc__, TRIALS))
