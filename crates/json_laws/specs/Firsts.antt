@@ -1,7 +1,7 @@
 -- The first part of a frame that is called for and doesn't stand.
 use Rattle.std.specs.Prelude.{◌≡◌, ◌⊎◌, ℕ, ◌+◌, ◌<◌, List, [], ◌∷◌, ◌++◌, length, take, drop}
 use Rattle.thrift_value.specs.Items.{Item, end}
-use Rattle.thrift_value.specs.Trees.{Message, depth_of_members}
+use Rattle.thrift_value.specs.Trees.{Message, depth_of_members, items_of_members}
 use Rattle.protocol_traits.specs.declared.fault.Fault.{Fault}
 use Rattle.protocol_traits.specs.declared.fault.Reason.{Reason}
 use Rattle.protocol_traits.specs.declared.fault.Reason.TheVariants as reasons
@@ -17,6 +17,7 @@ use Rattle.json_protocol.specs.Reading.{opening_after}
 use Rattle.json_laws.specs.Fronts.{body_nest}
 use Rattle.json_laws.specs.Stated.{Known, JsonSpells}
 use Rattle.json_laws.specs.Plans.{Part, Value, StandsAs, reason_of, IsThere, extent, Plan, done, want, header_plan, last_plan, called_plan}
+use Rattle.binary_laws.specs.Reads.{header_of_message}
 
 abbrev pub fault_at : ℕ → Reason → Fault
 fault_at place reason = record { place = place; reason = reason }
@@ -91,3 +92,7 @@ BodyPasses p nest opening (item ∷ items) bytes =
 abbrev pub FramePasses : Known → List ℕ → Header → List Item → Type 0
 FramePasses k bytes header items =
     (past : ℕ) × Passes header_plan 0 bytes header past × BodyPasses (start k.declared k.body) body_nest openings.Body items (drop past bytes)
+
+-- the same of the header and the items of a message
+abbrev pub MessagePasses : Known → List ℕ → Message → Type 0
+MessagePasses k bytes m = FramePasses k bytes (header_of_message m) (items_of_members m.body)

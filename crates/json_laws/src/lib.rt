@@ -14,7 +14,7 @@ ghost use Rattle.binary_laws.specs.Reads.{header_of_message};
 ghost use Rattle.binary_laws.specs.Written.{IsMessage};
 ghost use Rattle.json_laws.specs.Stated.{Known, JsonSpells, IsRead, IsReadWhole, IsReadAs, IsRefused, IsSpelled, SpellsItems, NoMessage, IsTooDeep, IsBad, StaysBad, Begins, IsViable, IsCutShort, IsFirstBad, FirstTells};
 ghost use Rattle.json_laws.specs.Faults.{FaultStands};
-ghost use Rattle.json_laws.specs.Firsts.{FirstFault, IsWhole, FramePasses};
+ghost use Rattle.json_laws.specs.Firsts.{FirstFault, IsWhole, FramePasses, MessagePasses};
 ghost use Rattle.json_laws.specs.Written.{IsWritten};
 
 /// What the grammar spells is read: the header of the message, the items of its body and the end, for every message of depth
@@ -104,9 +104,9 @@ pub fn the_first_byte_tells()
 /// whitespace. TooDeep: a struct, map, set or list is called for there, 256 levels lie around it, and no message of depth at most 256
 /// begins with the frame. Else no message, of any depth, begins with it, and before the place stand the first tokens of a message, with
 /// whitespace round them, which has next a token of the sort that the reason names: the version, a type, a kind's name, a field's id, a
-/// size, a bool, a number, a string as text or as base64, or a bracket, a brace, a comma or a colon. The place is where that token is
+/// size, a bool, a number, a string as text or as base64, or a token of one byte, as brackets, braces, commas and colons are. The place is where that token is
 /// called for; in a string as text it is where the string itself is at fault. No whitespace stands where it is called for, nor a token of
-/// that sort, but for a number, whose range hangs on what is announced; nor the bracket, brace, comma or colon.
+/// that sort, but for a number, whose range hangs on what is announced; nor that very byte.
 pub fn the_fault_that_stands_there()
     ensures { (k : Known) (bytes : List ℕ) (f : Fault) → length bytes < 2 ^ 31 → IsRefused k bytes f → FaultStands k bytes f }
 {}
@@ -116,8 +116,7 @@ pub fn the_fault_that_stands_there()
 /// a frame.
 pub fn what_is_called_for_is_the_grammar()
     ensures spells { (k : Known) (bytes : List ℕ) (h : Header) (xs : List Item) → length bytes < 2 ^ 31 → FramePasses k bytes h xs → IsSpelled k bytes h xs }
-    ensures passes { (k : Known) (m : Message) (bytes : List ℕ) → JsonSpells k m bytes → depth_of_members m.body < 256
-        → FramePasses k bytes (header_of_message m) (items_of_members m.body) }
+    ensures passes { (k : Known) (m : Message) (bytes : List ℕ) → JsonSpells k m bytes → depth_of_members m.body < 256 → MessagePasses k bytes m }
 {}
 
 /// No other part of a bad frame is at fault. The fault that refuses a frame is the first part that is called for and doesn't stand, with its
