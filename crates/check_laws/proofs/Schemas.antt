@@ -1,7 +1,6 @@
 -- Files that keep all rules have a schema.
-use Rattle.std.proofs.Common.{◌≡◌, subst, ℕ, List, Option, Ok, Err}
+use Rattle.std.proofs.Common.{subst, ℕ, List, Option, Err}
 use Rattle.idl_files.specs.declared.fault.LoadError.TheVariants.{NoTables}
-use Rattle.idl_files.specs.Walk.{walked}
 use Rattle.idl_laws.proofs.Standable.{can_stand}
 use Rattle.idl_resolve.specs.Loads.{Loads}
 use Rattle.check_laws.specs.Held.{IsWalked}

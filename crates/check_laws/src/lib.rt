@@ -2,7 +2,7 @@
 //! of a function that does nothing. No code rests on them.
 #![tactic(auto)]
 
-ghost use Rattle.std.specs.Prelude.{◌≡◌, ℕ, List, Option, Some, Err};
+ghost use Rattle.std.specs.Prelude.{ℕ, List, Option, Err};
 ghost use Rattle.idl_names.specs.Files.{FileTree};
 ghost use Rattle.idl_files.specs.declared.fault.LoadError.TheVariants.{NoTables};
 ghost use Rattle.idl_files.specs.Answers.{WhereTold};

@@ -37,6 +37,9 @@ sent_by t (verdicts.Passed info) bytes = sent t bytes
 sent_by t (verdicts.Refused info cause) bytes = []
 sent_by t (verdicts.Unread fault) bytes = []
 
+abbrev pub sent_of : Transport → Judged → List ℕ
+sent_of t j = sent_by t j.verdict j.bytes
+
 abbrev pub translated : Transport → Judged → Treated
 translated t j = by_verdict t j.verdict j.bytes
 

@@ -1,6 +1,6 @@
 //! A frame that is converted: its message in the other protocol, in a frame or on a line of its own.
 ghost use Rattle.std.specs.Prelude.{◌≡◌, ◌+◌, ◌^◌, ◌<◌, ◌≤◌, ◌++◌, Option, List, ℕ, length};
-ghost use Rattle.gate_run.specs.Handling.{translated, sent_by};
+ghost use Rattle.gate_run.specs.Handling.{translated, sent_of};
 ghost use Rattle.gate_run.specs.Rooms.{framed_room};
 ghost use Rattle.gate_run.specs.Terms.{judged_by};
 ghost use Rattle.gate_run.specs.Working.{Treats};
@@ -50,7 +50,7 @@ fn translate_sent(
     requires fits { length out.old.bytes + framed_room (length frame.now) ≤ out.old.room }
     requires small { out.old.room < 2 ^ 31 }
     ensures verdict { result ≡ (judged_by task.now from to frame.now).verdict }
-    ensures appended { let j = judged_by task.now from to frame.now in out.new ≡ record out.old { bytes = out.old.bytes ++ sent_by task.now.output j.verdict j.bytes } }
+    ensures appended { out.new ≡ record out.old { bytes = out.old.bytes ++ sent_of task.now.output (judged_by task.now from to frame.now) } }
 {
     let transport = task.output();
     let at = begin(transport, out);

@@ -21,11 +21,13 @@ use Rattle.session_core.specs.Steps.{outcome_of}
 use Rattle.session_core.specs.declared.outcome.Outcome.{Outcome}
 use Rattle.session_core.specs.declared.outcome.Outcome.TheVariants as outcome
 use Rattle.refusal_teller.specs.Tells.{Writes}
+use Rattle.refusal_teller.specs.Refused.{refusal_lines}
 use Rattle.proxy_server.specs.Calling.{LinkRose}
-use Rattle.proxy_server.specs.Turning.{HasFailed, IsSettled}
+use Rattle.proxy_server.specs.Turning.{HasFailed, IsSettled, TurnGoes}
 use Rattle.proxy_server.specs.Saying.{Closing, Said, closings, heard_in, InOrder, AreOf, said_lines}
 use Rattle.proxy_server.specs.Serving.{Setting, Entry, Stands, Keeps, KeepsFrom, no_more, left_line, left_lines, ended_numbers, held_numbers, IsClosedInOrder, IsJustClosed, AreCounted, IsFresh, EndsOn, SpendsBy}
 use Rattle.proxy_server.specs.Working.{Tally, Waits, HasWaited, IsBusy, IsNamed, HasEndedAt, Awaits}
+use Rattle.proxy_server.specs.declared.turn_end.Turn.{Turn}
 use Rattle.proxy_server.specs.declared.server.Limits.{Limits}
 use Rattle.proxy_server.specs.declared.server.Server.{Server}
 use Rattle.proxy_server.specs.declared.server.End.{End}
@@ -72,6 +74,12 @@ abbrev pub seen : {H O : Type 0} → Hub H → Sink O → H → O → H → O �
 seen hubs sinks hub output hub' output' =
     let moment = outside hubs.tells hubs.counts sinks.written sinks.faults in
     record { before = moment hub output; behind = moment hub' output' }
+
+-- a session is turned, and the lines of its frames that were refused on the way were written, or a front of them
+abbrev pub TurnsTelling : {J : Type 0} → (J → Rules) → (ℕ → Note → List ℕ) → Entry J → Passage → Entry J → Turn → Wrote → Type 0
+TurnsTelling rules text old way new result wrote =
+    TurnGoes rules old.number (λ notes. Writes wrote way.before.written way.behind.written (refusal_lines text old.number notes))
+    way.before.told old.session way.behind.told new.session result
 
 -- the limits and the room for a line stay, and no more is spent than may be
 abbrev pub IsCarriedOn : Limits → Limits → ℕ → ℕ → ℕ → ℕ → Type 0

@@ -158,7 +158,11 @@ room_in s x = room_of s.limit s.standing (is_some s.outcome) x
 abbrev pub wanted_read : {J : Type 0} → ℕ → Side → Waits → Seen J → Option Wanted
 wanted_read most x w s = if nat_eq (room_in s x) 0 || read_waits w x then None else Some (ToRead x (min (room_in s x) most))
 
--- the same in a smaller piece while something is due to the other side
+-- the same of as much as this piece holds
+abbrev pub to_fill : {J : Type 0} → List ℕ → Side → Waits → Seen J → Option Wanted
+to_fill piece x w s = wanted_read (length piece) x w s
+
+-- and in a smaller piece while something is due to the other side
 abbrev pub to_read : {J : Type 0} → Side → Waits → Seen J → Option Wanted
 to_read x w s = wanted_read (most_behind (due_to (other x) s.standing)) x w s
 

@@ -1,5 +1,5 @@
 //! A server at work: its open sessions, the line that it writes, and how much of its budget is spent.
-ghost use Rattle.std.specs.Prelude.{◌≡◌, ℕ, ⊤, ◌+◌, ◌^◌, Option, ◌≢◌, ◌⊎◌, ◌<◌, ◌≤◌, length, None, Some, Ok, Err, IfSome};
+ghost use Rattle.std.specs.Prelude.{◌≡◌, ℕ, ⊤, ◌+◌, ◌^◌, Option, ◌⊎◌, ◌<◌, ◌≤◌, length, None, Some, Ok, Err, IfSome};
 ghost use Rattle.std.specs.List.{remove};
 ghost use Rattle.gate_base.specs.Causes.{Rose};
 ghost use Rattle.gate_hub.specs.Hubs.{Later};
@@ -7,12 +7,11 @@ ghost use Rattle.gate_hub.specs.declared.hub.HubNext.{HubNext};
 ghost use Rattle.proxy_server.specs.Lines.{line_text};
 ghost use Rattle.proxy_server.specs.Serving.{SpendsBy, left_lines};
 ghost use Rattle.refusal_teller.specs.Tells.{Writes, WritesBehind};
-ghost use Rattle.refusal_teller.specs.Refused.{refusal_lines};
 ghost use Rattle.session_core.specs.Session.{HoldsWithin};
 ghost use Rattle.proxy_server.specs.Matching.{IsSame};
 ghost use Rattle.proxy_server.specs.Calling.{LinkRose};
-ghost use Rattle.proxy_server.specs.Turning.{EndsAs, TurnGoes};
-ghost use Rattle.proxy_server.specs.Steps.{AreGood, Outside, IsCarriedOn, WorkEnds, StepEnds, IsRefusedAs, served_by, seen, Steps, Attends, Admits, Refuses, Finishes, Settles, Resumes, IsPutLast, LeavesMore, WritesLeft};
+ghost use Rattle.proxy_server.specs.Turning.{EndsAs};
+ghost use Rattle.proxy_server.specs.Steps.{AreGood, IsCarriedOn, WorkEnds, StepEnds, IsRefusedAs, served_by, seen, TurnsTelling, Steps, Attends, Admits, Refuses, Finishes, Settles, Resumes, IsPutLast, LeavesMore, WritesLeft};
 
 use crate::judges::Judges;
 use crate::lines::{LINE_ROOM, put_line};
@@ -103,9 +102,8 @@ fn turn_telling<J: Judge, H: Hub, O: Sink, L: RefusalLines>(
     line: &mut Out,
 ) -> (Turn, Wrote)
     requires room { L.room lines.now ≤ line.old.room }
-    ensures turned { TurnGoes J.rules session.old.number
-        (λ notes. Writes result.1 (O.written output.old) (O.written output.new) (refusal_lines (L.text lines.now) session.old.number notes))
-        (H.tells hub.old) session.old.session (H.tells hub.new) session.new.session result.0 }
+    ensures turned { TurnsTelling J.rules (L.text lines.now) session.old
+        (seen H.Hub O.Sink hub.old output.old hub.new output.new) session.new result.0 result.1 }
     ensures number { session.new.number ≡ session.old.number }
     ensures ending { EndsAs session.new.session.outcome result.0 }
     ensures same { IsSame J session.old.session session.new.session }

@@ -4,7 +4,7 @@ ghost use Rattle.gate_hub.specs.Hubs.{Later};
 ghost use Rattle.session_core.specs.Session.{HoldsWithin, due_to, room_of, and_sent, and_ended};
 ghost use Rattle.proxy_server.specs.Calling.{piece_length, LinkRose};
 ghost use Rattle.proxy_server.specs.Matching.{IsSame, and_received, MatchesOn};
-ghost use Rattle.proxy_server.specs.Turning.{IsQuiet, EndsAs, KeepsMarks, wanted, wanted_read, most_behind, write_waits, read_waits, TurnGoesInOrder, Calls, to_write, room_in, to_read, other};
+ghost use Rattle.proxy_server.specs.Turning.{IsQuiet, EndsAs, KeepsMarks, wanted, to_fill, most_behind, write_waits, read_waits, TurnGoesInOrder, Calls, to_write, room_in, to_read, other};
 
 use crate::turn_end::Turn;
 use crate::waiting::Waits;
@@ -197,10 +197,9 @@ fn read<H: Hub, J: Judge, N: Notes>(
 ) -> Result<u32, Side>
     requires some { 0 < length piece.old }
     requires few { length piece.old ≤ piece_length }
-    ensures goes { Calls J.rules k (wanted_read (length piece.old) side) (N.tells notes.old notes.new)
+    ensures goes { Calls J.rules k (to_fill piece.old side) (N.tells notes.old notes.new)
         (H.tells hub.old) session.old waits.old (H.tells hub.new) session.new waits.new result }
-    ensures idle { wanted_read (length piece.old) side waits.old session.old ≡ None →
-        (session.new ≡ session.old) × (waits.new ≡ waits.old) }
+    ensures idle { to_fill piece.old side waits.old session.old ≡ None → (session.new ≡ session.old) × (waits.new ≡ waits.old) }
     ensures same { IsSame J session.old session.new }
     ensures holds { HoldsWithin session.new }
     ensures later { Later (H.counts hub.old) (H.counts hub.new) }

@@ -21,8 +21,11 @@ const COUNT_ROOM: usize = 20;
 /// The room for the number of a session and what stands around it.
 const SESSION_ROOM: usize = 30;
 
+/// The room for the port of an upstream.
+const PORT_ROOM: usize = COUNT_ROOM + 1;
+
 /// The room for whose frame it was.
-const SENDER_ROOM: usize = 28;
+const SENDER_ROOM: usize = PORT_ROOM + 7;
 
 /// The room for whose frame it was, and its number.
 const WHICH_ROOM: usize = SENDER_ROOM + COUNT_ROOM;
@@ -146,9 +149,9 @@ fn push_sender(line: &mut Out, side: Side, port: u32)
 /// Appends the port of an upstream, where there are several.
 #[tactic(auto, unfolding(crate::specs::Lines::port_text))]
 fn push_port(line: &mut Out, port: u32)
-    requires { length line.old.bytes + 21 ≤ line.old.room }
+    requires { length line.old.bytes + PORT_ROOM ≤ line.old.room }
     ensures text { line.new ≡ record line.old { bytes = line.old.bytes ++ port_text port } }
-    ensures short { length line.new.bytes ≤ length line.old.bytes + 21 }
+    ensures short { length line.new.bytes ≤ length line.old.bytes + PORT_ROOM }
 {
     if port != 0 {
         push_count(line, port as u64);

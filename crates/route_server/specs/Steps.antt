@@ -24,11 +24,13 @@ use Rattle.service_router.specs.declared.outcome.RouteOutcome.{RouteOutcome}
 use Rattle.service_router.specs.declared.outcome.RouteOutcome.TheVariants as outcome
 use Rattle.service_router.specs.declared.router.TheConstants.{MOST_TARGETS}
 use Rattle.refusal_teller.specs.Tells.{Writes}
+use Rattle.refusal_teller.specs.Refused.{refusal_lines}
 use Rattle.route_server.specs.Calling.{LinkRose}
-use Rattle.route_server.specs.Turning.{HasFailed, IsSettled}
+use Rattle.route_server.specs.Turning.{HasFailed, IsSettled, TurnGoes}
 use Rattle.route_server.specs.Saying.{Closing, Said, closings, heard_in, InOrder, AreOf, said_lines}
 use Rattle.route_server.specs.Serving.{Setting, Entry, Stands, Keeps, KeepsFrom, no_more, left_line, left_lines, ended_numbers, held_numbers, IsClosedInOrder, IsJustClosed, AreCounted, IsFresh, EndsOn, SpendsBy}
 use Rattle.route_server.specs.Working.{Tally, Waits, HasWaited, IsBusy, IsNamed, HasEndedAt, Awaits}
+use Rattle.route_server.specs.declared.turn_end.RouteTurn.{RouteTurn}
 use Rattle.route_server.specs.declared.server.Terms.{Terms}
 use Rattle.route_server.specs.declared.server.Server.{Server}
 use Rattle.route_server.specs.declared.server.End.{End}
@@ -91,6 +93,12 @@ abbrev pub seen : {M O : Type 0} → Fan M → Sink O → M → O → M → O �
 seen fans sinks fan output fan' output' =
     let moment = outside fans.tells fans.counts sinks.written sinks.faults in
     record { before = moment fan output; behind = moment fan' output' }
+
+-- a session is turned, and the lines of its frames that were refused on the way were written, or a front of them
+abbrev pub TurnsTelling : (ℕ → Note → List ℕ) → Entry → Passage → Entry → RouteTurn → Wrote → Type 0
+TurnsTelling text old way new result wrote =
+    TurnGoes old.number (λ notes. Writes wrote way.before.written way.behind.written (refusal_lines text old.number notes))
+    way.before.told old.router way.behind.told new.router result
 
 -- the terms and the room for a line stay, and no more is spent than may be
 abbrev pub IsCarriedOn : Terms → Terms → ℕ → ℕ → ℕ → ℕ → Type 0

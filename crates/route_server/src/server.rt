@@ -1,5 +1,5 @@
 //! A server at work: its open sessions, the line that it writes, and how much of its budget is spent.
-ghost use Rattle.std.specs.Prelude.{◌≡◌, ⊤, ◌+◌, ◌^◌, Option, ◌≢◌, ◌⊎◌, ◌<◌, ◌≤◌, ℕ, length, None, Some, Ok, Err, IfSome};
+ghost use Rattle.std.specs.Prelude.{◌≡◌, ⊤, ◌+◌, ◌^◌, Option, ◌⊎◌, ◌<◌, ◌≤◌, ℕ, length, None, Some, Ok, Err, IfSome};
 ghost use Rattle.std.specs.List.{remove};
 ghost use Rattle.gate_base.specs.Causes.{Rose};
 ghost use Rattle.gate_fan.specs.Fans.{Later};
@@ -7,11 +7,10 @@ ghost use Rattle.gate_hub.specs.declared.hub.HubNext.{HubNext};
 ghost use Rattle.route_server.specs.Lines.{line_text};
 ghost use Rattle.route_server.specs.Serving.{HaveTargets, SpendsBy, left_lines};
 ghost use Rattle.refusal_teller.specs.Tells.{Writes, WritesBehind};
-ghost use Rattle.refusal_teller.specs.Refused.{refusal_lines};
 ghost use Rattle.service_router.specs.Router.{IsSame, HoldsWithin, targets_of};
 ghost use Rattle.route_server.specs.Calling.{LinkRose};
-ghost use Rattle.route_server.specs.Turning.{EndsAs, TurnGoes};
-ghost use Rattle.route_server.specs.Steps.{AreGood, Outside, IsCarriedOn, WorkEnds, StepEnds, IsRefusedAs, served_by, seen, Steps, Attends, Admits, Refuses, Finishes, Settles, Resumes, IsPutLast, LeavesMore, WritesLeft};
+ghost use Rattle.route_server.specs.Turning.{EndsAs};
+ghost use Rattle.route_server.specs.Steps.{AreGood, IsCarriedOn, WorkEnds, StepEnds, IsRefusedAs, served_by, seen, TurnsTelling, Steps, Attends, Admits, Refuses, Finishes, Settles, Resumes, IsPutLast, LeavesMore, WritesLeft};
 
 use crate::lines::{LINE_ROOM, put_line};
 use crate::table::{OpenSession, find, open_session};
@@ -109,9 +108,8 @@ fn turn_telling<M: Fan, O: Sink, L: RefusalLines>(
 ) -> (RouteTurn, Wrote)
     requires room { L.room lines.now ≤ line.old.room }
     requires targets { M.target_count fan.old ≡ targets_of session.old.router }
-    ensures turned { TurnGoes session.old.number
-        (λ notes. Writes result.1 (O.written output.old) (O.written output.new) (refusal_lines (L.text lines.now) session.old.number notes))
-        (M.tells fan.old) session.old.router (M.tells fan.new) session.new.router result.0 }
+    ensures turned { TurnsTelling (L.text lines.now) session.old
+        (seen M.Fan O.Sink fan.old output.old fan.new output.new) session.new result.0 result.1 }
     ensures number { session.new.number ≡ session.old.number }
     ensures ending { EndsAs session.new.router.outcome result.0 }
     ensures same { IsSame session.old.router session.new.router }
