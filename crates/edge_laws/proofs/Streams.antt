@@ -1,5 +1,5 @@
 -- An open session and its streams.
-use Rattle.std.proofs.Common.{◌≡◌, ℕ, zero, suc, ◌<◌, ◌⊎◌, inl, inr, ◌++◌, Bool, true, false, Option, None, Some, IsSome, sym, ap, ◌∙◌, subst, refl, arith}
+use Rattle.std.proofs.Common.{◌≡◌, ℕ, ◌<◌, ◌⊎◌, inl, inr, ◌++◌, Bool, true, false, Option, None, Some, IsSome, sym, ap, ◌∙◌, subst, refl}
 use Rattle.std.specs.List.{slice_get}
 use Rattle.gate_hub.specs.Meaning.{Link, Told, Meaning, IsOpen, link_of}
 use Rattle.gate_hub.specs.declared.hub.Side.{Side}
@@ -44,7 +44,7 @@ carries_at : {S : Type 0} (tells : S → Wire → Type 0) (o : Option (Port S)) 
 carries_at tells None x y none alike = (alike.received ∙ none.0, alike.sent ∙ none.1)
 carries_at tells (Some port) x y told alike = carries_by tells port.stream port x y told alike
 
-alike_at : (s : Side) (told : Told) (links : Links) → Agrees told (Some links) → Alike (links (port_number s)) (link_of told s)
+pub alike_at : (s : Side) (told : Told) (links : Links) → Agrees told (Some links) → Alike (links (port_number s)) (link_of told s)
 alike_at side.Client told links agrees = agrees.2
 alike_at side.Upstream told links agrees = agrees.3
 
@@ -70,13 +70,9 @@ own_stream {W} {S} Is tells hub m told k open_is s = by (told.world k) refl hub.
 
 -- ---- no session is forgotten
 
-some_room : (n : ℕ) → (n ≡ 0) ⊎ (0 < n)
-some_room zero = inl refl
-some_room (suc n) = inr (omega arith)
-
 nothing_to_read : {S : Type 0} (tells : S → Wire → Type 0) (port : Port S) (link : Link) (o : Option S) → port.stream ≡ o → PortTellsBy tells o port link → (CanRead port → ⊥) → NothingToRead tells o port
 nothing_to_read tells port link None is told never = tt
-nothing_to_read {S} tells port link (Some s) is (wire, says, joins) never = by (some_room port.incoming.room)
+nothing_to_read {S} tells port link (Some s) is (wire, says, joins) never = (wire, says, at port.receiving refl joins.room_in)
   where
     here : IsSome port.stream
     here = subst (λ (x : Option S). IsSome x) (sym is) refl
@@ -88,13 +84,9 @@ nothing_to_read {S} tells port link (Some s) is (wire, says, joins) never = by (
     at receiving.Ended e room = inr (inl (joins.over e).0)
     at receiving.Lost e room = inr (inr (joins.unread e))
 
-    by : (port.incoming.room ≡ 0) ⊎ (0 < port.incoming.room) → NothingToRead tells (Some s) port
-    by (inl none) = inl none
-    by (inr room) = inr (wire, says, at port.receiving refl room)
-
 nothing_is_taken : {S : Type 0} (tells : S → Wire → Type 0) (port : Port S) (link : Link) (o : Option S) → port.stream ≡ o → PortTellsBy tells o port link → (CanWrite port → ⊥) → NothingIsTaken tells o port
 nothing_is_taken tells port link None is told never = tt
-nothing_is_taken {S} tells port link (Some s) is (wire, says, joins) never = by (some_room port.outgoing.room)
+nothing_is_taken {S} tells port link (Some s) is (wire, says, joins) never = (wire, says, at port.sending refl joins.room_out)
   where
     here : IsSome port.stream
     here = subst (λ (x : Option S). IsSome x) (sym is) refl
@@ -105,10 +97,6 @@ nothing_is_taken {S} tells port link (Some s) is (wire, says, joins) never = by 
     at sending.Ready e room = absurd (never (here, room, e))
     at sending.Shut e room = inr (inl e)
     at sending.Lost e room = inr (inr (joins.unsent e))
-
-    by : (port.outgoing.room ≡ 0) ⊎ (0 < port.outgoing.room) → NothingIsTaken tells (Some s) port
-    by (inl none) = inl none
-    by (inr room) = inr (wire, says, at port.sending refl room)
 
 -- a session that isn't to have a turn has no port of which a caller waits for what is there
 named_or : {W S : Type 0} (Is : Type 0) (tells : S → Wire → Type 0) (P : Option S → Port S → Type 0) (hub : MioHub W S) (m : Meaning) → HubTells Is tells hub m → (k : ℕ) → IsOpen k m → (s : Side)

@@ -1,2 +1,3 @@
 -- The streams of a session.
+pub mod Closed
 pub mod Streams

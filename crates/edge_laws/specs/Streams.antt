@@ -42,15 +42,15 @@ HasOwnStream {W} {S} tells hub m k s =
     × (session.number ≡ k) × (session.is_open ≡ true) × PortCarries tells (slice_get session.ports.items (port_number s)) (link_of (m.session k) s)
 
 -- Nothing is there to be read: there is no connection, or its stream isn't readable as far as was reported since a read found the
--- last of what came, or it has ended or failed. (A buffer without room could not be read into.)
+-- last of what came, or it has ended or failed.
 abbrev pub NothingToRead : {S : Type 0} → (S → Wire → Type 0) → Option S → Port S → Type 0
 NothingToRead tells None port = ⊤
-NothingToRead tells (Some stream) port = (port.incoming.room ≡ 0) ⊎ ((wire : Wire) × tells stream wire × ((wire.readable ≡ false) ⊎ ((wire.ended ≡ true) ⊎ (wire.failed ≡ true))))
+NothingToRead tells (Some stream) port = (wire : Wire) × tells stream wire × ((wire.readable ≡ false) ⊎ ((wire.ended ≡ true) ⊎ (wire.failed ≡ true)))
 
 -- nothing is taken: the same of a write, or the peer was told the end
 abbrev pub NothingIsTaken : {S : Type 0} → (S → Wire → Type 0) → Option S → Port S → Type 0
 NothingIsTaken tells None port = ⊤
-NothingIsTaken tells (Some stream) port = (port.outgoing.room ≡ 0) ⊎ ((wire : Wire) × tells stream wire × ((wire.writable ≡ false) ⊎ ((port.sending ≡ sending.Shut) ⊎ (wire.failed ≡ true))))
+NothingIsTaken tells (Some stream) port = (wire : Wire) × tells stream wire × ((wire.writable ≡ false) ⊎ ((port.sending ≡ sending.Shut) ⊎ (wire.failed ≡ true)))
 
 abbrev pub AtPortOf : {S : Type 0} → (Option S → Port S → Type 0) → Option (Port S) → Type 0
 AtPortOf P None = ⊤

@@ -9,6 +9,7 @@ ghost use Rattle.gate_hub.specs.declared.hub.Side.{Side};
 ghost use Rattle.gate_run.specs.Undisturbed.{ServerRun, IsRunOf};
 ghost use Rattle.mio_edge.specs.Telling.{HubTells};
 ghost use Rattle.stream_laws.specs.Sessions.{IsCommanded, IsOverFrames, IsServed};
+ghost use Rattle.edge_laws.specs.Closed.{IsSentLater, HubsWind};
 ghost use Rattle.edge_laws.specs.Streams.{HasOwnStream, ReadsAreNamed, WritesAreNamed};
 
 use gate_hub::Hub;
@@ -39,4 +40,16 @@ pub fn a_session_that_waits_to_read_is_named<W: Network>()
 /// The same of writes.
 pub fn a_session_that_waits_to_write_is_named<W: Network>()
     ensures { (hub : MioHub W W.Stream) (m : Meaning) → HubTells W.is_telling W.Stream.tells hub m → WritesAreNamed W.Stream.tells hub m }
+{}
+
+/// What was written to a session before it was closed is sent still, or was: where the hub has closed it, and then its closed sessions have
+/// gone on, the session stands there still, and at each side its stream has taken a front of what was written and the rest waits; or it was let
+/// go when its stream had taken all of that, or had failed, or there was none.
+pub fn what_was_written_before_a_close_is_sent<W: Network>()
+    ensures { (a b c : MioHub W W.Stream) (m : Meaning) → HubTells W.is_telling W.Stream.tells a m → IsSentLater W.is_telling W.Stream.tells a b c m }
+{}
+
+/// That closed sessions go on, as each call of the hub has it, holds over several calls.
+pub fn closed_sessions_go_on_over_calls<W: Network>()
+    ensures { (a b c : MioHub W W.Stream) → HubsWind W.Stream.tells a b → HubsWind W.Stream.tells b c → HubsWind W.Stream.tells a c }
 {}

@@ -1,12 +1,14 @@
 //! A network in memory.
-ghost use Rattle.std.specs.Prelude.{◌≡◌, ⊤, [], false, IfOk, IfSome};
+ghost use Rattle.std.specs.Prelude.{◌≡◌, ◌<◌, ◌-◌, ◌^◌, ⊤, [], false, IfOk, IfSome};
 ghost use Rattle.mio_edge.specs.Wire.{Stays, IfCame, new_wire};
+ghost use Rattle.mio_edge.specs.Numbers.{Passes, IfNumbered};
+ghost use Rattle.mio_edge.specs.declared.network.Accepted.TheVariants as accepted;
 ghost use Rattle.edge_memory.specs.Streams.{TellsStream};
 
 use crate::MemStream;
 use gate_base::OutOfMemory;
 use gate_hub::Began;
-use mio_edge::{Accepted, Network, Readiness, Reports, Waited};
+use mio_edge::{Accepted, Handing, Network, Readiness, Reports, Waited};
 use std::alloc::Global;
 use std::net::{IpAddr, Ipv4Addr, SocketAddr};
 use std::time::Duration;
@@ -19,7 +21,7 @@ const READY: Readiness = Readiness {
     has_failed: false,
 };
 
-/// A network whose streams tell all. Each wait reports all of its connections.
+/// A network whose streams tell all, alone at its address. Each wait reports all of its connections.
 #[derive(Drop)]
 pub struct MemNetwork {
     alloc: Global,
@@ -58,12 +60,14 @@ impl Network for MemNetwork {
 
     ghost is_telling = { ⊤ };
 
+    ghost is_shared = { ⊥ };
+
     // Each name is known: a connection is to the next target whatever its address.
     fn look_up(&mut self, _name: &[u8], port: u16) -> Option<SocketAddr> {
         Some(SocketAddr::new(IpAddr::V4(Ipv4Addr::LOCALHOST), port))
     }
 
-    fn listen(&mut self, _alloc: Global, _address: SocketAddr) -> Began {
+    fn listen(&mut self, _alloc: Global, _address: SocketAddr, _sessions: usize) -> Began {
         self.is_listening = true;
         Began::Done
     }
@@ -72,14 +76,35 @@ impl Network for MemNetwork {
         self.is_listening = false;
     }
 
-    fn accept(&mut self) -> Accepted<MemStream>
-        ensures { ⊤ → IfCame result (λ stream. TellsStream stream new_wire) }
+    fn accept(&mut self, next: u64, _has_place: bool) -> Accepted<MemStream>
+        requires { next < 2 ^ 64 - 1 }
+        ensures came { ⊤ → IfCame result (λ stream. TellsStream stream new_wire) }
+        ensures number { IfNumbered result (λ k. Passes ⊥ next k × (k < 2 ^ 64 - 1)) }
+        ensures handed { result ≡ accepted.Handed → ⊥ }
     {
         match self.clients.pop() {
-            Some(sends) => came(MemStream::new(self.alloc, &sends, true, self.room)),
+            Some(sends) => came(MemStream::new(self.alloc, &sends, true, self.room), next),
             None => Accepted::Nothing,
         }
     }
+
+    fn has_fellows(&self) -> bool {
+        false
+    }
+
+    fn handing(&self) -> Handing {
+        Handing::Never
+    }
+
+    fn may_accept(&self) -> bool {
+        true
+    }
+
+    fn is_left(&self) -> bool {
+        false
+    }
+
+    fn free_place(&mut self) {}
 
     fn connect(&mut self, _target: SocketAddr) -> Option<MemStream>
         ensures { ⊤ → IfSome result (λ stream. TellsStream stream new_wire) }
@@ -108,15 +133,20 @@ impl Network for MemNetwork {
         }
         Waited::News
     }
+
+    ghost alone = { λ telling shared. shared };
 }
 
-// The connection that came, if there was memory for it.
-fn came(stream: Result<MemStream, OutOfMemory>) -> Accepted<MemStream>
-    requires { IfOk stream (λ stream. TellsStream stream new_wire) }
-    ensures { IfCame result (λ stream. TellsStream stream new_wire) }
+// The connection of this number that came, if there was memory for it.
+fn came(stream: Result<MemStream, OutOfMemory>, number: u64) -> Accepted<MemStream>
+    requires told { IfOk stream (λ stream. TellsStream stream new_wire) }
+    requires below { number < 2 ^ 64 - 1 }
+    ensures came { IfCame result (λ stream. TellsStream stream new_wire) }
+    ensures number { IfNumbered result (λ k. Passes ⊥ number k × (k < 2 ^ 64 - 1)) }
+    ensures handed { result ≡ accepted.Handed → ⊥ }
 {
     match stream {
-        Ok(stream) => Accepted::Came(stream),
+        Ok(stream) => Accepted::Came { stream, number },
         Err(_) => Accepted::Failed,
     }
 }

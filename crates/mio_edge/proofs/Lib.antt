@@ -1,4 +1,7 @@
+pub mod Closing
 pub mod Entries
+pub mod Numbers
+pub mod Order
 pub mod Ports
 pub mod Received
 pub mod Searching
@@ -6,5 +9,7 @@ pub mod Sessions
 pub mod Standing
 pub mod Tables
 pub mod Telling
+pub mod Turning
 pub mod Turns
+pub mod Winding
 pub mod Worlds

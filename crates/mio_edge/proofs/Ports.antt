@@ -53,8 +53,8 @@ no_took_failed : (n : ℕ) → Some (put.Took n) ≡ Some put.Failed → ⊥
 no_took_failed n e = absurd (cc)
 
 -- the first of the bytes that are held are handed out
-pub hands_out : {S : Type 0} (tells : S → Wire → Type 0) (a b : Port S) (into : List ℕ) (n : ℕ) → 0 < length a.incoming.bytes → take n into ++ b.incoming.bytes ≡ a.incoming.bytes → b ≡ record a { incoming = b.incoming } → Moves (PortTells tells a) (PortTells tells b) (LinkReads into (got.Bytes n))
-hands_out {S} tells a b into n some is same link told =
+pub hands_out : {S : Type 0} (tells : S → Wire → Type 0) (a b : Port S) (into : List ℕ) (n : ℕ) → 0 < length a.incoming.bytes → take n into ++ b.incoming.bytes ≡ a.incoming.bytes → b.incoming.room ≡ a.incoming.room → b ≡ record a { incoming = b.incoming } → Moves (PortTells tells a) (PortTells tells b) (LinkReads into (got.Bytes n))
+hands_out {S} tells a b into n some is room same link told =
     let next : Link = record link { received = link.received ++ take n into; last_read = Some (got.Bytes n) } in
     (next, subst (λ (p : Port S). PortTells tells p next) (sym same) (by a.stream told), (not_ended tells a link told (held_open tells a link told some), refl))
   where
@@ -78,6 +78,8 @@ hands_out {S} tells a b into n some is same link told =
         idle = joins.idle;
         blocked = joins.blocked;
         begun = joins.begun;
+        room_in = subst (λ (n : ℕ). 0 < n) (sym room) joins.room_in;
+        room_out = joins.room_out;
       },
     )
 
@@ -113,6 +115,8 @@ keeps_link {S} tells a link answer blame told = by a.stream refl told
         idle = joins.idle;
         blocked = joins.blocked;
         begun = joins.begun;
+        room_in = joins.room_in;
+        room_out = joins.room_out;
       },
     )
 
@@ -148,6 +152,8 @@ reads_end {S} tells a into over link told = (next, by a.stream refl told, refl)
         idle = joins.idle;
         blocked = joins.blocked;
         begun = joins.begun;
+        room_in = joins.room_in;
+        room_out = joins.room_out;
       },
     )
 
@@ -192,6 +198,8 @@ takes_in {S} tells a b from answer some takes same link told = by answer takes
         idle = joins.idle;
         blocked = joins.blocked;
         begun = joins.begun;
+        room_in = joins.room_in;
+        room_out = subst (λ (x : Buffer). 0 < x.room) (sym is) joins.room_out;
       },
     )
 
@@ -212,6 +220,8 @@ takes_in {S} tells a b from answer some takes same link told = by answer takes
         idle = joins.idle;
         blocked = joins.blocked;
         begun = joins.begun;
+        room_in = joins.room_in;
+        room_out = subst (λ (x : Buffer). 0 < x.room) (sym is) joins.room_out;
       },
     )
 
@@ -254,6 +264,8 @@ keeps_sent {S} tells a link answer blame told = by a.stream refl told
         idle = joins.idle;
         blocked = joins.blocked;
         begun = joins.begun;
+        room_in = joins.room_in;
+        room_out = joins.room_out;
       },
     )
 
@@ -373,6 +385,8 @@ hears_news {S} tells hears news a link told = by a.stream told
         idle = λ e. let before = idle_before news a.receiving e in or_both wire.readable news.is_readable (joins.idle before.0) before.1;
         blocked = λ e. let before = blocked_before news a.sending e in or_both wire.writable news.is_writable (joins.blocked before.0) before.1;
         begun = λ e. joins.begun (deferred_before news a.sending e);
+        room_in = joins.room_in;
+        room_out = joins.room_out;
       },
       (λ r. or_right wire.readable news.is_readable r),
       (λ w. or_right wire.writable news.is_writable w),

@@ -1,5 +1,5 @@
 -- What a table tells once one of its sessions has moved.
-use Rattle.std.proofs.Common.{◌≡◌, ◌≢◌, ℕ, zero, suc, ◌+◌, ◌<◌, ◌≤◌, ◌==◌, List, [], ◌∷◌, ◌++◌, length, get_or, set, take, drop, is_some, count_by, Bool, true, false, true≢false, append_assoc, Option, None, Some, IsSome, IfSome, Result, Ok, Err, IfOk, OnOk, IsOk, not, ◌⊎◌, inl, inr, refl, sym, ap, ◌∙◌, subst, arith}
+use Rattle.std.proofs.Common.{◌≡◌, ◌≢◌, ℕ, zero, suc, ◌+◌, ◌<◌, ◌≤◌, ◌==◌, List, [], ◌∷◌, ◌++◌, length, take, drop, true, false, true≢false, Option, None, Some, IsSome, IfSome, Result, Ok, Err, IfOk, OnOk, IsOk, not, ◌⊎◌, inl, inr, refl, sym, ap, ◌∙◌, subst, arith}
 use Rattle.std.specs.List.{slice_get, filter}
 use Rattle.std.specs.Result.{result_ok}
 use Rattle.std.specs.Global.{Vec}
@@ -10,19 +10,16 @@ use Rattle.gate_hub.specs.Meaning.{Link, unasked}
 use Rattle.gate_hub.specs.declared.hub.LinkGot.TheVariants as got
 use Rattle.gate_hub.specs.declared.hub.LinkPut.TheVariants as put
 use Rattle.mio_edge.specs.Wire.{Wire, Moves, Stays}
-use Rattle.std.specs.VecDeque.{deque_capacity}
-use Rattle.mio_edge.specs.Moving.{PortTells, PortTellsBy, noted, is_news}
+use Rattle.mio_edge.specs.Moving.{PortTells, PortTellsBy, noted}
 use Rattle.mio_edge.specs.Sessions.{Links, SessionTells, TellsUnsent, TellsAt, AtPort, IsSame, IsStill, IsAwaited, IsUnsentAt, PortsTell, new_links, named_links}
-use Rattle.mio_edge.specs.Turns.{Has, HasRoom, Pushes, IsIdleAt, Stands, QueuesStand, TableStands}
-use Rattle.mio_edge.specs.declared.queue.Queue.{Queue}
-use Rattle.mio_edge.specs.Tables.{World, place_of, RisesFrom, TellsPlace, SpareTells, IsClosedAt, IsPrepared, IsNew, Tells, TableTells, HasVacancy, HasNoted, AtSession, Shuts, Opens, Names, MovesAt}
-use Rattle.mio_edge.specs.declared.network.Readiness.{Readiness}
+use Rattle.mio_edge.specs.Turns.{IsIdleAt, Stands, QueuesStand, TableStands}
+use Rattle.mio_edge.specs.Tables.{World, place_of, RisesFrom, TellsPlace, SpareTells, IsClosedAt, IsPrepared, IsNew, Tells, TableTells, HasVacancy, AtSession, Shuts, Opens, Names, MovesAt}
 use Rattle.mio_edge.specs.declared.port.Port.{Port}
 use Rattle.mio_edge.specs.declared.session.Session.{Session}
 use Rattle.mio_edge.specs.declared.table.Table.{Table}
 use Rattle.mio_edge.specs.declared.table.Entry.{Entry}
-use Rattle.mio_edge.proofs.Sessions.{decide, pushed_cases, none_awaited, session_queued}
-use Rattle.mio_edge.proofs.Turns.{stands_begun, stands_freed, queues_still, queues_ready, queues_behind, queues_written, ready_room, behind_room}
+use Rattle.mio_edge.proofs.Sessions.{decide, pushed_cases, none_awaited}
+use Rattle.mio_edge.proofs.Turns.{stands_begun, stands_freed}
 use Rattle.mio_edge.proofs.Entries.{some_same, place_at, cut_out, pushed_here, pushed_other, rises_pushed, get_last, get_front, filtered}
 
 -- what is left behind so many and one more
@@ -424,6 +421,8 @@ module _ {S : Type 0} (tells : S → Wire → Type 0) where
           idle = joins.idle;
           blocked = joins.blocked;
           begun = joins.begun;
+          room_in = joins.room_in;
+          room_out = joins.room_out;
         },
       )
 

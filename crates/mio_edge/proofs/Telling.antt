@@ -19,11 +19,12 @@ use Rattle.mio_edge.specs.Wire.{Wire, Moves, Stays}
 use Rattle.mio_edge.specs.Sessions.{Links, AtPort, named_links}
 use Rattle.mio_edge.specs.Tables.{World, AtSession, Shuts, Opens, MovesAt, empty_world}
 use Rattle.mio_edge.specs.Worlds.{ListeningTells, SocketsTell, HasStopped, EventMoves}
-use Rattle.mio_edge.specs.Numbers.{Numbers}
+use Rattle.mio_edge.specs.Numbers.{AllAnnounced, Numbers}
 use Rattle.mio_edge.specs.Telling.{port_number, Alike, Agrees, Matches, HubTells}
 use Rattle.mio_edge.specs.declared.hub.MioHub.{MioHub}
 use Rattle.mio_edge.specs.declared.listening.Listening.{Listening}
 use Rattle.mio_edge.specs.declared.sockets.Sockets.{Sockets}
+use Rattle.mio_edge.proofs.Numbers.{AloneNumbers, ended_same, numbers_alone}
 use Rattle.mio_edge.proofs.Sessions.{decide}
 use Rattle.mio_edge.proofs.Received.{received_bytes}
 
@@ -215,6 +216,14 @@ reopened_agrees told links agrees = (
   record { received = agrees.3.received; sent = agrees.3.sent; ended = agrees.3.ended; last_read = refl; last_write = refl },
 )
 
+-- they have stopped, where this follows from being one of several
+stopped_too : {W S : Type 0} (A B : Type 0) → (A → B) → (sockets : Sockets W S) → HasStopped A sockets → HasStopped B sockets
+stopped_too A B follows sockets has = record { stopped = has.stopped; ended = by has.ended }
+  where
+    by : AllAnnounced sockets.accept sockets.announced ⊎ A → AllAnnounced sockets.accept sockets.announced ⊎ B
+    by (inl all) = inl all
+    by (inr a) = inr (follows a)
+
 module _ {W S : Type 0} (Is : Type 0) (tells : S → Wire → Type 0) where
   sockets_bytes : ((s : S) (wire : Wire) → tells s wire → AreBytes wire.received) → (sockets : Sockets W S) (world : World) → SocketsTell Is tells sockets world → (k : ℕ) (links : Links) → world k ≡ Some links → (p : ℕ) → AreBytes (links p).received
   sockets_bytes are sockets world told k links is p = by sockets.listening told.sessions
@@ -227,7 +236,7 @@ module _ {W S : Type 0} (Is : Type 0) (tells : S → Wire → Type 0) where
       by (Some l) t = received_bytes tells are l.table.sessions l.table.entries.items l.table.closed.items l.table.spare.items world t.1.0 k links is p
 
   pub call_leads : ((s : S) (wire : Wire) → tells s wire → AreBytes wire.received) → (a b : MioHub W S) (k : ℕ) (s : Side) (call : HubCall) (Step : Link → Link → Type 0) → Follows Step
-      → MovesAt k (SocketsTell Is tells a.sockets) (SocketsTell Is tells b.sockets) (AtSession k (port_number s) Step) → b.sockets.announced ≡ a.sockets.announced → (HasStopped a.sockets → HasStopped b.sockets)
+      → MovesAt k (SocketsTell Is tells a.sockets) (SocketsTell Is tells b.sockets) (AtSession k (port_number s) Step) → b.sockets.announced ≡ a.sockets.announced → (HasStopped ⊥ a.sockets → HasStopped ⊥ b.sockets)
       → Leads (HubTells Is tells a) (HubTells Is tells b) (IsOpen k) (Changes k call (AtSide s Step))
   call_leads are a b k s call Step follows moves count still m told can =
       let some = open_there (m.session k) (told.world k) (told.sessions.sides k) can.0 can.1 in
@@ -260,7 +269,7 @@ module _ {W S : Type 0} (Is : Type 0) (tells : S → Wire → Type 0) where
 
   -- ---- a close
 
-  pub close_leads : (a b : MioHub W S) (k : ℕ) → MovesAt k (SocketsTell Is tells a.sockets) (SocketsTell Is tells b.sockets) (Shuts k) → b.sockets.announced ≡ a.sockets.announced → (HasStopped a.sockets → HasStopped b.sockets) → Leads (HubTells Is tells a) (HubTells Is tells b) (IsOpen k) (CloseLeads k)
+  pub close_leads : (a b : MioHub W S) (k : ℕ) → MovesAt k (SocketsTell Is tells a.sockets) (SocketsTell Is tells b.sockets) (Shuts k) → b.sockets.announced ≡ a.sockets.announced → (HasStopped ⊥ a.sockets → HasStopped ⊥ b.sockets) → Leads (HubTells Is tells a) (HubTells Is tells b) (IsOpen k) (CloseLeads k)
   close_leads a b k moves count still m told can =
       let some = open_there (m.session k) (told.world k) (told.sessions.sides k) can.0 can.1 in
       let moved = moves told.world told.sockets some in
@@ -332,10 +341,17 @@ module _ {W S : Type 0} (Is : Type 0) (tells : S → Wire → Type 0) where
 
   -- ---- an event
 
-  pub next_leads : (a b : MioHub W S) (r : HubNext) → Moves (SocketsTell Is tells a.sockets) (SocketsTell Is tells b.sockets) (EventMoves r) → (HasStopped a.sockets → r ≡ event.Stopped) → (r ≡ event.Stopped → HasStopped b.sockets) → Numbers r a.sockets.announced b.sockets.announced → Leads (HubTells Is tells a) (HubTells Is tells b) HasStarted (NextLeads r)
-  next_leads a b r moves still stops numbers m told can = by r (λ e. still (told.stopped e)) moves stops numbers
+  pub next_leads : (Shared : Type 0) → (Is → Shared → ⊥) → (a b : MioHub W S) (r : HubNext) → Moves (SocketsTell Is tells a.sockets) (SocketsTell Is tells b.sockets) (EventMoves r)
+      → (HasStopped Shared a.sockets → r ≡ event.Stopped) → (r ≡ event.Stopped → HasStopped Shared b.sockets) → Numbers Shared r a.sockets.announced b.sockets.announced
+      → Leads (HubTells Is tells a) (HubTells Is tells b) HasStarted (NextLeads r)
+  next_leads Shared alone a b r moves still stops numbers m told can =
+      by r (λ e. still (stopped_too ⊥ Shared (λ none. absurd none) a.sockets (told.stopped e))) moves (λ e. stopped_too Shared ⊥ none b.sockets (stops e))
+      (numbers_alone Shared none r a.sockets.announced b.sockets.announced numbers)
     where
-      quiet : (e : HubNext) → (w : World) → SocketsTell Is tells b.sockets w → w ≡ told.world → b.sockets.announced ≡ a.sockets.announced → (e ≡ event.Stopped → HasStopped b.sockets) → HubTells Is tells b (record m { last_event = Some e; calls = m.calls ++ Asked e ∷ [] })
+      none : Shared → ⊥
+      none shared = alone told.sockets.is_telling shared
+
+      quiet : (e : HubNext) → (w : World) → SocketsTell Is tells b.sockets w → w ≡ told.world → b.sockets.announced ≡ a.sockets.announced → (e ≡ event.Stopped → HasStopped ⊥ b.sockets) → HubTells Is tells b (record m { last_event = Some e; calls = m.calls ++ Asked e ∷ [] })
       quiet e w sockets same count stops = record {
         world = w;
         sockets = sockets;
@@ -347,7 +363,7 @@ module _ {W S : Type 0} (Is : Type 0) (tells : S → Wire → Type 0) where
           un_some : (e : HubNext) → Some e ≡ Some event.Stopped → e ≡ event.Stopped
           un_some e is = cc
 
-      no_stop : (e : HubNext) → (e ≡ event.Stopped → ⊥) → Some e ≡ Some event.Stopped → HasStopped b.sockets
+      no_stop : (e : HubNext) → (e ≡ event.Stopped → ⊥) → Some e ≡ Some event.Stopped → HasStopped ⊥ b.sockets
       no_stop e off is = absurd (off (un_some e is))
         where
           un_some : (e : HubNext) → Some e ≡ Some event.Stopped → e ≡ event.Stopped
@@ -360,7 +376,7 @@ module _ {W S : Type 0} (Is : Type 0) (tells : S → Wire → Type 0) where
           by None e some = absurd (cc)
           by (Some s) e some = absurd (cc)
 
-      by : (r : HubNext) → (m.last_event ≡ Some event.Stopped → r ≡ event.Stopped) → Moves (SocketsTell Is tells a.sockets) (SocketsTell Is tells b.sockets) (EventMoves r) → (r ≡ event.Stopped → HasStopped b.sockets) → Numbers r a.sockets.announced b.sockets.announced → (m' : Meaning) × HubTells Is tells b m' × NextLeads r m m'
+      by : (r : HubNext) → (m.last_event ≡ Some event.Stopped → r ≡ event.Stopped) → Moves (SocketsTell Is tells a.sockets) (SocketsTell Is tells b.sockets) (EventMoves r) → (r ≡ event.Stopped → HasStopped ⊥ b.sockets) → AloneNumbers r a.sockets.announced b.sockets.announced → (m' : Meaning) × HubTells Is tells b m' × NextLeads r m m'
       by (event.Opened k) last moves stops numbers =
           let moved = moves told.world told.sockets in (
             record (with_session k new_session m) { last_event = Some (event.Opened k); events = one_more m.events; calls = m.calls ++ Asked (event.Opened k) ∷ [] },
@@ -444,12 +460,8 @@ module _ {W S : Type 0} (Is : Type 0) (tells : S → Wire → Type 0) where
 
   -- ---- as the functions of the hub ask
 
-  pub still_stopped : (a b : Sockets W S) → b.has_stopped ≡ a.has_stopped → b.accept ≡ a.accept → b.announced ≡ a.announced → HasStopped a → HasStopped b
-  still_stopped a b stopped accept count h = record {
-    stopped = stopped ∙ h.stopped;
-    some = omega (arith, h.some, accept);
-    all = omega (arith, h.all, accept, count);
-  }
+  pub still_stopped : (a b : Sockets W S) → b.has_stopped ≡ a.has_stopped → b.accept ≡ a.accept → b.announced ≡ a.announced → HasStopped ⊥ a → HasStopped ⊥ b
+  still_stopped a b stopped accept count h = record { stopped = stopped ∙ h.stopped; ended = ended_same ⊥ a.accept a.announced b.accept b.announced accept count h.ended }
 
   pub call_leads_over : ((s : S) (wire : Wire) → tells s wire → AreBytes wire.received) → (a b : MioHub W S) (sockets : Sockets W S) (k : ℕ) (s : Side) (port : ℕ) (call : HubCall) (Step : Link → Link → Type 0) → Follows Step → b.sockets ≡ sockets → port ≡ port_number s
       → MovesAt k (SocketsTell Is tells a.sockets) (SocketsTell Is tells sockets) (AtSession k port Step) → sockets.has_stopped ≡ a.sockets.has_stopped → sockets.accept ≡ a.sockets.accept → sockets.announced ≡ a.sockets.announced
@@ -459,4 +471,4 @@ module _ {W S : Type 0} (Is : Type 0) (tells : S → Wire → Type 0) where
       (subst (λ (x : Sockets W S). MovesAt k (SocketsTell Is tells a.sockets) (SocketsTell Is tells x) (AtSession k (port_number s) Step)) (sym is)
       (subst (λ (p : ℕ). MovesAt k (SocketsTell Is tells a.sockets) (SocketsTell Is tells sockets) (AtSession k p Step)) port_is moves))
       (ap (λ (x : Sockets W S). x.announced) is ∙ count)
-      (λ h. subst (λ (x : Sockets W S). HasStopped x) (sym is) (still_stopped a.sockets sockets stopped accept count h))
+      (λ h. subst (λ (x : Sockets W S). HasStopped ⊥ x) (sym is) (still_stopped a.sockets sockets stopped accept count h))

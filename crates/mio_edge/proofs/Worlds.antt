@@ -1,8 +1,12 @@
 -- What sockets tell once the sessions of their listener have moved.
-use Rattle.std.proofs.Common.{◌≡◌, ◌≢◌, ℕ, ◌<◌, ◌⊎◌, inl, inr, Option, None, Some, IsSome, refl, sym, ◌∙◌, subst}
+use Rattle.std.proofs.Common.{◌≡◌, ◌≢◌, ℕ, ◌+◌, ◌-◌, ◌^◌, ◌<◌, ◌⊎◌, inl, inr, Option, None, Some, IsSome, refl, sym, ◌∙◌, subst, arith}
 use Rattle.mio_edge.specs.Wire.{Wire, Moves, Stays}
-use Rattle.mio_edge.specs.Tables.{World, TableTells, NamesIfAny}
-use Rattle.mio_edge.specs.Worlds.{ListeningTells, SocketsTell}
+use Rattle.mio_edge.specs.Admitting.{IfHere, IfNotHere}
+use Rattle.mio_edge.specs.Numbers.{Passes}
+use Rattle.mio_edge.specs.Tables.{World, TableTells, TableAnnounces, NamesIfAny}
+use Rattle.mio_edge.specs.Worlds.{ListeningTells, SocketsTell, OpensAs}
+use Rattle.mio_edge.specs.declared.listening.Admitted.{Admitted}
+use Rattle.mio_edge.specs.declared.listening.Admitted.TheVariants as admitted
 use Rattle.mio_edge.specs.declared.listening.Listening.{Listening}
 use Rattle.mio_edge.specs.declared.sockets.Sockets.{Sockets}
 use Rattle.mio_edge.proofs.Sessions.{decide}
@@ -49,3 +53,41 @@ named_below Is tells a world w (Some j) k told names e =
   where
     un_some : Some j ≡ Some k → j ≡ k
     un_some e = cc
+
+-- ---- a connection was accepted
+
+opens_as : {W S : Type 0} (Is : Type 0) (tells : S → Wire → Type 0) (a b : Sockets W S) (l l' : Listening S) (k : ℕ) → a.listening ≡ Some l → b.listening ≡ Some l' → l'.connecting ≡ l.connecting
+    → (Is → TableAnnounces tells k l.table l'.table) → (Shared : Type 0) → Passes Shared a.announced k → b.connecting ≡ a.connecting → OpensAs Is tells k a b
+opens_as {W} {S} Is tells a b l l' k was now same announces Shared passes at_once world told =
+    let old : ListeningTells tells (Some l) world = subst (λ (o : Option (Listening S)). ListeningTells tells o world) was told.sessions in
+    let moved = announces told.is_telling world old.1 above in (
+      moved.0,
+      record {
+        is_telling = told.is_telling;
+        at_once = at_once ∙ told.at_once;
+        sessions = subst (λ (o : Option (Listening S)). ListeningTells tells o moved.0) (sym now) (same ∙ old.0, moved.1);
+        below = λ j some. below j (decide j k) (λ off. above j (subst (λ o. IsSome o) (moved.2.others j off) some));
+      },
+      moved.2,
+    )
+  where
+    above : (j : ℕ) → IsSome (world j) → j < k
+    above j some = omega (arith, told.below j some, passes.0)
+
+    below : (j : ℕ) → (j ≡ k) ⊎ (j ≢ k) → (j ≢ k → j < k) → j < k + 1
+    below j (inl e) other = omega (arith, e)
+    below j (inr off) other = omega (arith, other off)
+
+pub admitted_opens : {W S : Type 0} (Is : Type 0) (tells : S → Wire → Type 0) (Shared : Type 0) (a b : Sockets W S) (l l' : Listening S) (r : Admitted) → a.listening ≡ Some l → b.listening ≡ Some l'
+    → l'.connecting ≡ l.connecting → IfHere r (λ k. Is → TableAnnounces tells k l.table l'.table) → IfHere r (λ k. Passes Shared a.announced k × (k < 2 ^ 64 - 1)) → b.connecting ≡ a.connecting
+    → IfHere r (λ k. OpensAs Is tells k a b)
+admitted_opens Is tells Shared a b l l' (admitted.Here k) was now same announces number at_once = opens_as Is tells a b l l' k was now same announces Shared number.0 at_once
+admitted_opens Is tells Shared a b l l' admitted.Handed was now same announces number at_once = tt
+admitted_opens Is tells Shared a b l l' admitted.Nothing was now same announces number at_once = tt
+
+pub admitted_keeps : {W S : Type 0} (Is : Type 0) (tells : S → Wire → Type 0) (a b : Sockets W S) (l l' : Listening S) (r : Admitted) → a.listening ≡ Some l → b.listening ≡ Some l'
+    → l'.connecting ≡ l.connecting → IfNotHere r (Stays (TableTells tells l.table) (TableTells tells l'.table)) → b.connecting ≡ a.connecting → b.announced ≡ a.announced
+    → IfNotHere r (Stays (SocketsTell Is tells a) (SocketsTell Is tells b))
+admitted_keeps Is tells a b l l' (admitted.Here k) was now same stays at_once announced = tt
+admitted_keeps Is tells a b l l' admitted.Handed was now same stays at_once announced = listening_moved Is tells a b l l' was now same stays at_once announced
+admitted_keeps Is tells a b l l' admitted.Nothing was now same stays at_once announced = listening_moved Is tells a b l l' was now same stays at_once announced

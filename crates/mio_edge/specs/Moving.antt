@@ -17,9 +17,9 @@ use Rattle.mio_edge.specs.declared.port.Sending.TheVariants as sending
 -- of a read into a buffer that was empty
 abbrev pub Receives : LinkGot → Buffer → Buffer → Type 0
 Receives (got.Bytes n) a b = (0 < n) × (length b.bytes ≡ n) × (b.room ≡ a.room)
-Receives got.NotReady a b = b.bytes ≡ []
-Receives got.End a b = b.bytes ≡ []
-Receives got.Failed a b = b.bytes ≡ []
+Receives got.NotReady a b = (b.bytes ≡ []) × (b.room ≡ a.room)
+Receives got.End a b = (b.bytes ≡ []) × (b.room ≡ a.room)
+Receives got.Failed a b = (b.bytes ≡ []) × (b.room ≡ a.room)
 
 -- of a write: what was taken is gone from the front
 abbrev pub Sends : LinkPut → Buffer → Buffer → Type 0
@@ -35,7 +35,7 @@ TakesIn put.Failed from a b = ⊥
 
 -- The link of a port over a stream that tells this wire: it received what the stream did but for what is held, and was sent
 -- what the stream was and what waits. It has ended only where the stream has, and all that came before that was handed out. A
--- call failed only where the stream did. The port is held to be not ready only where the stream isn't.
+-- call failed only where the stream did. The port is held to be not ready only where the stream isn't. Both buffers have room.
 pub record Joins {S : Type 0} (wire : Wire) (port : Port S) (link : Link) : Type 0 where
   pub received : wire.received ≡ link.received ++ port.incoming.bytes
   pub sent : link.sent ≡ wire.sent ++ port.outgoing.bytes
@@ -48,6 +48,8 @@ pub record Joins {S : Type 0} (wire : Wire) (port : Port S) (link : Link) : Type
   pub idle : port.receiving ≡ receiving.Idle → wire.readable ≡ false
   pub blocked : port.sending ≡ sending.Blocked → wire.writable ≡ false
   pub begun : port.sending ≢ sending.Deferred
+  pub room_in : 0 < port.incoming.room
+  pub room_out : 0 < port.outgoing.room
 
 -- over a port that has no stream nothing went
 pub record IsUntouched {S : Type 0} (port : Port S) (link : Link) : Type 0 where

@@ -36,14 +36,14 @@ pub record Matches (count : ℕ) (world : World) (m : Meaning) : Type 0 where
   pub announced : (k : ℕ) → (m.session k).announced ≡ nat_lt k count
   pub bytes : (k : ℕ) (s : Side) → AreBytes (link_of (m.session k) s).received
 
--- What the hub tells, over a network that tells: its sessions are those of the sockets. Before a start none was announced,
--- and once it has stopped it answers so.
+-- What the hub tells, over a network that tells, and so is alone at its address: its sessions are those of the sockets. Before a start
+-- none was announced, and once it has stopped it answers so.
 pub record HubTells {W S : Type 0} (IsTelling : Type 0) (tells : S → Wire → Type 0) (hub : MioHub W S) (m : Meaning) : Type 0 where
   pub world : World
   pub sockets : SocketsTell IsTelling tells hub.sockets world
   pub sessions : Matches hub.sockets.announced world m
   pub fresh : m.started ≡ None → hub.sockets.announced ≡ 0
-  pub stopped : m.last_event ≡ Some event.Stopped → HasStopped hub.sockets
+  pub stopped : m.last_event ≡ Some event.Stopped → HasStopped ⊥ hub.sockets
 
 -- what the hub told leads so to what it tells
 abbrev pub HubLeads : {W S : Type 0} → Type 0 → (S → Wire → Type 0) → (Meaning → Type 0) → (Meaning → Meaning → Type 0) → MioHub W S → MioHub W S → Type 0

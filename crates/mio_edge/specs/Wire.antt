@@ -57,7 +57,8 @@ WireShuts a b = b ≡ record a { shut = true }
 
 -- this holds of the stream that was accepted, if one was
 abbrev pub IfCame : {S : Type 0} → Accepted S → (S → Type 0) → Type 0
-IfCame (accepted.Came stream) P = P stream
+IfCame (accepted.Came stream number) P = P stream
+IfCame accepted.Handed P = ⊤
 IfCame accepted.Nothing P = ⊤
 IfCame accepted.Gone P = ⊤
 IfCame accepted.Failed P = ⊤

@@ -1,8 +1,9 @@
 -- What the sockets tell: the sessions that are open, and what went over the ports of each.
-use Rattle.std.specs.Prelude.{◌≡◌, ℕ, ◌+◌, ◌<◌, ◌≤◌, true, Option, None, Some, IsSome}
+use Rattle.std.specs.Prelude.{◌≡◌, ℕ, ◌+◌, ◌<◌, ◌⊎◌, true, Option, None, Some, IsSome}
 use Rattle.gate_hub.specs.declared.hub.HubNext.{HubNext}
 use Rattle.gate_hub.specs.declared.hub.HubNext.TheVariants as event
 use Rattle.mio_edge.specs.Wire.{Wire, Moves, Stays}
+use Rattle.mio_edge.specs.Numbers.{AllAnnounced}
 use Rattle.mio_edge.specs.Tables.{World, TableTells, Opens, Names, MovesAt}
 use Rattle.mio_edge.specs.declared.listening.Connecting.TheVariants as connecting
 use Rattle.mio_edge.specs.declared.listening.Listening.{Listening}
@@ -14,7 +15,7 @@ ListeningTells tells None world = (k : ℕ) → world k ≡ None
 ListeningTells tells (Some listening) world = (listening.connecting ≡ connecting.AtOnce) × TableTells tells listening.table world
 
 -- What the sockets of a network that tells tell, where each session is connected to all its upstreams at once: the open
--- sessions, whose numbers are below the count of those that were announced.
+-- sessions, whose numbers are below the next number.
 pub record SocketsTell {W S : Type 0} (IsTelling : Type 0) (tells : S → Wire → Type 0) (sockets : Sockets W S) (world : World) : Type 0 where
   pub is_telling : IsTelling
   pub at_once : sockets.connecting ≡ connecting.AtOnce
@@ -49,13 +50,12 @@ abbrev pub EventMovesIfAny : Option HubNext → World → World → Type 0
 EventMovesIfAny (Some answer) a b = EventMoves answer a b
 EventMovesIfAny None a b = b ≡ a
 
--- they answer that no event follows
-pub record HasStopped {W S : Type 0} (sockets : Sockets W S) : Type 0 where
+-- they answer that no event follows: all was announced, or another server at the address has ended, or hands on no more
+pub record HasStopped {W S : Type 0} (IsShared : Type 0) (sockets : Sockets W S) : Type 0 where
   pub stopped : sockets.has_stopped ≡ true
-  pub some : 0 < sockets.accept
-  pub all : sockets.accept ≤ sockets.announced
+  pub ended : AllAnnounced sockets.accept sockets.announced ⊎ IsShared
 
--- a session of the next number is open, once it is announced
-abbrev pub OpensNext : {W S : Type 0} → Type 0 → (S → Wire → Type 0) → Sockets W S → Sockets W S → Type 0
-OpensNext IsTelling tells a b =
-    Moves (SocketsTell IsTelling tells a) (SocketsTell IsTelling tells (record b { announced = b.announced + 1 })) (Opens a.announced)
+-- session k is open, once it is announced
+abbrev pub OpensAs : {W S : Type 0} → Type 0 → (S → Wire → Type 0) → ℕ → Sockets W S → Sockets W S → Type 0
+OpensAs IsTelling tells k a b =
+    Moves (SocketsTell IsTelling tells a) (SocketsTell IsTelling tells (record b { announced = k + 1 })) (Opens k)

@@ -1,23 +1,24 @@
-//! The fan over real sockets: sessions with several targets. It tells no content, and counts what
+//! The fan over sockets: sessions with several targets. It tells no content, and counts what
 //! failed and what wasn't ready.
-ghost use Rattle.std.specs.Prelude.{◌≡◌, ◌<◌, ◌≤◌, ℕ, length, IfOk};
+ghost use Rattle.std.specs.Prelude.{◌≡◌, ◌<◌, ◌≤◌, ◌⊎◌, ℕ, length, IfOk};
 ghost use Rattle.gate_base.specs.Causes.{Rose};
 ghost use Rattle.gate_fan.specs.Fans.{HasStarted, Later, Leads, NextLeads, NotStarted, StartLeads, started_with};
 ghost use Rattle.gate_hub.specs.declared.hub.Began.TheVariants as began;
 ghost use Rattle.gate_hub.specs.declared.hub.HubNext.TheVariants as event;
 ghost use Rattle.mio_edge.specs.Counting.{fan_counts};
-ghost use Rattle.mio_edge.specs.Numbers.{Numbers};
+ghost use Rattle.mio_edge.specs.Numbers.{AllAnnounced, Numbers};
 
 use crate::Sockets;
 use crate::hub::SideCounts;
 use crate::mio_network::MioNetwork;
+use crate::network::Network;
 use gate_base::{OutOfMemory, Text};
 use gate_fan::{Fan, Target};
 use gate_hub::{Began, HubNext, LinkGot, LinkPut};
 use std::alloc::Global;
 use std::net::Net;
 
-/// A fan over real sockets.
+/// A fan over the sockets of a network.
 ///
 /// A session is connected to a target when the first byte is to be sent to it. Until then reads of that
 /// port answer that it isn't ready, and a target that is dead ends only the sessions that call it.
@@ -25,21 +26,32 @@ use std::net::Net;
 /// It reserves `sessions + 1` places in `start`, each with two buffers for each of its ports, and takes no
 /// memory after it.
 #[derive(Drop)]
-pub struct MioFan<'n, N: Net> {
-    sockets: Sockets<MioNetwork<'n, N>>,
+pub struct MioFan<W: Network> {
+    sockets: Sockets<W>,
     targets: usize,
     links: SideCounts,
 }
 
-impl<'n, N: Net> MioFan<'n, N> {
-    /// A fan that hasn't started. Its counts are 0.
-    pub fn new(net: &'n N) -> MioFan<'n, N>
+impl<'n, N: Net> MioFan<MioNetwork<'n, N>> {
+    /// A fan over the system's sockets that hasn't started. Its counts are 0.
+    pub fn new(net: &'n N) -> MioFan<MioNetwork<'n, N>>
+        ensures faults { result.sockets.faults ≡ 0 }
+        ensures links { result.links ≡ record { faults = 0; waits = 0 } }
+        ensures targets { result.targets ≡ 0 }
+    {
+        MioFan::over(MioNetwork::new(net))
+    }
+}
+
+impl<W: Network> MioFan<W> {
+    /// A fan over this network that hasn't started. Its counts are 0.
+    pub fn over(network: W) -> MioFan<W>
         ensures faults { result.sockets.faults ≡ 0 }
         ensures links { result.links ≡ record { faults = 0; waits = 0 } }
         ensures targets { result.targets ≡ 0 }
     {
         MioFan {
-            sockets: Sockets::on_demand(net),
+            sockets: Sockets::on_demand(network),
             targets: 0,
             links: SideCounts {
                 faults: 0,
@@ -67,7 +79,7 @@ impl<'n, N: Net> MioFan<'n, N> {
     }
 }
 
-impl<N: Net> Fan for MioFan<'_, N> {
+impl<W: Network> Fan for MioFan<W> {
     ghost tells = { λ _ _. ⊥ };
 
     ghost counts = { λ f. fan_counts f.sockets.faults f.links };
@@ -103,8 +115,8 @@ impl<N: Net> Fan for MioFan<'_, N> {
         ensures targets { self.new.targets ≡ self.old.targets }
         ensures later { Later (fan_counts self.old.sockets.faults self.old.links) (fan_counts self.new.sockets.faults self.new.links) }
         ensures cause { result ≡ event.Failed → Rose self.old.sockets.faults self.new.sockets.faults }
-        ensures numbers { Numbers result self.old.sockets.announced self.new.sockets.announced }
-        ensures stopped { result ≡ event.Stopped → (0 < self.new.sockets.accept) × (self.new.sockets.accept ≤ self.new.sockets.announced) }
+        ensures numbers { Numbers W.is_shared result self.old.sockets.announced self.new.sockets.announced }
+        ensures stopped { result ≡ event.Stopped → AllAnnounced self.new.sockets.accept self.new.sockets.announced ⊎ W.is_shared }
     {
         self.sockets.next()
     }

@@ -1,13 +1,16 @@
 //! The hub of sessions with one upstream. It tells what its network's streams tell, and counts what
 //! failed and what wasn't ready.
-ghost use Rattle.std.specs.Prelude.{◌≡◌, ◌<◌, ◌-◌, ◌^◌, ◌≤◌, ℕ};
+ghost use Rattle.std.specs.Prelude.{◌≡◌, ◌<◌, ◌≤◌, ◌⊎◌, ℕ, length, Some};
 ghost use Rattle.gate_base.specs.Causes.{Rose};
-ghost use Rattle.gate_hub.specs.Hubs.{HasStarted, Later, Leads, NextLeads, NotStarted, StartLeads, started_with};
+ghost use Rattle.gate_hub.specs.Hubs.{CloseLeads, GotWithin, HasStarted, Later, Leads, NextLeads, NotStarted, ReadLeads, StartLeads, TookWithin, WriteLeads, started_with};
+ghost use Rattle.gate_hub.specs.Meaning.{IsOpen};
 ghost use Rattle.gate_hub.specs.declared.hub.Began.TheVariants as began;
 ghost use Rattle.gate_hub.specs.declared.hub.HubNext.TheVariants as event;
 ghost use Rattle.mio_edge.specs.Counting.{FaultRose, WaitRose, counts_in};
-ghost use Rattle.mio_edge.specs.Numbers.{Numbers};
+ghost use Rattle.mio_edge.specs.Numbers.{AllAnnounced, Numbers};
 ghost use Rattle.mio_edge.specs.Telling.{HubTells, HubLeads, port_number};
+ghost use Rattle.mio_edge.specs.Turning.{EventTurn, SocketsJoin};
+ghost use Rattle.mio_edge.specs.Winding.{SocketsClose, SocketsWind, SocketsWindIfTold};
 
 use crate::Sockets;
 use crate::mio_network::MioNetwork;
@@ -151,25 +154,51 @@ impl<W: Network> Hub for MioHub<W> {
         ensures leads { Leads (HubTells W.is_telling W.Stream.tells self.old) (HubTells W.is_telling W.Stream.tells self.new) HasStarted (NextLeads result) }
         ensures later { Later (counts_in self.old) (counts_in self.new) }
         ensures cause { result ≡ event.Failed → Rose self.old.sockets.faults self.new.sockets.faults }
-        ensures numbers { Numbers result self.old.sockets.announced self.new.sockets.announced }
-        ensures stopped { result ≡ event.Stopped → (0 < self.new.sockets.accept) × (self.new.sockets.accept ≤ self.new.sockets.announced) }
+        ensures numbers { Numbers W.is_shared result self.old.sockets.announced self.new.sockets.announced }
+        ensures stopped { result ≡ event.Stopped → AllAnnounced self.new.sockets.accept self.new.sockets.announced ⊎ W.is_shared }
+        ensures winds { SocketsWind W.Stream.tells self.old.sockets self.new.sockets }
+        ensures turn { EventTurn W.is_telling W.Stream.tells (Some result) self.old.sockets self.new.sockets }
     {
         self.sockets.next()
     }
 
-    fn read(&mut self, k: u64, side: Side, into: &mut [u8]) -> LinkGot {
+    fn read(&mut self, k: u64, side: Side, into: &mut [u8]) -> LinkGot
+        requires { 0 < length into.old }
+        ensures within { GotWithin into.new result }
+        ensures leads { HubLeads W.is_telling W.Stream.tells (IsOpen k) (ReadLeads k side (length into.old) into.new result) self.old self.new }
+        ensures later { Later (counts_in self.old) (counts_in self.new) }
+        ensures cause { result ≡ LinkGot.Failed → Rose ((counts_in self.old).link_faults k side) ((counts_in self.new).link_faults k side) }
+        ensures wait { result ≡ LinkGot.NotReady → Rose ((counts_in self.old).waits k side) ((counts_in self.new).waits k side) }
+        ensures winds { SocketsWindIfTold W.is_telling W.Stream.tells self.old.sockets self.new.sockets }
+        ensures joins { SocketsJoin self.old.sockets self.new.sockets }
+    {
         let got = self.sockets.read(k, port_of(side), into);
         self.count_got(side, got);
         got
     }
 
-    fn write(&mut self, k: u64, side: Side, from: &[u8]) -> LinkPut {
+    fn write(&mut self, k: u64, side: Side, from: &[u8]) -> LinkPut
+        requires { 0 < length from.now }
+        ensures within { TookWithin from.now result }
+        ensures leads { HubLeads W.is_telling W.Stream.tells (IsOpen k) (WriteLeads k side from.now result) self.old self.new }
+        ensures later { Later (counts_in self.old) (counts_in self.new) }
+        ensures cause { result ≡ LinkPut.Failed → Rose ((counts_in self.old).link_faults k side) ((counts_in self.new).link_faults k side) }
+        ensures wait { result ≡ LinkPut.NotReady → Rose ((counts_in self.old).waits k side) ((counts_in self.new).waits k side) }
+        ensures winds { SocketsWindIfTold W.is_telling W.Stream.tells self.old.sockets self.new.sockets }
+        ensures joins { SocketsJoin self.old.sockets self.new.sockets }
+    {
         let put = self.sockets.write(k, port_of(side), from);
         self.count_put(side, put);
         put
     }
 
-    fn close(&mut self, k: u64) {
+    fn close(&mut self, k: u64)
+        ensures leads { HubLeads W.is_telling W.Stream.tells (IsOpen k) (CloseLeads k) self.old self.new }
+        ensures later { Later (counts_in self.old) (counts_in self.new) }
+        ensures sends { SocketsClose W.is_telling W.Stream.tells k self.old.sockets self.new.sockets }
+        ensures winds { SocketsWind W.Stream.tells self.old.sockets self.new.sockets }
+        ensures joins { SocketsJoin self.old.sockets self.new.sockets }
+    {
         self.sockets.close(k);
     }
 

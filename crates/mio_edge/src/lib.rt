@@ -14,7 +14,8 @@
 //!
 //! The rules stand over two traits: a `Stream` is a connection that may tell what went over it, and a
 //! `Network` has the streams of a server, and waits for what comes of them. The system's tell nothing,
-//! since what peers sent is the system's word; its impls only call. Over streams that tell, `MioHub`
+//! since what peers sent is the system's word; its impls only call. A network may be one of several whose servers share an
+//! address: `MioNetwork` is alone, and of the others each number may be another's. Over streams that tell, `MioHub`
 //! tells by the rules of a hub: of each open session, what its own streams gave and took. `MioFan` tells
 //! nothing.
 #![tactic(auto)]
@@ -25,6 +26,7 @@ mod listening;
 mod mio_network;
 mod mio_stream;
 mod network;
+mod polling;
 mod port;
 mod queue;
 mod session;
@@ -35,6 +37,7 @@ mod table;
 pub use fan::MioFan;
 pub use hub::{MioHub, SideCounts};
 pub use mio_network::MioNetwork;
-pub use network::{Accepted, Network, Readiness, Reports, Waited};
+pub use network::{Accepted, Handing, Network, Readiness, Reports, Waited};
+pub use polling::{NotAccepted, Polling, accept_from, look_up};
 pub use sockets::Sockets;
 pub use stream::Stream;

@@ -1,11 +1,15 @@
 //! The sessions of a server that listens, and its wait for what comes of them.
-ghost use Rattle.std.specs.Prelude.{◌≡◌, ◌≢◌, [], ℕ, None, true, false};
+ghost use Rattle.std.specs.Prelude.{◌≡◌, ◌≢◌, ◌<◌, ◌-◌, ◌^◌, [], ℕ, None, true, false};
+ghost use Rattle.mio_edge.specs.Closing.{Winds, OthersStay};
+ghost use Rattle.mio_edge.specs.Order.{SameTurns, TurnsIfTold};
 ghost use Rattle.mio_edge.specs.Wire.{Stays, new_wire};
+ghost use Rattle.mio_edge.specs.Numbers.{Passes};
+ghost use Rattle.mio_edge.specs.Admitting.{IfHere, IfNotHere};
 ghost use Rattle.mio_edge.specs.Moving.{IsBegun};
 ghost use Rattle.mio_edge.specs.Tables.{TableTells, IsPrepared, IsClosedAt, KeepsIdle, TableAnnounces};
 
 use crate::Stream;
-use crate::network::{Accepted, Network, Waited};
+use crate::network::{Accepted, Handing, Network, Waited};
 use crate::port::Sending;
 use crate::table::Table;
 use std::net::SocketAddr;
@@ -15,7 +19,7 @@ use std::time::Duration;
 /// up the sessions.
 const MOST_ACCEPTS: u32 = 16;
 
-/// After so many milliseconds an accept that failed is tried again.
+/// After so many milliseconds an accept that failed, or that found no place anywhere, is tried again.
 const RETRY_MILLIS: u64 = 100;
 
 /// What a server that has sent everything may spend on waits for its peers' ends before it stops: a
@@ -32,6 +36,17 @@ enum Accepting {
     Idle,
     Ready,
     Short,
+}
+
+/// What became of the next connection that waits.
+#[derive(Clone, Copy)]
+pub(crate) enum Admitted {
+    /// It is a session here, of this number.
+    Here(u64),
+    /// Another server at the address serves it.
+    Handed,
+    /// None came, or no session could be made of it.
+    Nothing,
 }
 
 /// When the connections of a session to its upstreams are begun: all with the session, or each at the
@@ -95,32 +110,67 @@ impl<S: Stream> Listening<S> {
         self.table.is_done() && (self.patience == 0 || self.table.is_empty())
     }
 
-    /// Accepts the next connection that waits, as this session, and begins one to each target, or has
-    /// it begun later. It says whether there is a new session. An accept that fails is passed over.
-    pub(crate) fn accept<W: Network<Stream = S>>(&mut self, network: &mut W, number: u64) -> bool
-        ensures opens { result ≡ true → W.is_telling → TableAnnounces S.tells number self.old.table self.new.table }
-        ensures kept { result ≡ false → Stays (TableTells S.tells self.old.table) (TableTells S.tells self.new.table) }
+    /// Accepts the next connection that waits, where `next` is the next number, and begins one to each target, or has it
+    /// begun later. One that finds no place here is accepted only where it may be handed on. An accept that fails is passed over.
+    #[tactic(auto, using(crate::specs::Closing::winds_nowhere))]
+    pub(crate) fn accept<W: Network<Stream = S>>(&mut self, network: &mut W, next: u64) -> Admitted
+        requires { next < 2 ^ 64 - 1 }
+        ensures opens { IfHere result (λ k. W.is_telling → TableAnnounces S.tells k self.old.table self.new.table) }
+        ensures kept { IfNotHere result (Stays (TableTells S.tells self.old.table) (TableTells S.tells self.new.table)) }
+        ensures number { IfHere result (λ k. Passes W.is_shared next k × (k < 2 ^ 64 - 1)) }
+        ensures handed { result ≡ Admitted.Handed → W.is_shared }
         ensures connecting { self.new.connecting ≡ self.old.connecting }
+        ensures winds { Winds S.tells self.old.table.sessions self.new.table.sessions }
+        ensures turns { IfNotHere result (SameTurns self.old.table self.new.table) }
     {
-        if self.accepting != Accepting::Ready || self.accepts_left == 0 || !self.table.has_place() {
-            return false;
+        if self.accepting != Accepting::Ready || self.accepts_left == 0 {
+            return Admitted::Nothing;
+        }
+        let has_place = self.table.has_place();
+        if !has_place && network.handing() != Handing::Now {
+            return Admitted::Nothing;
         }
         self.accepts_left = self.accepts_left.saturating_sub(1);
-        let next = match network.accept() {
-            Accepted::Came(client) => return self.admit(network, number, client),
+        let next = match network.accept(next, has_place) {
+            Accepted::Came { stream, number } => return self.open_session(network, number, stream),
+            Accepted::Handed => return Admitted::Handed,
             Accepted::Nothing => Accepting::Idle,
             Accepted::Gone => Accepting::Ready,
             Accepted::Failed => Accepting::Short,
         };
         self.accepting = next;
-        false
+        Admitted::Nothing
     }
 
-    // Makes a session of a connection.
+    // Makes a session of a connection. Where that can't be, its place may be given to another.
+    fn open_session<W: Network<Stream = S>>(
+        &mut self,
+        network: &mut W,
+        number: u64,
+        client: S,
+    ) -> Admitted
+        ensures opens { IfHere result (λ k. W.is_telling → S.tells client new_wire → TableAnnounces S.tells k self.old.table self.new.table) }
+        ensures kept { IfNotHere result (Stays (TableTells S.tells self.old.table) (TableTells S.tells self.new.table)) }
+        ensures number { IfHere result (λ k. k ≡ number) }
+        ensures not_handed { result ≢ Admitted.Handed }
+        ensures connecting { self.new.connecting ≡ self.old.connecting }
+        ensures winds { Winds S.tells self.old.table.sessions self.new.table.sessions }
+        ensures turns { IfNotHere result (SameTurns self.old.table self.new.table) }
+    {
+        if self.admit(network, number, client) {
+            return Admitted::Here(number);
+        }
+        network.free_place();
+        Admitted::Nothing
+    }
+
+    // Makes a session of a connection, and says whether it could.
     fn admit<W: Network<Stream = S>>(&mut self, network: &mut W, number: u64, client: S) -> bool
         ensures opens { result ≡ true → W.is_telling → S.tells client new_wire → TableAnnounces S.tells number self.old.table self.new.table }
         ensures kept { result ≡ false → Stays (TableTells S.tells self.old.table) (TableTells S.tells self.new.table) }
         ensures connecting { self.new.connecting ≡ self.old.connecting }
+        ensures winds { Winds S.tells self.old.table.sessions self.new.table.sessions }
+        ensures turns { result ≡ false → SameTurns self.old.table self.new.table }
     {
         let Some(place) = self.table.begin(number) else {
             return false;
@@ -142,6 +192,8 @@ impl<S: Stream> Listening<S> {
         ensures prepared { (k : ℕ) → W.is_telling → S.tells client new_wire → IsPrepared S.tells self.old.table place k → IsPrepared S.tells self.new.table place k }
         ensures keeps { KeepsIdle S.tells place self.old.table self.new.table }
         ensures connecting { self.new.connecting ≡ self.old.connecting }
+        ensures others { OthersStay place self.old.table.sessions self.new.table.sessions }
+        ensures turns { SameTurns self.old.table self.new.table }
     {
         if self.connecting == Connecting::OnDemand {
             self.table.defer(place);
@@ -155,6 +207,7 @@ impl<S: Stream> Listening<S> {
     }
 
     // Gives a port of the session at a place its connection, and has it reported.
+    #[tactic(auto, using(crate::proofs::Closing::others_same))]
     fn attach<W: Network<Stream = S>>(
         &mut self,
         network: &mut W,
@@ -167,16 +220,21 @@ impl<S: Stream> Listening<S> {
         ensures prepared { (k : ℕ) → S.tells stream new_wire → IsPrepared S.tells self.old.table place k → IsPrepared S.tells self.new.table place k }
         ensures keeps { KeepsIdle S.tells place self.old.table self.new.table }
         ensures connecting { self.new.connecting ≡ self.old.connecting }
+        ensures others { OthersStay place self.old.table.sessions self.new.table.sessions }
+        ensures turns { SameTurns self.old.table self.new.table }
     {
         let token = self.table.token(place, port);
         network.watch(&mut stream, token) && self.table.attach(place, port, stream, sending)
     }
 
     // Begins a connection to each target. A port whose connection can't be begun stays without one.
+    #[tactic(auto, using(crate::proofs::Closing::others_same))]
     fn connect_all<W: Network<Stream = S>>(&mut self, network: &mut W, place: usize)
         ensures prepared { (k : ℕ) → W.is_telling → IsPrepared S.tells self.old.table place k → IsPrepared S.tells self.new.table place k }
         ensures keeps { KeepsIdle S.tells place self.old.table self.new.table }
         ensures connecting { self.new.connecting ≡ self.old.connecting }
+        ensures others { OthersStay place self.old.table.sessions self.new.table.sessions }
+        ensures turns { SameTurns self.old.table self.new.table }
     {
         for at in 0..self.targets.len() {
             self.connect(network, place, at.saturating_add(1));
@@ -184,6 +242,7 @@ impl<S: Stream> Listening<S> {
     }
 
     // Begins the connection of a port to its target, and says whether there is one.
+    #[tactic(auto, using(crate::proofs::Closing::others_same))]
     fn connect<W: Network<Stream = S>>(
         &mut self,
         network: &mut W,
@@ -193,6 +252,8 @@ impl<S: Stream> Listening<S> {
         ensures prepared { (k : ℕ) → W.is_telling → IsPrepared S.tells self.old.table place k → IsPrepared S.tells self.new.table place k }
         ensures keeps { KeepsIdle S.tells place self.old.table self.new.table }
         ensures connecting { self.new.connecting ≡ self.old.connecting }
+        ensures others { OthersStay place self.old.table.sessions self.new.table.sessions }
+        ensures turns { SameTurns self.old.table self.new.table }
     {
         let Some(target) = self.targets.get(port.wrapping_sub(1)) else {
             return false;
@@ -212,6 +273,7 @@ impl<S: Stream> Listening<S> {
         port: usize,
     )
         ensures at_once { self.old.connecting ≡ Connecting.AtOnce → self.new ≡ self.old }
+        ensures turns { SameTurns self.old.table self.new.table }
     {
         if self.connecting == Connecting::AtOnce {
             return;
@@ -228,6 +290,8 @@ impl<S: Stream> Listening<S> {
     pub(crate) fn rest<W: Network<Stream = S>>(&mut self, network: &mut W) -> bool
         ensures keeps { Stays (TableTells S.tells self.old.table) (TableTells S.tells self.new.table) }
         ensures connecting { self.new.connecting ≡ self.old.connecting }
+        ensures winds { Winds S.tells self.old.table.sessions self.new.table.sessions }
+        ensures turn { TurnsIfTold S.tells None self.old.table self.new.table }
     {
         self.table.send();
         if self.table.has_ready() {
@@ -243,8 +307,10 @@ impl<S: Stream> Listening<S> {
         requires turned { self.old.table.ready.places.items ≡ [] }
         ensures keeps { Stays (TableTells S.tells self.old.table) (TableTells S.tells self.new.table) }
         ensures connecting { self.new.connecting ≡ self.old.connecting }
+        ensures winds { Winds S.tells self.old.table.sessions self.new.table.sessions }
+        ensures turn { TurnsIfTold S.tells None self.old.table self.new.table }
     {
-        let timeout = self.timeout();
+        let timeout = self.timeout(network.handing());
         let waited = network.wait(timeout, &mut self.table);
         self.wake(waited);
         self.table.recall();
@@ -280,7 +346,7 @@ impl<S: Stream> Listening<S> {
     }
 
     // The longest time to wait: none for as long as it takes.
-    fn timeout(&self) -> Option<Duration>
+    fn timeout(&self, handing: Handing) -> Option<Duration>
         ensures { result ≡ None → self.now.table.behind.places.items ≡ [] }
     {
         if self.table.has_behind() {
@@ -289,13 +355,35 @@ impl<S: Stream> Listening<S> {
         if !self.is_accepting && self.table.is_done() {
             return Some(Duration::from_millis(RETRY_MILLIS));
         }
-        if !self.is_accepting || !self.table.has_place() {
+        if !self.is_accepting {
             return None;
         }
-        match self.accepting {
+        if self.table.has_place() {
+            return self.accepting.timeout();
+        }
+        match handing {
+            Handing::Never => None,
+            Handing::Later => self.accepting.later().timeout(),
+            Handing::Now => self.accepting.timeout(),
+        }
+    }
+}
+
+impl Accepting {
+    // The longest time to wait where a connection that comes finds a place.
+    fn timeout(self) -> Option<Duration> {
+        match self {
             Accepting::Idle => None,
             Accepting::Ready => Some(Duration::ZERO),
             Accepting::Short => Some(Duration::from_millis(RETRY_MILLIS)),
+        }
+    }
+
+    // The same where the connection that may wait finds no place now.
+    fn later(self) -> Accepting {
+        match self {
+            Accepting::Idle => Accepting::Idle,
+            Accepting::Ready | Accepting::Short => Accepting::Short,
         }
     }
 }

@@ -2,6 +2,7 @@
 ghost use Rattle.std.specs.Prelude.{◌≡◌, ◌⊎◌, true, false, ◌<◌, ◌≤◌, [], ◌++◌, length, take, None, IsSome, IfOk};
 ghost use Rattle.gate_hub.specs.Hubs.{GotWithin, TookWithin, LinkReads, LinkWrites};
 ghost use Rattle.gate_hub.specs.Meaning.{Link, new_link};
+ghost use Rattle.mio_edge.specs.Closing.{IsSettled, KeepsSent};
 ghost use Rattle.mio_edge.specs.Wire.{Moves, Stays, new_wire};
 ghost use Rattle.mio_edge.specs.Moving.{PortTells, PortHears, IsOver, Finds, Notes, HasSent, TakesIn, after_failure};
 ghost use Rattle.mio_edge.specs.Moving.{IsCalm, IsBegun, IsFull, IsUnsent, CanRead, CanWrite, after_news, then_sending, begins_receiving, begins_sending, is_news, noted};
@@ -117,16 +118,27 @@ impl<S: Stream> Port<S> {
         })
     }
 
-    /// Gives the port a connection, over which nothing went.
+    /// Gives the port a connection, over which nothing went. One whose buffers have no room gets none.
     pub(crate) fn attach(&mut self, stream: S, sending: Sending)
         requires { IsBegun sending }
         ensures { S.tells stream new_wire → PortTells S.tells self.new new_link }
     {
-        self.stream = Some(stream);
+        self.stream = None;
         self.receiving = Receiving::Idle;
-        self.sending = sending;
+        self.sending = Sending::Blocked;
         self.incoming.clear();
         self.outgoing.clear();
+        if self.has_room() {
+            self.stream = Some(stream);
+            self.sending = sending;
+        }
+    }
+
+    // Whether both buffers have room for more.
+    fn has_room(&self) -> bool
+        ensures { result ≡ true → (0 < self.now.incoming.room) × (0 < self.now.outgoing.room) }
+    {
+        self.incoming.spare() > 0 && self.outgoing.spare() > 0
     }
 
     /// Has the connection begun at the first write, where there is none. Until then nothing can be read.
@@ -180,7 +192,8 @@ impl<S: Stream> Port<S> {
 
     /// Whether bytes that were written are to be sent still.
     pub(crate) fn has_unsent(&self) -> bool
-        ensures { result ≡ false → IsUnsent self.now → ⊥ }
+        ensures waits { result ≡ false → IsUnsent self.now → ⊥ }
+        ensures settled { result ≡ false → IsSettled self.now }
     {
         self.sending != Sending::Lost && !self.outgoing.bytes().is_empty()
     }
@@ -283,17 +296,46 @@ impl<S: Stream> Port<S> {
     ///
     /// A connection that is let go while bytes stand unread is reset by the system, and its peer may
     /// lose what was sent to it.
-    pub(crate) fn wind_up(&mut self) -> Rest {
+    pub(crate) fn wind_up(&mut self) -> Rest
+        ensures sends { Moves (PortTells S.tells self.old) (PortTells S.tells self.new) KeepsSent }
+        ensures gone { result ≡ Rest.Gone → IsSettled self.new }
+        ensures sent { IsUnsent self.new → ⊥ }
+    {
         self.send();
-        self.incoming.clear();
-        let got = self.receive();
+        let got = self.pass_over();
         if self.is_gone() {
             return Rest::Gone;
         }
-        let is_sent = self.outgoing.bytes().is_empty();
-        if is_sent {
-            self.shut();
+        let is_sent = self.finish();
+        self.rest_after(got, is_sent)
+    }
+
+    // Passes over what came from the peer, and reads once more.
+    fn pass_over(&mut self) -> LinkGot
+        ensures moves { Moves (PortTells S.tells self.old) (PortTells S.tells self.new) KeepsSent }
+        ensures calm { IsUnsent self.new → IsUnsent self.old }
+    {
+        self.incoming.clear();
+        self.receive()
+    }
+
+    // Tells the peer that no more will come, where everything is sent. It says whether that is so.
+    fn finish(&mut self) -> bool
+        ensures keeps { Stays (PortTells S.tells self.old) (PortTells S.tells self.new) }
+        ensures sent { result ≡ true → self.new.outgoing.bytes ≡ [] }
+        ensures calm { result ≡ false → self.new ≡ self.old }
+    {
+        if !self.outgoing.bytes().is_empty() {
+            return false;
         }
+        self.shut();
+        true
+    }
+
+    // How far the end has come once a read answered this.
+    fn rest_after(&self, got: LinkGot, is_sent: bool) -> Rest
+        ensures { result ≡ Rest.Gone → is_sent ≡ true }
+    {
         match got {
             LinkGot::Bytes(_) if self.receiving != Receiving::Idle => Rest::Unread,
             LinkGot::End if is_sent => Rest::Gone,
@@ -303,7 +345,10 @@ impl<S: Stream> Port<S> {
     }
 
     // Tells the peer that no more will come.
-    fn shut(&mut self) {
+    fn shut(&mut self)
+        ensures keeps { Stays (PortTells S.tells self.old) (PortTells S.tells self.new) }
+        ensures outgoing { self.new.outgoing ≡ self.old.outgoing }
+    {
         if self.sending == Sending::Shut {
             return;
         }
@@ -372,6 +417,7 @@ fn hand_out(held: &mut Out, into: &mut [u8]) -> usize
     ensures some { 0 < result }
     ensures within { result ≤ length into.new }
     ensures bytes { take result into.new ++ held.new.bytes ≡ held.old.bytes }
+    ensures room { held.new.room ≡ held.old.room }
 {
     let count = held.bytes().len().min(into.len());
     into[..count].copy_from_slice(&held.bytes()[..count]);

@@ -2,10 +2,12 @@
 ghost use Rattle.std.specs.Prelude.{◌≡◌, ◌⊎◌, ◌<◌, ◌==◌, ℕ, length, true, false, Some};
 ghost use Rattle.std.specs.List.{slice_get};
 ghost use Rattle.gate_hub.specs.Hubs.{GotWithin, TookWithin, LinkReads, LinkWrites};
+ghost use Rattle.mio_edge.specs.Closing.{AreFlushed, AreSettled, KeepAllSent, WindsUp};
 ghost use Rattle.mio_edge.specs.Wire.{Moves, Stays, new_wire};
 ghost use Rattle.mio_edge.specs.Moving.{IsBegun, is_news, noted};
 ghost use Rattle.mio_edge.specs.Sessions.{SessionTells, PortsTell, AtPort, IsStill, IsUnsentAt, new_links};
 ghost use Rattle.mio_edge.specs.Sessions.{PortsAre, Calms, Flushes, TellsUnsent, MayWait, MayWrite};
+ghost use Rattle.mio_edge.specs.Order.{Grows};
 ghost use Rattle.mio_edge.specs.Turns.{HasRoom, Pushes};
 ghost use Rattle.mio_edge.specs.declared.port.Port.{Port};
 
@@ -105,10 +107,12 @@ impl<S: Stream> Session<S> {
 
     /// Puts the session, which stands at this place, into a queue of those that are to have a turn, if it
     /// stands in none.
+    #[tactic(auto, using(crate::specs::Lines::grows_same, crate::specs::Lines::grows_by))]
     pub(crate) fn stand_in(&mut self, queue: &mut Queue, place: usize)
         ensures was { self.old.is_queued ≡ true → (self.new ≡ self.old) × (queue.new ≡ queue.old) }
         ensures stands { self.old.is_queued ≡ false → HasRoom queue.old → (self.new.is_queued ≡ true) × Pushes place queue.old queue.new }
         ensures rest { self.new ≡ record self.old { is_queued = self.new.is_queued } }
+        ensures grows { Grows queue.old queue.new }
     {
         if !self.is_queued {
             self.is_queued = queue.push(place);
@@ -187,7 +191,8 @@ impl<S: Stream> Session<S> {
 
     /// Whether bytes that were written are to be sent still.
     pub(crate) fn has_unsent(&self) -> bool
-        ensures { result ≡ false → (p : ℕ) → IsUnsentAt (slice_get self.now.ports.items p) → ⊥ }
+        ensures waits { result ≡ false → (p : ℕ) → IsUnsentAt (slice_get self.now.ports.items p) → ⊥ }
+        ensures settled { result ≡ false → AreSettled self.now.ports.items }
     {
         for port in &self.ports {
             if port.has_unsent() {
@@ -200,6 +205,7 @@ impl<S: Stream> Session<S> {
     /// Sends what was written, and says whether a connection failed in that.
     pub(crate) fn send(&mut self) -> bool
         ensures keeps { Stays (TellsUnsent S.tells self.old) (SessionTells S.tells self.new) }
+        ensures ports { Stays (PortsTell S.tells self.old.ports.items) (PortsTell S.tells self.new.ports.items) }
         ensures still { IsStill self.old self.new }
     {
         send_all(&mut self.ports)
@@ -208,13 +214,12 @@ impl<S: Stream> Session<S> {
     /// Goes on with the end of the session once it is closed, and says how far the port that is the
     /// furthest back has come.
     pub(crate) fn wind_up(&mut self) -> Rest
-        ensures { IsStill self.old self.new }
+        ensures sends { Moves (PortsTell S.tells self.old.ports.items) (PortsTell S.tells self.new.ports.items) KeepAllSent }
+        ensures gone { result ≡ Rest.Gone → AreSettled self.new.ports.items }
+        ensures sent { AreFlushed self.new.ports.items }
+        ensures still { IsStill self.old self.new }
     {
-        let mut rest = Rest::Gone;
-        for port in self.ports.iter_mut() {
-            rest = further_back(rest, port.wind_up());
-        }
-        rest
+        wind_up_all(&mut self.ports)
     }
 
     /// Lets all connections go, and gives back the ports.
@@ -253,8 +258,23 @@ fn detach_all<S: Stream>(ports: &mut [Port<S>])
     }
 }
 
+// Goes on with the end of each of the ports, and says how far the one that is the furthest back has come.
+fn wind_up_all<S: Stream>(ports: &mut [Port<S>]) -> Rest
+    ensures sends { PortsAre (WindsUp S.tells) ports.old ports.new }
+    ensures gone { result ≡ Rest.Gone → AreSettled ports.new }
+    ensures sent { AreFlushed ports.new }
+{
+    let mut rest = Rest::Gone;
+    for port in ports.iter_mut() {
+        rest = further_back(rest, port.wind_up());
+    }
+    rest
+}
+
 // The one that has more left to do. One with bytes to pass over calls for a turn of its own.
-fn further_back(a: Rest, b: Rest) -> Rest {
+fn further_back(a: Rest, b: Rest) -> Rest
+    ensures { result ≡ Rest.Gone → (a ≡ Rest.Gone) × (b ≡ Rest.Gone) }
+{
     match (a, b) {
         (Rest::Unread, _) | (_, Rest::Unread) => Rest::Unread,
         (Rest::Unsent, _) | (_, Rest::Unsent) => Rest::Unsent,

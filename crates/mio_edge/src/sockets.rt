@@ -1,15 +1,18 @@
 //! The sockets of a server: sessions of one client and some upstreams.
-ghost use Rattle.std.specs.Prelude.{◌≡◌, ◌≢◌, ◌<◌, ◌≤◌, ◌-◌, ◌^◌, ◌+◌, ℕ, length, true, false, None, Some, Ok, IsSome, IfSome};
+ghost use Rattle.std.specs.Prelude.{◌≡◌, ◌≢◌, ◌<◌, ◌≤◌, ◌-◌, ◌^◌, ◌+◌, ◌⊎◌, ℕ, length, true, false, None, Some, Ok, IsSome, IfSome};
 ghost use Rattle.gate_base.specs.Causes.{Rose};
 ghost use Rattle.gate_hub.specs.Hubs.{GotWithin, TookWithin};
 ghost use Rattle.gate_hub.specs.declared.hub.Began.TheVariants as began;
 ghost use Rattle.gate_hub.specs.declared.hub.HubNext.TheVariants as event;
 ghost use Rattle.gate_hub.specs.Hubs.{LinkReads, LinkWrites};
-ghost use Rattle.mio_edge.specs.Numbers.{Numbers, NumbersIfAny};
+ghost use Rattle.mio_edge.specs.Admitting.{IfHere, IfNotHere};
+ghost use Rattle.mio_edge.specs.Numbers.{AllAnnounced, Numbers, NumbersIfAny, Passes};
 ghost use Rattle.mio_edge.specs.Tables.{AtSession, Shuts, NamesIfAny, empty_world};
-ghost use Rattle.mio_edge.specs.Worlds.{SocketsStay, SocketsMove, SocketsMoveAt, NoneOpen, OpensNext, EventMoves, EventMovesIfAny, HasStopped};
+ghost use Rattle.mio_edge.specs.Turning.{EventTurn, SocketsJoin, SocketsTurnIfTold};
+ghost use Rattle.mio_edge.specs.Winding.{SocketsWind, SocketsWindIfTold, SocketsClose};
+ghost use Rattle.mio_edge.specs.Worlds.{SocketsStay, SocketsMove, SocketsMoveAt, NoneOpen, OpensAs, EventMoves, EventMovesIfAny, HasStopped};
 
-use crate::listening::{Connecting, Listening};
+use crate::listening::{Admitted, Connecting, Listening};
 use crate::mio_network::MioNetwork;
 use crate::network::Network;
 use crate::table::Table;
@@ -37,6 +40,7 @@ pub struct Sockets<W: Network> {
     connecting: Connecting,
     listening: Option<Listening<W::Stream>>,
     accept: u64,
+    /// The next number: where the network is alone at its address, how many sessions were announced.
     announced: u64,
     /// `next` has answered that no event will follow.
     has_stopped: bool,
@@ -52,16 +56,6 @@ impl<'n, N: Net> Sockets<MioNetwork<'n, N>> {
     {
         Sockets::over(MioNetwork::new(net))
     }
-
-    /// No sockets yet. A session is connected to an upstream at the first write to it: until then
-    /// nothing can be read from it, and a session that never writes to it isn't touched by its absence.
-    pub fn on_demand(net: &'n N) -> Sockets<MioNetwork<'n, N>>
-        ensures faults { result.faults ≡ 0 }
-        ensures accept { result.accept ≡ 0 }
-        ensures announced { result.announced ≡ 0 }
-    {
-        Sockets::connecting(MioNetwork::new(net), Connecting::OnDemand)
-    }
 }
 
 impl<W: Network> Sockets<W> {
@@ -72,6 +66,16 @@ impl<W: Network> Sockets<W> {
         ensures announced { result.announced ≡ 0 }
     {
         Sockets::connecting(network, Connecting::AtOnce)
+    }
+
+    /// No sockets of this network yet. A session is connected to an upstream at the first write to it: until then
+    /// nothing can be read from it, and a session that never writes to it isn't touched by its absence.
+    pub fn on_demand(network: W) -> Sockets<W>
+        ensures faults { result.faults ≡ 0 }
+        ensures accept { result.accept ≡ 0 }
+        ensures announced { result.announced ≡ 0 }
+    {
+        Sockets::connecting(network, Connecting::OnDemand)
     }
 
     fn connecting(network: W, connecting: Connecting) -> Sockets<W>
@@ -158,7 +162,7 @@ impl<W: Network> Sockets<W> {
         }
         let width = targets.len().saturating_add(1);
         let table = Table::open(alloc, sessions.saturating_add(1), width)?;
-        let began = without_place(self.network.listen(alloc, listen));
+        let began = without_place(self.network.listen(alloc, listen, sessions));
         if began != Began::Done {
             return Ok(began);
         }
@@ -172,20 +176,24 @@ impl<W: Network> Sockets<W> {
     /// as its buffers each way hold.
     /// `Stopped`: as many connections as `start` was given were announced, all are closed, what was
     /// written to them is sent or can't be, and the peers have ended too or a second went by in which
-    /// nothing came of them. `Failed`: the count of `start` and `next` rose; the
+    /// nothing came of them. Where the network is one of several at an address it is the same once no more are handed
+    /// to it, and it is told at once where another has ended before its time. `Failed`: the count of `start` and `next` rose; the
     /// system refused to wait, or the last number was given.
+    #[tactic(auto, using(crate::proofs::Winding::sockets_same, crate::proofs::Winding::sockets_on, crate::proofs::Turning::sockets_turn_same, crate::proofs::Turning::sockets_join_same))]
     pub fn next(&mut self) -> HubNext
         ensures moves { SocketsMove W.is_telling W.Stream.tells (EventMoves result) self.old self.new }
         ensures over { result ≡ event.Stopped → self.old.has_stopped ≡ false → NoneOpen W.is_telling W.Stream.tells self.old }
-        ensures still { HasStopped self.old → result ≡ event.Stopped }
-        ensures told { result ≡ event.Stopped → HasStopped self.new }
-        ensures numbers { Numbers result self.old.announced self.new.announced }
-        ensures stopped { result ≡ event.Stopped → (0 < self.new.accept) × (self.new.accept ≤ self.new.announced) }
+        ensures still { HasStopped W.is_shared self.old → result ≡ event.Stopped }
+        ensures told { result ≡ event.Stopped → HasStopped W.is_shared self.new }
+        ensures numbers { Numbers W.is_shared result self.old.announced self.new.announced }
+        ensures stopped { result ≡ event.Stopped → AllAnnounced self.new.accept self.new.announced ⊎ W.is_shared }
         ensures accept { self.new.accept ≡ self.old.accept }
         ensures later { self.old.faults ≤ self.new.faults }
         ensures cause { result ≡ event.Failed → Rose self.old.faults self.new.faults }
+        ensures winds { SocketsWind W.Stream.tells self.old self.new }
+        ensures turn { EventTurn W.is_telling W.Stream.tells (Some result) self.old self.new }
     {
-        if self.has_stopped && self.accept > 0 && self.announced >= self.accept {
+        if self.has_ended() {
             return HubNext::Stopped;
         }
         for _ in 0..u64::MAX {
@@ -201,6 +209,7 @@ impl<W: Network> Sockets<W> {
     /// `NotReady`: nothing came, it is the others' turn, or the port isn't connected yet; `next` names
     /// k when it may be read again. `End`: the peer will send no more. `Failed`: the connection failed or never came to
     /// be, or there is no such port.
+    #[tactic(auto, using(crate::proofs::Winding::sockets_same, crate::proofs::Winding::sockets_on, crate::proofs::Turning::sockets_turn_same, crate::proofs::Turning::sockets_join_same))]
     pub fn read(&mut self, k: u64, port: usize, into: &mut [u8]) -> LinkGot
         requires { 0 < length into.old }
         ensures within { GotWithin into.new result }
@@ -209,6 +218,8 @@ impl<W: Network> Sockets<W> {
         ensures announced { self.new.announced ≡ self.old.announced }
         ensures accept { self.new.accept ≡ self.old.accept }
         ensures faults { self.new.faults ≡ self.old.faults }
+        ensures winds { SocketsWindIfTold W.is_telling W.Stream.tells self.old self.new }
+        ensures joins { SocketsJoin self.old self.new }
     {
         match &mut self.listening {
             Some(listening) => listening.table.read(k, port, into),
@@ -222,6 +233,7 @@ impl<W: Network> Sockets<W> {
     /// `NotReady`: the buffer and the socket are full, or it is the others' turn; `next` names k
     /// when it may be written again. `Failed`: the connection failed, maybe at an earlier send, or
     /// never came to be, or there is no such port.
+    #[tactic(auto, using(crate::proofs::Winding::sockets_same, crate::proofs::Winding::sockets_on, crate::proofs::Turning::sockets_turn_same, crate::proofs::Turning::sockets_join_same))]
     pub fn write(&mut self, k: u64, port: usize, from: &[u8]) -> LinkPut
         requires { 0 < length from.now }
         ensures within { TookWithin from.now result }
@@ -230,6 +242,8 @@ impl<W: Network> Sockets<W> {
         ensures announced { self.new.announced ≡ self.old.announced }
         ensures accept { self.new.accept ≡ self.old.accept }
         ensures faults { self.new.faults ≡ self.old.faults }
+        ensures winds { SocketsWindIfTold W.is_telling W.Stream.tells self.old self.new }
+        ensures joins { SocketsJoin self.old self.new }
     {
         match &mut self.listening {
             Some(listening) => {
@@ -241,67 +255,150 @@ impl<W: Network> Sockets<W> {
     }
 
     /// Closes session k. What was written to it is sent still, and its peers see the end behind it.
+    #[tactic(auto, using(crate::proofs::Winding::sockets_same, crate::proofs::Winding::sockets_on, crate::proofs::Turning::sockets_turn_same, crate::proofs::Turning::sockets_join_same))]
     pub fn close(&mut self, k: u64)
         ensures leads { SocketsMoveAt W.is_telling W.Stream.tells k (Shuts k) self.old self.new }
         ensures stopped { self.new.has_stopped ≡ self.old.has_stopped }
         ensures announced { self.new.announced ≡ self.old.announced }
         ensures accept { self.new.accept ≡ self.old.accept }
         ensures faults { self.new.faults ≡ self.old.faults }
+        ensures sends { SocketsClose W.is_telling W.Stream.tells k self.old self.new }
+        ensures winds { SocketsWind W.Stream.tells self.old self.new }
+        ensures joins { SocketsJoin self.old self.new }
     {
+        // The place is given away before the peer sees the end: one that connects again then finds it.
         if let Some(listening) = &mut self.listening {
+            self.network.free_place();
             listening.table.close(k);
         }
     }
 
     // A step towards the next event: none where there is to be another.
+    #[tactic(auto, using(crate::proofs::Winding::sockets_same, crate::proofs::Winding::sockets_on, crate::proofs::Turning::sockets_turn_same, crate::proofs::Turning::sockets_join_same))]
     fn advance(&mut self) -> Option<HubNext>
         ensures moves { SocketsMove W.is_telling W.Stream.tells (EventMovesIfAny result) self.old self.new }
         ensures over { result ≡ Some event.Stopped → NoneOpen W.is_telling W.Stream.tells self.old }
-        ensures told { result ≡ Some event.Stopped → HasStopped self.new }
-        ensures numbers { NumbersIfAny result self.old.announced self.new.announced }
-        ensures stopped { result ≡ Some event.Stopped → (0 < self.new.accept) × (self.new.accept ≤ self.new.announced) }
+        ensures told { result ≡ Some event.Stopped → HasStopped W.is_shared self.new }
+        ensures numbers { NumbersIfAny W.is_shared result self.old.announced self.new.announced }
         ensures accept { self.new.accept ≡ self.old.accept }
         ensures later { self.old.faults ≤ self.new.faults }
         ensures cause { result ≡ Some event.Failed → Rose self.old.faults self.new.faults }
+        ensures winds { SocketsWind W.Stream.tells self.old self.new }
+        ensures turn { EventTurn W.is_telling W.Stream.tells result self.old self.new }
     {
         self.send_where_many();
-        if self.accept > 0 && self.announced >= self.accept {
+        if self.network.is_left() {
+            return Some(self.stops());
+        }
+        if self.is_complete() {
             return self.finish();
         }
         if self.announced == u64::MAX {
             return Some(self.fails());
         }
-        if self.accept_next() {
-            return Some(self.opened());
-        }
-        self.ready()
+        self.go_on()
     }
 
-    // A step once no more connections are accepted.
-    fn finish(&mut self) -> Option<HubNext>
-        requires { (0 < self.old.accept) × (self.old.accept ≤ self.old.announced) }
+    // A step where connections may be accepted.
+    #[tactic(auto, using(crate::proofs::Winding::sockets_same, crate::proofs::Winding::sockets_on, crate::proofs::Turning::sockets_turn_same, crate::proofs::Turning::sockets_join_same))]
+    fn go_on(&mut self) -> Option<HubNext>
+        requires { self.old.announced < 2 ^ 64 - 1 }
         ensures moves { SocketsMove W.is_telling W.Stream.tells (EventMovesIfAny result) self.old self.new }
-        ensures over { result ≡ Some event.Stopped → NoneOpen W.is_telling W.Stream.tells self.old }
-        ensures told { result ≡ Some event.Stopped → HasStopped self.new }
-        ensures numbers { NumbersIfAny result self.old.announced self.new.announced }
+        ensures numbers { NumbersIfAny W.is_shared result self.old.announced self.new.announced }
+        ensures running { result ≢ Some event.Stopped }
         ensures accept { self.new.accept ≡ self.old.accept }
         ensures later { self.old.faults ≤ self.new.faults }
         ensures cause { result ≡ Some event.Failed → Rose self.old.faults self.new.faults }
+        ensures winds { SocketsWind W.Stream.tells self.old self.new }
+        ensures turn { EventTurn W.is_telling W.Stream.tells result self.old self.new }
+    {
+        match self.accept_next() {
+            Admitted::Here(number) => Some(self.opened(number)),
+            Admitted::Handed => {
+                self.pass_over();
+                None
+            }
+            Admitted::Nothing => self.ready(),
+        }
+    }
+
+    // A step once no more connections are accepted.
+    #[tactic(auto, using(crate::proofs::Winding::sockets_same, crate::proofs::Winding::sockets_on, crate::proofs::Turning::sockets_turn_same, crate::proofs::Turning::sockets_join_same))]
+    fn finish(&mut self) -> Option<HubNext>
+        requires { AllAnnounced self.old.accept self.old.announced ⊎ W.is_shared }
+        ensures moves { SocketsMove W.is_telling W.Stream.tells (EventMovesIfAny result) self.old self.new }
+        ensures over { result ≡ Some event.Stopped → NoneOpen W.is_telling W.Stream.tells self.old }
+        ensures told { result ≡ Some event.Stopped → HasStopped W.is_shared self.new }
+        ensures numbers { NumbersIfAny W.is_shared result self.old.announced self.new.announced }
+        ensures accept { self.new.accept ≡ self.old.accept }
+        ensures later { self.old.faults ≤ self.new.faults }
+        ensures cause { result ≡ Some event.Failed → Rose self.old.faults self.new.faults }
+        ensures winds { SocketsWind W.Stream.tells self.old self.new }
+        ensures turn { EventTurn W.is_telling W.Stream.tells result self.old self.new }
     {
         if self.is_over() {
-            self.has_stopped = true;
-            return Some(HubNext::Stopped);
+            return Some(self.stops());
         }
         self.ready()
     }
 
+    // No event follows.
+    #[tactic(auto, using(crate::proofs::Winding::sockets_same, crate::proofs::Winding::sockets_on, crate::proofs::Turning::sockets_turn_same, crate::proofs::Turning::sockets_join_same))]
+    fn stops(&mut self) -> HubNext
+        requires { AllAnnounced self.old.accept self.old.announced ⊎ W.is_shared }
+        ensures keeps { SocketsStay W.is_telling W.Stream.tells self.old self.new }
+        ensures result { result ≡ event.Stopped }
+        ensures told { HasStopped W.is_shared self.new }
+        ensures announced { self.new.announced ≡ self.old.announced }
+        ensures accept { self.new.accept ≡ self.old.accept }
+        ensures faults { self.new.faults ≡ self.old.faults }
+        ensures winds { SocketsWind W.Stream.tells self.old self.new }
+    {
+        self.has_stopped = true;
+        HubNext::Stopped
+    }
+
+    // Whether all was announced that is to be accepted.
+    fn has_announced_all(&self) -> bool
+        ensures some { result ≡ true → AllAnnounced self.now.accept self.now.announced }
+        ensures all { AllAnnounced self.now.accept self.now.announced → result ≡ true }
+    {
+        self.accept > 0 && self.announced >= self.accept
+    }
+
+    // Whether no connection comes any more.
+    fn is_complete(&self) -> bool
+        ensures { result ≡ true → AllAnnounced self.now.accept self.now.announced ⊎ W.is_shared }
+    {
+        self.has_announced_all() || !self.network.may_accept()
+    }
+
+    // Whether it was told that no event follows.
+    fn has_ended(&self) -> bool
+        ensures told { result ≡ true → HasStopped W.is_shared self.now }
+        ensures still { HasStopped W.is_shared self.now → result ≡ true }
+    {
+        self.has_stopped && self.may_stop()
+    }
+
+    // Whether that may have been told.
+    fn may_stop(&self) -> bool
+        ensures some { result ≡ true → AllAnnounced self.now.accept self.now.announced ⊎ W.is_shared }
+        ensures all { AllAnnounced self.now.accept self.now.announced ⊎ W.is_shared → result ≡ true }
+    {
+        self.has_announced_all() || self.network.has_fellows()
+    }
+
     // Lets the listener go, and says whether all is over.
+    #[tactic(auto, using(crate::proofs::Winding::sockets_same, crate::proofs::Winding::sockets_on, crate::proofs::Turning::sockets_turn_same, crate::proofs::Turning::sockets_join_same))]
     fn is_over(&mut self) -> bool
         ensures keeps { SocketsStay W.is_telling W.Stream.tells self.old self.new }
         ensures over { result ≡ true → NoneOpen W.is_telling W.Stream.tells self.old }
         ensures announced { self.new.announced ≡ self.old.announced }
         ensures accept { self.new.accept ≡ self.old.accept }
         ensures faults { self.new.faults ≡ self.old.faults }
+        ensures winds { SocketsWind W.Stream.tells self.old self.new }
+        ensures turn { SocketsTurnIfTold W.is_telling W.Stream.tells None self.old self.new }
     {
         match &mut self.listening {
             Some(listening) => {
@@ -313,37 +410,70 @@ impl<W: Network> Sockets<W> {
     }
 
     // Sends what the sessions wrote, where these are many.
+    #[tactic(auto, using(crate::proofs::Winding::sockets_same, crate::proofs::Winding::sockets_on, crate::proofs::Turning::sockets_turn_same, crate::proofs::Turning::sockets_join_same))]
     fn send_where_many(&mut self)
         ensures keeps { SocketsStay W.is_telling W.Stream.tells self.old self.new }
         ensures announced { self.new.announced ≡ self.old.announced }
         ensures accept { self.new.accept ≡ self.old.accept }
         ensures faults { self.new.faults ≡ self.old.faults }
+        ensures winds { SocketsWind W.Stream.tells self.old self.new }
+        ensures turn { SocketsTurnIfTold W.is_telling W.Stream.tells None self.old self.new }
     {
         if let Some(listening) = &mut self.listening {
             listening.table.send_where_many();
         }
     }
 
-    // Accepts the next connection, if there is one, as the session of the next number.
-    fn accept_next(&mut self) -> bool
-        ensures opens { result ≡ true → OpensNext W.is_telling W.Stream.tells self.old self.new }
-        ensures keeps { result ≡ false → SocketsStay W.is_telling W.Stream.tells self.old self.new }
+    // Accepts the next connection, if there is one.
+    #[tactic(auto, using(crate::proofs::Winding::sockets_same, crate::proofs::Winding::sockets_on, crate::proofs::Turning::sockets_turn_same, crate::proofs::Turning::sockets_join_same))]
+    fn accept_next(&mut self) -> Admitted
+        requires { self.old.announced < 2 ^ 64 - 1 }
+        ensures opens { IfHere result (λ k. OpensAs W.is_telling W.Stream.tells k self.old self.new) }
+        ensures keeps { IfNotHere result (SocketsStay W.is_telling W.Stream.tells self.old self.new) }
+        ensures number { IfHere result (λ k. Passes W.is_shared self.old.announced k × (k < 2 ^ 64 - 1)) }
+        ensures handed { result ≡ Admitted.Handed → W.is_shared }
         ensures announced { self.new.announced ≡ self.old.announced }
         ensures accept { self.new.accept ≡ self.old.accept }
         ensures faults { self.new.faults ≡ self.old.faults }
+        ensures winds { SocketsWind W.Stream.tells self.old self.new }
+        ensures turn { IfNotHere result (SocketsTurnIfTold W.is_telling W.Stream.tells None self.old self.new) }
     {
         match &mut self.listening {
             Some(listening) => listening.accept(&mut self.network, self.announced),
-            None => false,
+            None => Admitted::Nothing,
         }
     }
 
+    // The same where that session was announced, as each is.
+    #[tactic(auto, using(crate::proofs::Winding::sockets_same, crate::proofs::Winding::sockets_on))]
+    fn next_announced(&mut self) -> Option<u64>
+        ensures names { SocketsMove W.is_telling W.Stream.tells (NamesIfAny result) self.old self.new }
+        ensures below { IfSome result (λ number. number < self.old.announced) }
+        ensures announced { self.new.announced ≡ self.old.announced }
+        ensures accept { self.new.accept ≡ self.old.accept }
+        ensures faults { self.new.faults ≡ self.old.faults }
+        ensures winds { SocketsWind W.Stream.tells self.old self.new }
+        ensures turn { SocketsTurnIfTold W.is_telling W.Stream.tells result self.old self.new }
+    {
+        let Some(number) = self.next_named() else {
+            return None;
+        };
+        // One comparison a turn says that the session was announced, also where nothing is told.
+        if number < self.announced {
+            return Some(number);
+        }
+        None
+    }
+
     // The number of the session that is to have a turn next.
+    #[tactic(auto, using(crate::proofs::Winding::sockets_same, crate::proofs::Winding::sockets_on, crate::proofs::Turning::sockets_turn_same, crate::proofs::Turning::sockets_join_same))]
     fn next_named(&mut self) -> Option<u64>
         ensures names { SocketsMove W.is_telling W.Stream.tells (NamesIfAny result) self.old self.new }
         ensures announced { self.new.announced ≡ self.old.announced }
         ensures accept { self.new.accept ≡ self.old.accept }
         ensures faults { self.new.faults ≡ self.old.faults }
+        ensures winds { SocketsWind W.Stream.tells self.old self.new }
+        ensures turn { SocketsTurnIfTold W.is_telling W.Stream.tells result self.old self.new }
     {
         match &mut self.listening {
             Some(listening) => listening.table.next_ready(),
@@ -352,11 +482,14 @@ impl<W: Network> Sockets<W> {
     }
 
     // Sends what was written and waits, where no session is to have a turn. It says whether that failed.
+    #[tactic(auto, using(crate::proofs::Winding::sockets_same, crate::proofs::Winding::sockets_on, crate::proofs::Turning::sockets_turn_same, crate::proofs::Turning::sockets_join_same))]
     fn rest(&mut self) -> bool
         ensures keeps { SocketsStay W.is_telling W.Stream.tells self.old self.new }
         ensures announced { self.new.announced ≡ self.old.announced }
         ensures accept { self.new.accept ≡ self.old.accept }
         ensures faults { self.new.faults ≡ self.old.faults }
+        ensures winds { SocketsWind W.Stream.tells self.old self.new }
+        ensures turn { SocketsTurnIfTold W.is_telling W.Stream.tells None self.old self.new }
     {
         match &mut self.listening {
             Some(listening) => listening.rest(&mut self.network),
@@ -365,30 +498,43 @@ impl<W: Network> Sockets<W> {
     }
 
     // The session that was accepted.
-    fn opened(&mut self) -> HubNext
-        requires { self.old.announced < 2 ^ 64 - 1 }
-        ensures result { result ≡ event.Opened self.old.announced }
-        ensures after { self.new ≡ record self.old { announced = self.old.announced + 1 } }
+    fn opened(&mut self, number: u64) -> HubNext
+        requires { number < 2 ^ 64 - 1 }
+        ensures result { result ≡ event.Opened number }
+        ensures after { self.new ≡ record self.old { announced = number + 1 } }
     {
-        let number = self.announced;
-        self.announced += 1;
+        self.announced = number + 1;
         HubNext::Opened(number)
     }
 
+    // The next number is another's.
+    #[tactic(auto, using(crate::proofs::Winding::sockets_same, crate::proofs::Winding::sockets_on, crate::proofs::Turning::sockets_turn_same, crate::proofs::Turning::sockets_join_same))]
+    fn pass_over(&mut self)
+        requires { self.old.announced < 2 ^ 64 - 1 }
+        ensures keeps { SocketsStay W.is_telling W.Stream.tells self.old self.new }
+        ensures announced { self.new.announced ≡ self.old.announced + 1 }
+        ensures accept { self.new.accept ≡ self.old.accept }
+        ensures faults { self.new.faults ≡ self.old.faults }
+        ensures winds { SocketsWind W.Stream.tells self.old self.new }
+        ensures turn { SocketsTurnIfTold W.is_telling W.Stream.tells None self.old self.new }
+    {
+        self.announced += 1;
+    }
+
     // A session that is to have a turn: none after a wait.
+    #[tactic(auto, using(crate::proofs::Winding::sockets_same, crate::proofs::Winding::sockets_on, crate::proofs::Turning::sockets_turn_same, crate::proofs::Turning::sockets_join_same))]
     fn ready(&mut self) -> Option<HubNext>
         ensures moves { SocketsMove W.is_telling W.Stream.tells (EventMovesIfAny result) self.old self.new }
-        ensures numbers { NumbersIfAny result self.old.announced self.new.announced }
+        ensures numbers { NumbersIfAny W.is_shared result self.old.announced self.new.announced }
         ensures running { result ≢ Some event.Stopped }
         ensures announced { self.new.announced ≡ self.old.announced }
         ensures accept { self.new.accept ≡ self.old.accept }
         ensures later { self.old.faults ≤ self.new.faults }
         ensures cause { result ≡ Some event.Failed → Rose self.old.faults self.new.faults }
+        ensures winds { SocketsWind W.Stream.tells self.old self.new }
+        ensures turn { EventTurn W.is_telling W.Stream.tells result self.old self.new }
     {
-        // One comparison a turn says that the session was announced, also where nothing is told.
-        if let Some(number) = self.next_named()
-            && number < self.announced
-        {
+        if let Some(number) = self.next_announced() {
             return Some(HubNext::Ready(number));
         }
         if self.rest() {
@@ -398,6 +544,7 @@ impl<W: Network> Sockets<W> {
     }
 
     // Fails, and counts that.
+    #[tactic(auto, using(crate::proofs::Winding::sockets_same, crate::proofs::Winding::sockets_on, crate::proofs::Turning::sockets_turn_same, crate::proofs::Turning::sockets_join_same))]
     fn fails(&mut self) -> HubNext
         ensures keeps { SocketsStay W.is_telling W.Stream.tells self.old self.new }
         ensures result { result ≡ event.Failed }
@@ -405,6 +552,7 @@ impl<W: Network> Sockets<W> {
         ensures accept { self.new.accept ≡ self.old.accept }
         ensures later { self.old.faults ≤ self.new.faults }
         ensures cause { Rose self.old.faults self.new.faults }
+        ensures winds { SocketsWind W.Stream.tells self.old self.new }
     {
         self.count_fault();
         HubNext::Failed

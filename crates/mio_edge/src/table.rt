@@ -2,6 +2,10 @@
 ghost use Rattle.std.specs.Prelude.{◌≡◌, ◌≢◌, ◌<◌, ◌==◌, ◌≤◌, ◌∷◌, ◌++◌, not, [], ℕ, drop, length, true, false, None, Some, IsSome, IfSome, IfOk};
 ghost use Rattle.std.specs.List.{slice_get, filter};
 ghost use Rattle.gate_hub.specs.Hubs.{GotWithin, TookWithin, LinkReads, LinkWrites};
+ghost use Rattle.slab.specs.Slab.{get};
+ghost use Rattle.mio_edge.specs.Closing.{Winds, WindsBesideIfAny, OthersStay, PutsAt, TableCloses, ClosesEntry, HoldsFlushed, HoldsSettled, winds_nowhere, winds_on};
+ghost use Rattle.mio_edge.specs.Order.{Grows, JoinsBehind, MovesOn, SameTurns, TurnsIfTold};
+ghost use Rattle.mio_edge.specs.Lines.{moves_still, moves_on_further};
 ghost use Rattle.mio_edge.specs.Wire.{Moves, Stays, new_wire};
 ghost use Rattle.mio_edge.specs.Tables.{World, TableTells, IsNew, IsPrepared, IsClosedAt, AtSession, Shuts, MovesAt, RisesFrom, SpareTells, place_of, empty_world};
 ghost use Rattle.mio_edge.specs.Tables.{IfPrepared, TableAnnounces};
@@ -142,15 +146,22 @@ impl<S: Stream> Table<S> {
     pub(crate) fn begin(&mut self, number: u64) -> Option<usize>
         ensures keeps { Stays (TableTells S.tells self.old) (TableTells S.tells self.new) }
         ensures prepared { (world : World) → TableTells S.tells self.old world → IfPrepared S.tells number result self.new }
+        ensures winds { WindsBesideIfAny S.tells result self.old.sessions self.new.sessions }
+        ensures turns { SameTurns self.old self.new }
     {
         self.make_place();
-        let ports = self.spare.pop()?;
+        let Some(ports) = self.spare.pop() else {
+            return None;
+        };
         self.insert(Session::over(number, ports, self.quantum))
     }
 
     // Frees a place where there is none.
+    #[tactic(auto, using(crate::specs::Closing::winds_nowhere, crate::specs::Lines::moves_nowhere, crate::specs::Lines::grows_same))]
     fn make_place(&mut self)
-        ensures { Stays (TableTells S.tells self.old) (TableTells S.tells self.new) }
+        ensures keeps { Stays (TableTells S.tells self.old) (TableTells S.tells self.new) }
+        ensures winds { Winds S.tells self.old.sessions self.new.sessions }
+        ensures turns { SameTurns self.old self.new }
     {
         if self.spare.is_empty() {
             self.give_up_one();
@@ -161,6 +172,8 @@ impl<S: Stream> Table<S> {
     fn insert(&mut self, session: Session<S>) -> Option<usize>
         ensures keeps { IsNew S.tells session → Stays (HasVacancy S.tells self.old) (TableTells S.tells self.new) }
         ensures prepared { IsNew S.tells session → (world : World) → HasVacancy S.tells self.old world → IfPrepared S.tells session.number result self.new }
+        ensures puts { PutsAt result self.old.sessions self.new.sessions }
+        ensures turns { SameTurns self.old self.new }
     {
         self.sessions.insert(session).ok()
     }
@@ -171,11 +184,14 @@ impl<S: Stream> Table<S> {
     }
 
     /// Gives a port of the session at a place its connection. It says whether there is such a port.
+    #[tactic(auto, using(crate::proofs::Closing::others_same))]
     pub(crate) fn attach(&mut self, place: usize, port: usize, stream: S, sending: Sending) -> bool
         requires { IsBegun sending }
         ensures keeps { IsIdleAt self.old.sessions place → Stays (TableTells S.tells self.old) (TableTells S.tells self.new) }
         ensures idle { IsIdleAt self.old.sessions place → IsIdleAt self.new.sessions place }
         ensures prepared { (k : ℕ) → S.tells stream new_wire → IsPrepared S.tells self.old place k → IsPrepared S.tells self.new place k }
+        ensures others { OthersStay place self.old.sessions self.new.sessions }
+        ensures turns { SameTurns self.old self.new }
     {
         match self.sessions.get_mut(place) {
             Some(session) => session.attach(port, stream, sending),
@@ -184,10 +200,13 @@ impl<S: Stream> Table<S> {
     }
 
     /// Has the connections of the session at a place begun at the first write to each.
+    #[tactic(auto, using(crate::proofs::Closing::others_same))]
     pub(crate) fn defer(&mut self, place: usize)
         ensures prepared { (k : ℕ) → IsPrepared S.tells self.old place k → IsPrepared S.tells self.new place k }
         ensures idle { IsIdleAt self.old.sessions place → IsIdleAt self.new.sessions place }
         ensures keeps { Stays (TableTells S.tells self.old) (TableTells S.tells self.new) }
+        ensures others { OthersStay place self.old.sessions self.new.sessions }
+        ensures turns { SameTurns self.old self.new }
     {
         if let Some(session) = self.sessions.get_mut(place) {
             session.defer();
@@ -207,7 +226,8 @@ impl<S: Stream> Table<S> {
 
     /// Lets a port of the session at a place have no connection: what is written to it fails.
     pub(crate) fn give_up(&mut self, place: usize, port: usize)
-        ensures { Stays (TableTells S.tells self.old) (TableTells S.tells self.new) }
+        ensures keeps { Stays (TableTells S.tells self.old) (TableTells S.tells self.new) }
+        ensures turns { SameTurns self.old self.new }
     {
         if let Some(session) = self.sessions.get_mut(place) {
             session.give_up(port);
@@ -215,9 +235,11 @@ impl<S: Stream> Table<S> {
     }
 
     /// Opens the session at a place: it is found by its number from now on, which is above all others.
+    #[tactic(auto, using(crate::proofs::Closing::others_same))]
     pub(crate) fn announce(&mut self, number: u64, place: usize) -> bool
         ensures opens { result ≡ true → IsPrepared S.tells self.old place number → TableAnnounces S.tells number self.old self.new }
         ensures kept { result ≡ false → self.new ≡ self.old }
+        ensures others { OthersStay place self.old.sessions self.new.sessions }
     {
         if self.entries.len() >= self.entries.capacity() {
             return false;
@@ -234,6 +256,8 @@ impl<S: Stream> Table<S> {
     pub(crate) fn recall(&mut self)
         ensures keeps { Stays (TableTells S.tells self.old) (TableTells S.tells self.new) }
         ensures order { (world : World) → TableTells S.tells self.old world → self.new.ready.places.items ≡ turns_of self.old }
+        ensures sessions { self.new.sessions ≡ self.old.sessions }
+        ensures entries { self.new.entries ≡ self.old.entries }
     {
         for _ in 0..self.behind.len() {
             let Some(place) = self.behind.pop() else {
@@ -251,9 +275,12 @@ impl<S: Stream> Table<S> {
     }
 
     /// The number of the next open session that is to have a turn.
+    #[tactic(auto, using(crate::specs::Closing::winds_nowhere, crate::specs::Lines::moves_nowhere, crate::specs::Lines::grows_same))]
     pub(crate) fn next_ready(&mut self) -> Option<u64>
         ensures first { TakesFirst result self.old self.new }
         ensures names { Moves (TableTells S.tells self.old) (TableTells S.tells self.new) (NamesIfAny result) }
+        ensures winds { Winds S.tells self.old.sessions self.new.sessions }
+        ensures turn { TurnsIfTold S.tells result self.old self.new }
     {
         for _ in 0..self.ready.len() {
             if let Some(number) = self.turn_first() {
@@ -264,12 +291,19 @@ impl<S: Stream> Table<S> {
     }
 
     // Begins the turn of the first session that is to have one. A closed one has it here.
+    #[tactic(auto, using(crate::specs::Closing::winds_nowhere, crate::specs::Lines::moves_nowhere, crate::specs::Lines::grows_same))]
     fn turn_first(&mut self) -> Option<u64>
         ensures first { TakesFirst result self.old self.new }
         ensures names { Moves (TableTells S.tells self.old) (TableTells S.tells self.new) (NamesIfAny result) }
+        ensures winds { Winds S.tells self.old.sessions self.new.sessions }
+        ensures turn { TurnsIfTold S.tells result self.old self.new }
     {
-        let place = self.ready.pop()?;
-        let session = self.sessions.get_mut(place)?;
+        let Some(place) = self.ready.pop() else {
+            return None;
+        };
+        let Some(session) = self.sessions.get_mut(place) else {
+            return None;
+        };
         session.is_queued = false;
         if !session.is_open {
             self.wind_up(place);
@@ -289,8 +323,11 @@ impl<S: Stream> Table<S> {
     }
 
     /// Sends what the sessions wrote, where these are many.
+    #[tactic(auto, using(crate::specs::Closing::winds_nowhere, crate::specs::Lines::moves_nowhere, crate::specs::Lines::grows_same))]
     pub(crate) fn send_where_many(&mut self)
-        ensures { Stays (TableTells S.tells self.old) (TableTells S.tells self.new) }
+        ensures keeps { Stays (TableTells S.tells self.old) (TableTells S.tells self.new) }
+        ensures winds { Winds S.tells self.old.sessions self.new.sessions }
+        ensures turn { MovesOn [] self.old self.new }
     {
         if self.written.len() >= MOST_WRITTEN {
             self.send();
@@ -298,9 +335,12 @@ impl<S: Stream> Table<S> {
     }
 
     /// Sends what the sessions wrote. One whose connection fails in that is to have a turn.
+    #[tactic(auto, using(crate::specs::Closing::winds_nowhere, crate::specs::Lines::moves_nowhere, crate::specs::Lines::grows_same))]
     pub(crate) fn send(&mut self)
         ensures keeps { Stays (TableTells S.tells self.old) (TableTells S.tells self.new) }
         ensures sent { self.new.written.places.items ≡ [] }
+        ensures winds { Winds S.tells self.old.sessions self.new.sessions }
+        ensures turn { MovesOn [] self.old self.new }
     {
         for _ in 0..self.written.len() {
             self.send_first();
@@ -308,9 +348,12 @@ impl<S: Stream> Table<S> {
     }
 
     // Sends what the first of them wrote.
+    #[tactic(auto, using(crate::specs::Closing::winds_nowhere, crate::specs::Lines::moves_nowhere, crate::specs::Lines::grows_same))]
     fn send_first(&mut self)
         ensures keeps { Stays (TableTells S.tells self.old) (TableTells S.tells self.new) }
         ensures taken { self.new.written.places.items ≡ drop 1 self.old.written.places.items }
+        ensures winds { Winds S.tells self.old.sessions self.new.sessions }
+        ensures turn { MovesOn [] self.old self.new }
     {
         let Some(place) = self.written.pop() else {
             return;
@@ -325,10 +368,13 @@ impl<S: Stream> Table<S> {
     }
 
     /// Reads from a port of a session.
+    #[tactic(auto, using(crate::specs::Lines::grows_same))]
     pub(crate) fn read(&mut self, number: u64, port: usize, into: &mut [u8]) -> LinkGot
         requires { 0 < length into.old }
         ensures within { GotWithin into.new result }
         ensures leads { MovesAt number (TableTells S.tells self.old) (TableTells S.tells self.new) (AtSession number port (LinkReads into.new result)) }
+        ensures winds { (world : World) → TableTells S.tells self.old world → Winds S.tells self.old.sessions self.new.sessions }
+        ensures joins { JoinsBehind self.old self.new }
     {
         let Some(place) = self.find(number) else {
             return LinkGot::Failed;
@@ -344,10 +390,13 @@ impl<S: Stream> Table<S> {
     }
 
     /// Writes to a port of a session.
+    #[tactic(auto, using(crate::specs::Lines::grows_same))]
     pub(crate) fn write(&mut self, number: u64, port: usize, from: &[u8]) -> LinkPut
         requires { 0 < length from.now }
         ensures within { TookWithin from.now result }
         ensures leads { MovesAt number (TableTells S.tells self.old) (TableTells S.tells self.new) (AtSession number port (LinkWrites from.now result)) }
+        ensures winds { (world : World) → TableTells S.tells self.old world → Winds S.tells self.old.sessions self.new.sessions }
+        ensures joins { JoinsBehind self.old self.new }
     {
         let Some(place) = self.find(number) else {
             return LinkPut::Failed;
@@ -367,8 +416,12 @@ impl<S: Stream> Table<S> {
     }
 
     /// Closes a session. What was written to it is sent still.
+    #[tactic(auto, using(crate::specs::Closing::winds_nowhere, crate::specs::Lines::moves_nowhere, crate::specs::Lines::grows_same))]
     pub(crate) fn close(&mut self, number: u64)
-        ensures { MovesAt number (TableTells S.tells self.old) (TableTells S.tells self.new) (Shuts number) }
+        ensures leads { MovesAt number (TableTells S.tells self.old) (TableTells S.tells self.new) (Shuts number) }
+        ensures sends { TableCloses S.tells number self.old self.new }
+        ensures winds { Winds S.tells self.old.sessions self.new.sessions }
+        ensures joins { JoinsBehind self.old self.new }
     {
         if let Some(at) = self.search(number) {
             let place = self.shut(at);
@@ -377,10 +430,15 @@ impl<S: Stream> Table<S> {
     }
 
     // Closes the session of an entry, and says at which place it stands.
+    #[tactic(auto, using(crate::specs::Closing::winds_nowhere, crate::specs::Lines::moves_nowhere, crate::specs::Lines::grows_same))]
     fn shut(&mut self, at: usize) -> usize
         requires { at < length self.old.entries.items }
         ensures closed { (world : World) → TableTells S.tells self.old world → IsClosedAt self.new.sessions result }
         ensures shuts { (e : Entry) → IsEntry self.old at e → Moves (TableTells S.tells self.old) (TableTells S.tells self.new) (Shuts e.number) }
+        ensures stands { ClosesEntry S.tells at result self.old self.new }
+        ensures winds { Winds S.tells self.old.sessions self.new.sessions }
+        ensures ready { self.new.ready ≡ self.old.ready }
+        ensures behind { self.new.behind ≡ self.old.behind }
     {
         let place = self.entries.remove(at).place;
         let Some(session) = self.sessions.get_mut(place) else {
@@ -394,9 +452,14 @@ impl<S: Stream> Table<S> {
     }
 
     // Goes on with the end of the closed session at a place, and frees the place once it is over.
+    #[tactic(auto, using(crate::specs::Closing::winds_nowhere, crate::specs::Lines::moves_nowhere, crate::specs::Lines::grows_same))]
     fn wind_up(&mut self, place: usize)
         ensures ready { self.new.ready ≡ self.old.ready }
         ensures keeps { IsClosedAt self.old.sessions place → Stays (TableTells S.tells self.old) (TableTells S.tells self.new) }
+        ensures winds { Winds S.tells self.old.sessions self.new.sessions }
+        ensures sent { HoldsFlushed self.new.sessions place }
+        ensures behind { Grows self.old.behind self.new.behind }
+        ensures entries { self.new.entries ≡ self.old.entries }
     {
         let Some(session) = self.sessions.get_mut(place) else {
             return;
@@ -410,9 +473,14 @@ impl<S: Stream> Table<S> {
     }
 
     // Lets the session at a place have a turn behind those that are reported next.
+    #[tactic(auto, using(crate::specs::Closing::winds_nowhere, crate::specs::Lines::moves_nowhere, crate::specs::Lines::grows_same))]
     fn put_behind(&mut self, place: usize)
         ensures ready { self.new.ready ≡ self.old.ready }
         ensures keeps { Stays (TableTells S.tells self.old) (TableTells S.tells self.new) }
+        ensures winds { Winds S.tells self.old.sessions self.new.sessions }
+        ensures flushed { HoldsFlushed self.old.sessions place → HoldsFlushed self.new.sessions place }
+        ensures behind { Grows self.old.behind self.new.behind }
+        ensures entries { self.new.entries ≡ self.old.entries }
     {
         if let Some(session) = self.sessions.get_mut(place) {
             session.stand_in(&mut self.behind, place);
@@ -420,9 +488,14 @@ impl<S: Stream> Table<S> {
     }
 
     /// Frees a place.
+    #[tactic(auto, using(crate::proofs::Closing::winds_freed, crate::proofs::Closing::others_freed))]
     pub(crate) fn release(&mut self, place: usize)
         ensures ready { self.new.ready ≡ self.old.ready }
         ensures keeps { IsIdleAt self.old.sessions place → Stays (TableTells S.tells self.old) (TableTells S.tells self.new) }
+        ensures others { OthersStay place self.old.sessions self.new.sessions }
+        ensures free { get self.new.sessions place ≡ None }
+        ensures winds { HoldsSettled self.old.sessions place → Winds S.tells self.old.sessions self.new.sessions }
+        ensures turns { SameTurns self.old self.new }
     {
         forget(&mut self.closed, place);
         if let Some(session) = self.sessions.try_remove(place) {
@@ -434,8 +507,11 @@ impl<S: Stream> Table<S> {
     }
 
     // Frees the place of the closed session that has waited longest for its peers' ends.
+    #[tactic(auto, using(crate::specs::Closing::winds_nowhere, crate::specs::Lines::moves_nowhere, crate::specs::Lines::grows_same))]
     fn give_up_one(&mut self)
-        ensures { Stays (TableTells S.tells self.old) (TableTells S.tells self.new) }
+        ensures keeps { Stays (TableTells S.tells self.old) (TableTells S.tells self.new) }
+        ensures winds { Winds S.tells self.old.sessions self.new.sessions }
+        ensures turns { SameTurns self.old self.new }
     {
         if let Some(place) = self.find_sent() {
             self.release(place);
@@ -444,7 +520,8 @@ impl<S: Stream> Table<S> {
 
     // The place of the first closed session that has sent everything, and isn't to have a turn.
     fn find_sent(&self) -> Option<usize>
-        ensures { (world : World) → TableTells S.tells self.now world → IfSome result (λ place. IsIdleAt self.now.sessions place) }
+        ensures idle { (world : World) → TableTells S.tells self.now world → IfSome result (λ place. IsIdleAt self.now.sessions place) }
+        ensures settled { IfSome result (λ place. HoldsSettled self.now.sessions place) }
     {
         for place in &self.closed {
             if let Some(session) = self.sessions.get(*place)
@@ -485,11 +562,12 @@ impl<S: Stream> Table<S> {
 }
 
 impl<S: Stream> Reports for Table<S> {
-    ghost goes = { λ a b. Stays (TableTells S.tells a) (TableTells S.tells b) };
+    ghost goes = { λ a b. Stays (TableTells S.tells a) (TableTells S.tells b) × Winds S.tells a.sessions b.sessions × MovesOn [] a b };
 
     ghost notes = { λ token news a b. NotesToken S.tells token news a b };
 
     /// Takes note of what was reported at a token, and lets its session have a turn if that is news.
+    #[tactic(auto, using(crate::specs::Closing::winds_nowhere, crate::specs::Lines::moves_nowhere, crate::specs::Lines::grows_same))]
     fn report(&mut self, token: usize, news: Readiness) {
         if self.width == 0 {
             return;
@@ -504,9 +582,9 @@ impl<S: Stream> Reports for Table<S> {
         }
     }
 
-    ghost stays = { λ a world told. told };
+    ghost stays = { λ a. ((λ world told. told), winds_nowhere S.tells a.sessions, moves_still a) };
 
-    ghost follows = { λ a b c first second world told. second world (first world told) };
+    ghost follows = { λ a b c first second. ((λ world told. second.0 world (first.0 world told)), winds_on S.tells a.sessions b.sessions c.sessions first.1 second.1, moves_on_further [] [] a b c first.2 second.2) };
 }
 
 // Takes a place out of a list.

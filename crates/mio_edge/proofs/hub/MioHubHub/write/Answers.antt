@@ -1,9 +1,17 @@
-use Rattle.std.proofs.Common.{length}
 use Rattle.gate_hub.specs.Meaning.{Wrote}
 use Rattle.gate_hub.specs.Hubs.{LinkWrites}
 use Rattle.mio_edge.proofs.Telling.{call_leads_over, writes_follow}
+use Rattle.std.proofs.Common.{length, sym, subst}
+use Rattle.mio_edge.specs.Winding.{SocketsWind}
+use Rattle.mio_edge.specs.Turning.{SocketsJoin}
 use Rattle.mio_edge.proofs.hub.MioHubHub.write.Goals as goal
 
 pub returns-clause-leads : goal.returns-clause-leads
 returns-clause-leads g c =
     call_leads_over g.W.Network.is_telling g.W.Stream.Stream.tells g.met.W.Stream.Stream.bytes c.args.self.now c.count_put.new.self c.write-put.new.self c.args.k c.args.side c.port_of.result (Wrote c.args.k c.args.side (length c.args.from.now) c.write-put.result) (LinkWrites c.args.from.now c.write-put.result) (writes_follow c.args.from.now c.write-put.result) c.count_put.ensures.sockets c.port_of.ensures c.write-put.ensures.leads c.write-put.ensures.stopped c.write-put.ensures.accept c.write-put.ensures.announced
+
+pub returns-clause-winds : goal.returns-clause-winds
+returns-clause-winds g c = λ world told. subst (λ sockets. SocketsWind g.W.Stream.Stream.tells c.args.self.now.sockets sockets) (sym c.count_put.ensures.sockets) (c.write-put.ensures.winds world told)
+
+pub returns-clause-joins : goal.returns-clause-joins
+returns-clause-joins g c = subst (λ sockets. SocketsJoin c.args.self.now.sockets sockets) (sym c.count_put.ensures.sockets) c.write-put.ensures.joins

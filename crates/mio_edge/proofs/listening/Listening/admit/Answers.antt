@@ -1,6 +1,10 @@
 use Rattle.std.proofs.Common.{subst, sym}
 use Rattle.mio_edge.specs.Tables.{TableTells}
 use Rattle.mio_edge.specs.Turns.{IsIdleAt}
+use Rattle.mio_edge.specs.Closing.{WindsBesideIfAny}
+use Rattle.mio_edge.proofs.Closing.{beside_winds, beside_stays}
+use Rattle.mio_edge.specs.Lines.{same_turns_on}
+use Rattle.mio_edge.specs.Order.{SameTurns}
 use Rattle.mio_edge.proofs.listening.Listening.admit.Goals as goal
 
 pub returns-then-not-link-clause-kept : goal.returns-then-not-link-clause-kept
@@ -22,3 +26,50 @@ returns-clause-kept g c = λ is world told.
     let same = c.announce.ensures.kept c.if-announce.false in
     c.release-2.ensures.keeps (subst (λ table. IsIdleAt table.sessions c.in-Some.place) (sym same) after.0) world
     (subst (λ table. TableTells g.S.Stream.tells table world) (sym same) (after.1 world (c.begin.ensures.keeps world told)))
+
+pub returns-in_default-clause-winds : goal.returns-in_default-clause-winds
+returns-in_default-clause-winds g c = subst (λ o. WindsBesideIfAny g.S.Stream.tells o c.args.self.now.table.sessions c.begin.new.self.sessions) c.in_default.is c.begin.ensures.winds
+
+pub returns-then-not-link-clause-winds : goal.returns-then-not-link-clause-winds
+returns-then-not-link-clause-winds g c =
+    let t = g.S.Stream.tells in
+    let a = c.args.self.now.table.sessions in
+    let b = c.begin.new.self.sessions in
+    let d = c.link.new.self.table.sessions in
+    let e = c.release.new.self.sessions in
+    beside_winds t c.in-Some.place a e (beside_stays t c.in-Some.place a d e (beside_stays t c.in-Some.place a b d c.in-Some.ensures.winds c.link.ensures.others) c.release.ensures.others)
+
+pub returns-then-announce-clause-winds : goal.returns-then-announce-clause-winds
+returns-then-announce-clause-winds g c =
+    let t = g.S.Stream.tells in
+    let a = c.args.self.now.table.sessions in
+    let b = c.begin.new.self.sessions in
+    let d = c.link.new.self.table.sessions in
+    let e = c.announce.new.self.sessions in
+    beside_winds t c.in-Some.place a e (beside_stays t c.in-Some.place a d e (beside_stays t c.in-Some.place a b d c.in-Some.ensures.winds c.link.ensures.others) c.announce.ensures.others)
+
+pub returns-clause-winds : goal.returns-clause-winds
+returns-clause-winds g c =
+    let t = g.S.Stream.tells in
+    let place = c.in-Some.place in
+    let a = c.args.self.now.table.sessions in
+    let b = c.begin.new.self.sessions in
+    let d = c.link.new.self.table.sessions in
+    let e = c.announce.new.self.sessions in
+    let f = c.release-2.new.self.sessions in
+    beside_winds t place a f (beside_stays t place a e f (beside_stays t place a d e (beside_stays t place a b d c.in-Some.ensures.winds c.link.ensures.others) c.announce.ensures.others) c.release-2.ensures.others)
+
+pub returns-then-not-link-clause-turns : goal.returns-then-not-link-clause-turns
+returns-then-not-link-clause-turns g c = λ refused.
+    let a = c.args.self.now.table in
+    let b = c.begin.new.self in
+    let d = c.link.new.self.table in
+    same_turns_on a d c.release.new.self (same_turns_on a b d c.begin.ensures.turns c.link.ensures.turns) c.release.ensures.turns
+
+pub returns-clause-turns : goal.returns-clause-turns
+returns-clause-turns g c = λ refused.
+    let a = c.args.self.now.table in
+    let b = c.begin.new.self in
+    let d = c.link.new.self.table in
+    let f = c.release-2.new.self in
+    same_turns_on a d f (same_turns_on a b d c.begin.ensures.turns c.link.ensures.turns) (subst (λ table. SameTurns table f) (c.announce.ensures.kept c.if-announce.false) c.release-2.ensures.turns)

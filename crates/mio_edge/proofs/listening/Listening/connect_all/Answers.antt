@@ -1,4 +1,6 @@
 use Rattle.std.proofs.Common.{◌∙◌}
+use Rattle.mio_edge.proofs.Closing.{others_on}
+use Rattle.mio_edge.specs.Lines.{same_turns_on}
 use Rattle.mio_edge.proofs.listening.Listening.connect_all.Goals as goal
 
 pub loop-at-preserved : goal.loop-at-preserved
@@ -6,5 +8,7 @@ loop-at-preserved g c =
     record {
       prepared = λ k telling ready. c.connect.ensures.prepared k telling (c.loop-at.invariant.prepared k telling ready);
       keeps = λ shut. let first = c.loop-at.invariant.keeps shut in let second = c.connect.ensures.keeps first.0 in (second.0, λ world told. second.1 world (first.1 world told));
+      turns = same_turns_on c.args.self.now.table c.loop-at.self.table c.connect.new.self.table c.loop-at.invariant.turns c.connect.ensures.turns;
+      others = others_on c.args.place c.args.self.now.table.sessions c.loop-at.self.table.sessions c.connect.new.self.table.sessions c.loop-at.invariant.others c.connect.ensures.others;
       connecting = c.connect.ensures.connecting ∙ c.loop-at.invariant.connecting;
     }

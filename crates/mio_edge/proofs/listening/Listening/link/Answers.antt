@@ -1,3 +1,5 @@
+use Rattle.mio_edge.proofs.Closing.{others_on}
+use Rattle.mio_edge.specs.Lines.{same_turns_on}
 use Rattle.mio_edge.proofs.listening.Listening.link.Goals as goal
 
 pub returns-then-eq-clause-prepared : goal.returns-then-eq-clause-prepared
@@ -17,3 +19,15 @@ returns-clause-keeps g c = λ shut.
     let first = c.attach-2.ensures.keeps shut in
     let second = c.connect_all.ensures.keeps first.0 in
     (second.0, λ world told. second.1 world (first.1 world told))
+
+pub returns-then-eq-clause-others : goal.returns-then-eq-clause-others
+returns-then-eq-clause-others g c = others_on c.args.place c.args.self.now.table.sessions c.defer.new.self.sessions c.attach.new.self.table.sessions c.defer.ensures.others c.attach.ensures.others
+
+pub returns-clause-others : goal.returns-clause-others
+returns-clause-others g c = others_on c.args.place c.args.self.now.table.sessions c.attach-2.new.self.table.sessions c.connect_all.new.self.table.sessions c.attach-2.ensures.others c.connect_all.ensures.others
+
+pub returns-then-eq-clause-turns : goal.returns-then-eq-clause-turns
+returns-then-eq-clause-turns g c = same_turns_on c.args.self.now.table c.defer.new.self c.attach.new.self.table c.defer.ensures.turns c.attach.ensures.turns
+
+pub returns-clause-turns : goal.returns-clause-turns
+returns-clause-turns g c = same_turns_on c.args.self.now.table c.attach-2.new.self.table c.connect_all.new.self.table c.attach-2.ensures.turns c.connect_all.ensures.turns

@@ -1,4 +1,16 @@
+use Rattle.std.proofs.Common.{[], None}
+use Rattle.mio_edge.specs.Closing.{winds_on}
+use Rattle.mio_edge.proofs.Order.{turn_on}
 use Rattle.mio_edge.proofs.listening.Listening.rest.Goals as goal
 
 pub returns-clause-keeps : goal.returns-clause-keeps
 returns-clause-keeps g c = λ world told. c.wait.ensures.keeps world (c.send.ensures.keeps world told)
+
+pub returns-clause-winds : goal.returns-clause-winds
+returns-clause-winds g c = winds_on g.S.Stream.tells c.args.self.now.table.sessions c.send.new.self.sessions c.wait.new.self.table.sessions c.send.ensures.winds c.wait.ensures.winds
+
+pub returns-then-has_ready-clause-turn : goal.returns-then-has_ready-clause-turn
+returns-then-has_ready-clause-turn g c = λ world told. ([], c.send.ensures.turn)
+
+pub returns-clause-turn : goal.returns-clause-turn
+returns-clause-turn g c = λ world told. turn_on None c.args.self.now.table c.send.new.self c.wait.new.self.table ([], c.send.ensures.turn) (c.wait.ensures.turn world (c.send.ensures.keeps world told))

@@ -1,6 +1,21 @@
-use Rattle.std.proofs.Common.{subst, sym}
+use Rattle.std.proofs.Common.{[], subst, sym, ap, ◌∙◌}
 use Rattle.mio_edge.specs.Tables.{TableTells}
+use Rattle.mio_edge.specs.Closing.{Winds}
+use Rattle.mio_edge.specs.Order.{MovesOn}
+use Rattle.mio_edge.specs.Lines.{moves_on_further, moves_on_recalled}
 use Rattle.mio_edge.proofs.listening.Listening.wait.Goals as goal
 
 pub returns-clause-keeps : goal.returns-clause-keeps
-returns-clause-keeps g c = λ world told. c.recall.ensures.keeps world (subst (λ table. TableTells g.S.Stream.tells table world) (sym c.wake.ensures.table) (c.wait-waited.ensures world told))
+returns-clause-keeps g c = λ world told. c.recall.ensures.keeps world (subst (λ table. TableTells g.S.Stream.tells table world) (sym c.wake.ensures.table) (c.wait-waited.ensures.0 world told))
+
+pub returns-clause-winds : goal.returns-clause-winds
+returns-clause-winds g c = subst (λ slab. Winds g.S.Stream.tells c.args.self.now.table.sessions slab) (sym (c.recall.ensures.sessions ∙ ap (λ table. table.sessions) c.wake.ensures.table)) c.wait-waited.ensures.1
+
+pub returns-clause-turn : goal.returns-clause-turn
+returns-clause-turn g c = λ world told.
+    let a = c.args.self.now.table in
+    let b = c.wake.new.self.table in
+    let d = c.recall.new.self in
+    let reported : MovesOn [] a b = subst (λ table. MovesOn [] a table) (sym c.wake.ensures.table) c.wait-waited.ensures.2 in
+    let heard = subst (λ table. TableTells g.S.Stream.tells table world) (sym c.wake.ensures.table) (c.wait-waited.ensures.0 world told) in
+    ([], moves_on_further [] [] a b d reported (moves_on_recalled b d (c.recall.ensures.order world heard) c.recall.ensures.entries))

@@ -10,7 +10,7 @@ returns-in-Bytes-clause-leads g c =
     let t = g.S.Stream.tells in
     let port = c.receive.new.self in
     then_moves (PortTells t c.args.self.now) (PortTells t port) (PortTells t (record port { incoming = c.hand_out-in-Bytes.new.held })) (LinkReads c.hand_out-in-Bytes.new.into (got.Bytes c.hand_out-in-Bytes.result)) c.receive.ensures.keeps
-    (hands_out t port (record port { incoming = c.hand_out-in-Bytes.new.held }) c.hand_out-in-Bytes.new.into c.hand_out-in-Bytes.result c.in-Bytes.ensures.finds c.hand_out-in-Bytes.ensures.bytes refl)
+    (hands_out t port (record port { incoming = c.hand_out-in-Bytes.new.held }) c.hand_out-in-Bytes.new.into c.hand_out-in-Bytes.result c.in-Bytes.ensures.finds c.hand_out-in-Bytes.ensures.bytes c.hand_out-in-Bytes.ensures.room refl)
 
 pub returns-in-Failed-clause-leads : goal.returns-in-Failed-clause-leads
 returns-in-Failed-clause-leads g c =

@@ -1,10 +1,13 @@
+use Rattle.mio_edge.proofs.Numbers.{ended_same}
 use Rattle.std.proofs.Common.{refl}
+use Rattle.mio_edge.proofs.Turning.{event_turn_on}
 use Rattle.mio_edge.proofs.sockets.Sockets.finish.Goals as goal
 
-pub returns-then-is_over-clause-moves : goal.returns-then-is_over-clause-moves
-returns-then-is_over-clause-moves g c = λ world told.
-    let t = c.is_over.ensures.keeps world told in
-    (world, record { is_telling = t.is_telling; at_once = t.at_once; sessions = t.sessions; below = t.below }, refl)
+pub stops-requires : goal.stops-requires
+stops-requires g c = ended_same g.W.Network.is_shared c.args.self.now.accept c.args.self.now.announced c.is_over.new.self.accept c.is_over.new.self.announced c.is_over.ensures.accept c.is_over.ensures.announced c.requires
 
 pub returns-then-is_over-clause-over : goal.returns-then-is_over-clause-over
 returns-then-is_over-clause-over g c = λ is. c.is_over.ensures.over c.if-is_over.true
+
+pub returns-clause-turn : goal.returns-clause-turn
+returns-clause-turn g c = event_turn_on g.W.Network.is_telling g.W.Stream.Stream.tells c.ready.result c.args.self.now c.is_over.new.self c.ready.new.self c.is_over.ensures.keeps c.is_over.ensures.turn c.ready.ensures.turn

@@ -1,6 +1,14 @@
 use Rattle.std.proofs.Common.{Some, refl}
 use Rattle.mio_edge.proofs.Worlds.{listening_names}
+use Rattle.mio_edge.proofs.Winding.{sockets_moved}
+use Rattle.mio_edge.proofs.Turning.{sockets_turned}
 use Rattle.mio_edge.proofs.sockets.Sockets.next_named.Goals as goal
 
 pub returns-in-Some-clause-names : goal.returns-in-Some-clause-names
 returns-in-Some-clause-names g c = listening_names g.W.Network.is_telling g.W.Stream.Stream.tells c.args.self.now (record c.args.self.now { listening = Some (record c.in-Some.listening { table = c.next_ready.new.self }) }) c.in-Some.listening (record c.in-Some.listening { table = c.next_ready.new.self }) c.next_ready.result c.in-Some.is refl refl c.next_ready.ensures.names refl refl
+
+pub returns-in-Some-clause-winds : goal.returns-in-Some-clause-winds
+returns-in-Some-clause-winds g c = sockets_moved g.W.Stream.Stream.tells c.args.self.now (record c.args.self.now { listening = Some (record c.in-Some.listening { table = c.next_ready.new.self }) }) c.in-Some.listening (record c.in-Some.listening { table = c.next_ready.new.self }) c.in-Some.is refl c.next_ready.ensures.winds
+
+pub returns-in-Some-clause-turn : goal.returns-in-Some-clause-turn
+returns-in-Some-clause-turn g c = sockets_turned g.W.Network.is_telling g.W.Stream.Stream.tells c.next_ready.result c.args.self.now (record c.args.self.now { listening = Some (record c.in-Some.listening { table = c.next_ready.new.self }) }) c.in-Some.listening (record c.in-Some.listening { table = c.next_ready.new.self }) c.in-Some.is refl c.next_ready.ensures.turn

@@ -1,6 +1,15 @@
 use Rattle.std.proofs.Common.{Some, refl}
 use Rattle.mio_edge.proofs.Worlds.{listening_moved}
+use Rattle.mio_edge.proofs.Winding.{sockets_moved}
+use Rattle.std.proofs.Common.{None}
+use Rattle.mio_edge.proofs.Turning.{sockets_turned}
 use Rattle.mio_edge.proofs.sockets.Sockets.rest.Goals as goal
 
 pub returns-in-Some-clause-keeps : goal.returns-in-Some-clause-keeps
 returns-in-Some-clause-keeps g c = listening_moved g.W.Network.is_telling g.W.Stream.Stream.tells c.args.self.now (record c.args.self.now { network = c.rest.new.network; listening = Some c.rest.new.self }) c.in-Some.listening c.rest.new.self c.in-Some.is refl c.rest.ensures.connecting c.rest.ensures.keeps refl refl
+
+pub returns-in-Some-clause-winds : goal.returns-in-Some-clause-winds
+returns-in-Some-clause-winds g c = sockets_moved g.W.Stream.Stream.tells c.args.self.now (record c.args.self.now { network = c.rest.new.network; listening = Some c.rest.new.self }) c.in-Some.listening (c.rest.new.self) c.in-Some.is refl c.rest.ensures.winds
+
+pub returns-in-Some-clause-turn : goal.returns-in-Some-clause-turn
+returns-in-Some-clause-turn g c = sockets_turned g.W.Network.is_telling g.W.Stream.Stream.tells None c.args.self.now (record c.args.self.now { network = c.rest.new.network; listening = Some c.rest.new.self }) c.in-Some.listening (c.rest.new.self) c.in-Some.is refl c.rest.ensures.turn

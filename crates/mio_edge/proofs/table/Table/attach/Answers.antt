@@ -1,6 +1,7 @@
 use Rattle.std.proofs.Common.{sym, refl}
 use Rattle.mio_edge.proofs.Standing.{closed_moved}
 use Rattle.mio_edge.proofs.Tables.{idle_closed, attached, still_idle}
+use Rattle.mio_edge.proofs.Closing.{others_put}
 use Rattle.mio_edge.proofs.table.Table.attach.Goals as goal
 
 pub returns-in-Some-clause-keeps : goal.returns-in-Some-clause-keeps
@@ -12,3 +13,6 @@ returns-in-Some-clause-prepared g c = λ k says ready.
 
 pub returns-in-Some-clause-idle : goal.returns-in-Some-clause-idle
 returns-in-Some-clause-idle g c = still_idle g.S.Stream.tells c.args.self.now.sessions c.args.place c.in-Some.session.now c.attach.new.self (sym c.in-Some.ensures.value) c.attach.ensures.still
+
+pub returns-in-Some-clause-others : goal.returns-in-Some-clause-others
+returns-in-Some-clause-others g c = others_put c.args.self.now.sessions c.args.place c.in-Some.session.now c.attach.new.self (sym c.in-Some.ensures.value)

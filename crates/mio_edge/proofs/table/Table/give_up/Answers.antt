@@ -2,5 +2,5 @@ use Rattle.std.proofs.Common.{sym}
 use Rattle.mio_edge.proofs.Standing.{still_kept}
 use Rattle.mio_edge.proofs.table.Table.give_up.Goals as goal
 
-pub returns-in-Some : goal.returns-in-Some
-returns-in-Some g c = still_kept g.S.Stream.tells c.args.self.now c.args.place c.in-Some.session.now c.give_up.new.self (sym c.in-Some.ensures.value) c.give_up.ensures.still c.give_up.ensures.keeps
+pub returns-in-Some-clause-keeps : goal.returns-in-Some-clause-keeps
+returns-in-Some-clause-keeps g c = still_kept g.S.Stream.tells c.args.self.now c.args.place c.in-Some.session.now c.give_up.new.self (sym c.in-Some.ensures.value) c.give_up.ensures.still c.give_up.ensures.keeps

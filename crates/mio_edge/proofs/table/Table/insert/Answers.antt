@@ -1,4 +1,5 @@
 use Rattle.mio_edge.proofs.Tables.{insert_keeps, insert_prepares}
+use Rattle.mio_edge.proofs.Closing.{puts_at}
 use Rattle.mio_edge.proofs.table.Table.insert.Goals as goal
 
 pub returns-clause-keeps : goal.returns-clause-keeps
@@ -6,3 +7,6 @@ returns-clause-keeps g c = λ new. insert_keeps g.S.Stream.tells c.args.self.now
 
 pub returns-clause-prepared : goal.returns-clause-prepared
 returns-clause-prepared g c = λ new world vacant. insert_prepares g.S.Stream.tells (record c.args.self.now { sessions = c.insert.new.self }) c.args.self.now.sessions c.args.session c.insert.result c.ok.result world c.ok.ensures.value c.insert.ensures.was_vacant c.insert.ensures.updates new vacant.0.0
+
+pub returns-clause-puts : goal.returns-clause-puts
+returns-clause-puts g c = puts_at c.args.self.now.sessions c.insert.new.self c.args.session c.insert.result c.ok.result c.ok.ensures.value c.insert.ensures.was_vacant c.insert.ensures.updates c.insert.ensures.err

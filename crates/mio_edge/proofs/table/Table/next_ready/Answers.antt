@@ -1,6 +1,10 @@
-use Rattle.std.proofs.Common.{◌∷◌, ◌++◌, None, Some, append_assoc, refl, sym, ap, ◌∙◌, subst}
+use Rattle.std.proofs.Common.{[], ◌∷◌, ◌++◌, None, Some, append_assoc, refl, sym, ap, ◌∙◌, subst}
 use Rattle.mio_edge.specs.Tables.{TableTells, NamesIfAny}
 use Rattle.mio_edge.specs.Turns.{TakesFirst}
+use Rattle.mio_edge.specs.Closing.{winds_nowhere, winds_on}
+use Rattle.mio_edge.specs.Order.{InTurn}
+use Rattle.mio_edge.specs.Lines.{moves_still}
+use Rattle.mio_edge.proofs.Order.{turn_on}
 use Rattle.mio_edge.proofs.table.Table.next_ready.Goals as goal
 
 pub returns-clause-names : goal.returns-clause-names
@@ -15,6 +19,10 @@ loop-preserved g c = record {
       let before = c.loop.invariant.front in
       let taken : TakesFirst None c.loop.self c.turn_first.new.self = subst (λ o. TakesFirst o c.loop.self c.turn_first.new.self) c.in_default.is c.turn_first.ensures.first in
       (before.0 ++ taken.0, before.1 ∙ (ap (λ xs. before.0 ++ xs) taken.1 ∙ sym (append_assoc before.0 taken.0 c.turn_first.new.self.ready.places.items)));
+  turn = λ world told.
+      turn_on None c.args.self.now c.loop.self c.turn_first.new.self (c.loop.invariant.turn world told)
+      (subst (λ o. InTurn o c.loop.self c.turn_first.new.self) c.in_default.is (c.turn_first.ensures.turn world (c.loop.invariant.keeps world told)));
+  winds = winds_on g.S.Stream.tells c.args.self.now.sessions c.loop.self.sessions c.turn_first.new.self.sessions c.loop.invariant.winds c.turn_first.ensures.winds;
 }
 
 pub returns-in-Some-clause-first : goal.returns-in-Some-clause-first
@@ -22,3 +30,19 @@ returns-in-Some-clause-first g c =
     let before = c.loop.invariant.front in
     let taken : TakesFirst (Some c.in-Some.number) c.loop.self c.turn_first.new.self = subst (λ o. TakesFirst o c.loop.self c.turn_first.new.self) c.in-Some.is c.turn_first.ensures.first in
     (before.0 ++ taken.0, taken.1, before.1 ∙ (ap (λ xs. before.0 ++ xs) taken.2 ∙ sym (append_assoc before.0 taken.0 (taken.1 ∷ c.turn_first.new.self.ready.places.items))), taken.3)
+
+pub returns-in-Some-clause-winds : goal.returns-in-Some-clause-winds
+returns-in-Some-clause-winds g c = winds_on g.S.Stream.tells c.args.self.now.sessions c.loop.self.sessions c.turn_first.new.self.sessions c.loop.invariant.winds c.turn_first.ensures.winds
+
+pub returns-in-Some-clause-turn : goal.returns-in-Some-clause-turn
+returns-in-Some-clause-turn g c = λ world told.
+    turn_on (Some c.in-Some.number) c.args.self.now c.loop.self c.turn_first.new.self (c.loop.invariant.turn world told)
+    (subst (λ o. InTurn o c.loop.self c.turn_first.new.self) c.in-Some.is (c.turn_first.ensures.turn world (c.loop.invariant.keeps world told)))
+
+pub loop-init : goal.loop-init
+loop-init g c = record {
+  keeps = λ world told. told;
+  front = ([], refl);
+  turn = λ world told. ([], moves_still c.args.self.now);
+  winds = winds_nowhere g.S.Stream.tells c.args.self.now.sessions;
+}

@@ -2,11 +2,15 @@ use Rattle.std.proofs.Common.{None}
 use Rattle.mio_edge.specs.Wire.{Stays}
 use Rattle.mio_edge.specs.Tables.{TableTells}
 use Rattle.mio_edge.specs.Turns.{TakesFirst}
+use Rattle.mio_edge.specs.Closing.{Winds}
+use Rattle.mio_edge.specs.Order.{TurnsIfTold}
 use Rattle.mio_edge.proofs.table.Table.next_ready.Given as goal
 
--- what was told is told still, and the first ones had their turn
+-- what was told is told still, the first ones had their turn, and the closed ones have gone on
 abbrev pub invariant-loop : goal.invariant-loop
 invariant-loop g l = record {
   keeps : Stays (TableTells g.S.Stream.tells l.fn.self) (TableTells g.S.Stream.tells l.self);
   front : TakesFirst None l.fn.self l.self;
+  turn : TurnsIfTold g.S.Stream.tells None l.fn.self l.self;
+  winds : Winds g.S.Stream.tells l.fn.self.sessions l.self.sessions;
 }

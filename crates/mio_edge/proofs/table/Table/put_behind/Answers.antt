@@ -1,6 +1,8 @@
-use Rattle.std.proofs.Common.{length, refl, sym}
+use Rattle.std.proofs.Common.{length, refl, sym, ap, ◌∙◌, subst}
 use Rattle.mio_edge.proofs.Standing.{stood_behind, rest_same, rest_written}
 use Rattle.mio_edge.proofs.Tables.{kept_at}
+use Rattle.mio_edge.proofs.Closing.{winds_same, flushed_at}
+use Rattle.mio_edge.specs.Closing.{AreFlushed}
 use Rattle.mio_edge.proofs.table.Table.put_behind.Goals as goal
 
 pub returns-in-Some-clause-keeps : goal.returns-in-Some-clause-keeps
@@ -14,3 +16,14 @@ returns-in-Some-clause-keeps g c = λ world told.
       kept_at t s.sessions s.entries.items s.closed.items s.spare.items c.args.place a b was (rest_same t a b c.stand_in.ensures.rest) stood.keeps world told.0,
       stood.stands b refl (rest_written t a b c.stand_in.ensures.rest),
     )
+
+pub returns-in-Some-clause-winds : goal.returns-in-Some-clause-winds
+returns-in-Some-clause-winds g c =
+    let rest = c.stand_in.ensures.rest in
+    winds_same g.S.Stream.tells c.args.self.now.sessions c.args.place c.in-Some.session.now c.stand_in.new.self (sym c.in-Some.ensures.value) (ap (λ x. x.number) rest) (λ shut. ap (λ x. x.is_open) rest ∙ shut) (ap (λ x. x.ports) rest)
+
+pub returns-in-Some-clause-flushed : goal.returns-in-Some-clause-flushed
+returns-in-Some-clause-flushed g c = λ flushed.
+    let was = sym c.in-Some.ensures.value in
+    flushed_at c.args.self.now.sessions c.args.place c.in-Some.session.now c.stand_in.new.self was
+    (subst (λ ports. AreFlushed ports.items) (sym (ap (λ x. x.ports) c.stand_in.ensures.rest)) (flushed c.in-Some.session.now was))

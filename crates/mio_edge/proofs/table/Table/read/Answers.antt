@@ -1,8 +1,11 @@
-use Rattle.std.proofs.Common.{length, sym, ◌∙◌}
+use Rattle.std.proofs.Common.{length, sym, refl, ◌∙◌}
 use Rattle.gate_hub.specs.Hubs.{LinkReads}
 use Rattle.mio_edge.proofs.Standing.{stood_behind, rest_same, rest_written, unspent}
 use Rattle.mio_edge.proofs.Tables.{not_lost, not_empty, at_open, then_is, same_still}
 use Rattle.mio_edge.proofs.Turns.{queues_still}
+use Rattle.mio_edge.specs.Closing.{winds_nowhere}
+use Rattle.mio_edge.proofs.Closing.{winds_open, open_at}
+use Rattle.mio_edge.specs.Lines.{grows_same}
 use Rattle.mio_edge.proofs.table.Table.read.Goals as goal
 
 pub returns-in_default-clause-leads : goal.returns-in_default-clause-leads
@@ -34,3 +37,37 @@ returns-clause-leads g c = λ world told some.
     let moved = at_open t s.sessions s.entries.items s.closed.items s.spare.items c.args.number c.args.port c.in-Some.place a d (LinkReads c.read-2.new.into c.read-2.result) (λ w tells. sym (c.find.ensures world told) ∙ c.in-Some.is) was
     (same_still t a d c.read-2.ensures.still) (c.read-2.ensures.leads (λ spent. absurd (unspent t a c.is_spent.result c.is_spent.ensures c.if-is_spent.false spent))) world told.0 some in
     (moved.0, (moved.1, queues_still s.sessions s.ready s.behind s.written (length s.spare.items) c.in-Some.place a d was c.read-2.ensures.still.queued c.read-2.ensures.still.written told.1), moved.2)
+
+pub returns-in_default-clause-winds : goal.returns-in_default-clause-winds
+returns-in_default-clause-winds g c = λ world told. winds_nowhere g.S.Stream.tells c.args.self.now.sessions
+
+pub returns-in_default-get_mut-clause-winds : goal.returns-in_default-get_mut-clause-winds
+returns-in_default-get_mut-clause-winds g c = λ world told. winds_nowhere g.S.Stream.tells c.args.self.now.sessions
+
+pub returns-then-is_spent-clause-winds : goal.returns-then-is_spent-clause-winds
+returns-then-is_spent-clause-winds g c = λ world told.
+    let t = g.S.Stream.tells in
+    let s = c.args.self.now in
+    let a = c.in-Some-get_mut.session.now in
+    let was = sym c.in-Some-get_mut.ensures.value in
+    winds_open t s.sessions c.in-Some.place a c.read.new.self was (open_at t s.sessions s.entries.items s.closed.items s.spare.items world c.args.number c.in-Some.place a told.0 (sym (c.find.ensures world told) ∙ c.in-Some.is) was)
+
+pub returns-clause-winds : goal.returns-clause-winds
+returns-clause-winds g c = λ world told.
+    let t = g.S.Stream.tells in
+    let s = c.args.self.now in
+    let a = c.in-Some-get_mut.session.now in
+    let was = sym c.in-Some-get_mut.ensures.value in
+    winds_open t s.sessions c.in-Some.place a c.read-2.new.self was (open_at t s.sessions s.entries.items s.closed.items s.spare.items world c.args.number c.in-Some.place a told.0 (sym (c.find.ensures world told) ∙ c.in-Some.is) was)
+
+pub returns-then-is_spent-clause-joins : goal.returns-then-is_spent-clause-joins
+returns-then-is_spent-clause-joins g c = record { ready = refl; behind = c.stand_in.ensures.grows }
+
+pub returns-clause-joins : goal.returns-clause-joins
+returns-clause-joins g c = record { ready = refl; behind = grows_same c.args.self.now.behind c.args.self.now.behind refl }
+
+pub returns-in_default-clause-joins : goal.returns-in_default-clause-joins
+returns-in_default-clause-joins g c = record { ready = refl; behind = grows_same c.args.self.now.behind c.args.self.now.behind refl }
+
+pub returns-in_default-get_mut-clause-joins : goal.returns-in_default-get_mut-clause-joins
+returns-in_default-get_mut-clause-joins g c = record { ready = refl; behind = grows_same c.args.self.now.behind c.args.self.now.behind refl }

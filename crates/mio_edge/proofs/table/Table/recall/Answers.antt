@@ -12,6 +12,8 @@ loop-preserved g c = record {
       let pushes = c.push.ensures.pushed (c.push.ensures.room (recall_room s.sessions s.ready s.behind s.written (length s.spare.items) c.in-Some.place c.pop.new.self.places.items before.0.1 c.in-Some.ensures.first)) in
       let done = recalled t s.sessions s.ready c.push.new.self s.behind c.pop.new.self s.written (length s.spare.items) c.in-Some.place c.in-Some.ensures.first pushes c.in-Some.ensures.room before.0.1 in
       ((before.0.0, done.0), done.1 ∙ before.1);
+  sessions = c.loop.invariant.sessions;
+  entries = c.loop.invariant.entries;
   count = omega (arith, ap length c.in-Some.ensures.first, c.loop.invariant.count);
 }
 

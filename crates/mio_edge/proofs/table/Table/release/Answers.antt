@@ -1,6 +1,7 @@
 use Rattle.std.proofs.Common.{length, sym, refl, ap, ◌∙◌, ◌∷◌, [], arith}
 use Rattle.std.proofs.lemmas.List.{length-append}
 use Rattle.mio_edge.proofs.Tables.{freed, freed_queues, spare_pushed}
+use Rattle.mio_edge.proofs.Closing.{winds_freed, others_freed}
 use Rattle.mio_edge.proofs.table.Table.release.Goals as goal
 
 pub returns-then-len-capacity-clause-keeps : goal.returns-then-len-capacity-clause-keeps
@@ -19,3 +20,21 @@ returns-else-len-capacity-clause-keeps g c = λ idle world told.
       freed t s.sessions c.try_remove.new.self s.entries.items s.closed.items c.forget.new.places.items s.spare.items s.spare.items c.args.place c.in-Some.session (sym c.in-Some.ensures.value) c.in-Some.ensures.updates c.forget.ensures (λ n all. all n) idle world told.0,
       freed_queues t s.sessions c.try_remove.new.self s c.args.place (length s.spare.items) refl c.in-Some.ensures.updates c.in-Some.ensures.len c.in-Some.ensures.capacity (omega arith) idle told.1,
     )
+
+pub returns-then-len-capacity-clause-others : goal.returns-then-len-capacity-clause-others
+returns-then-len-capacity-clause-others g c = others_freed c.args.self.now.sessions c.try_remove.new.self c.args.place c.in-Some.ensures.updates
+
+pub returns-then-len-capacity-clause-winds : goal.returns-then-len-capacity-clause-winds
+returns-then-len-capacity-clause-winds g c = λ settled. winds_freed g.S.Stream.tells c.args.self.now.sessions c.try_remove.new.self c.args.place c.in-Some.ensures.updates settled
+
+pub returns-else-len-capacity-clause-others : goal.returns-else-len-capacity-clause-others
+returns-else-len-capacity-clause-others g c = others_freed c.args.self.now.sessions c.try_remove.new.self c.args.place c.in-Some.ensures.updates
+
+pub returns-else-len-capacity-clause-winds : goal.returns-else-len-capacity-clause-winds
+returns-else-len-capacity-clause-winds g c = λ settled. winds_freed g.S.Stream.tells c.args.self.now.sessions c.try_remove.new.self c.args.place c.in-Some.ensures.updates settled
+
+pub returns-then-len-capacity-clause-free : goal.returns-then-len-capacity-clause-free
+returns-then-len-capacity-clause-free g c = c.in-Some.ensures.updates.changed
+
+pub returns-else-len-capacity-clause-free : goal.returns-else-len-capacity-clause-free
+returns-else-len-capacity-clause-free g c = c.in-Some.ensures.updates.changed

@@ -1,9 +1,12 @@
-use Rattle.std.proofs.Common.{length, false, sym, refl, ap, subst}
+use Rattle.std.proofs.Common.{length, false, sym, refl, ap, ◌∙◌, subst}
 use Rattle.slab.specs.Slab.{with_value}
 use Rattle.mio_edge.specs.Turns.{QueuesStand}
 use Rattle.mio_edge.proofs.Standing.{stood_ready, rest_same, put_twice, put_over}
 use Rattle.mio_edge.proofs.Tables.{kept_at, then_is, unsent_from}
 use Rattle.mio_edge.proofs.Turns.{queues_taken}
+use Rattle.mio_edge.specs.Sessions.{PortsTell}
+use Rattle.mio_edge.proofs.Closing.{winds_stays}
+use Rattle.mio_edge.specs.Lines.{grows_same, line_grown, none_closed}
 use Rattle.mio_edge.proofs.table.Table.send_first.Goals as goal
 
 pub returns-then-send-clause-keeps : goal.returns-then-send-clause-keeps
@@ -36,3 +39,20 @@ returns-else-send-clause-keeps g c = λ world told.
           (λ links tells. c.send.ensures.keeps links (unsent_from t a (record a { is_written = false }) refl refl links tells)) world told.0,
       queues_taken s.sessions s.ready s.behind s.written c.pop.new.self (length s.spare.items) place a b was still.queued still.written c.in-Some.ensures.first told.1,
     )
+
+pub returns-then-send-clause-winds : goal.returns-then-send-clause-winds
+returns-then-send-clause-winds g c =
+    let t = g.S.Stream.tells in
+    let rest = c.stand_in.ensures.rest in
+    let still = c.send.ensures.still in
+    winds_stays t c.args.self.now.sessions c.in-Some.place c.in-Some-get_mut.session.now c.stand_in.new.self (sym c.in-Some-get_mut.ensures.value) (ap (λ x. x.number) rest ∙ still.number) (ap (λ x. x.is_open) rest ∙ still.is_open)
+    (λ links told. subst (λ v. PortsTell t v.items links) (sym (ap (λ x. x.ports) rest)) (c.send.ensures.ports links told))
+
+pub returns-else-send-clause-winds : goal.returns-else-send-clause-winds
+returns-else-send-clause-winds g c =
+    winds_stays g.S.Stream.tells c.args.self.now.sessions c.in-Some.place c.in-Some-get_mut.session.now c.send.new.self (sym c.in-Some-get_mut.ensures.value) c.send.ensures.still.number c.send.ensures.still.is_open c.send.ensures.ports
+
+pub returns-then-send-clause-turn : goal.returns-then-send-clause-turn
+returns-then-send-clause-turn g c =
+    let s = c.args.self.now in
+    record { line = line_grown s.ready s.behind c.stand_in.new.queue s.behind c.stand_in.ensures.grows (grows_same s.behind s.behind refl); closed = none_closed s.entries.items; entries = refl }

@@ -4,6 +4,7 @@ use Rattle.mio_edge.proofs.Sessions.{here}
 use Rattle.mio_edge.proofs.Entries.{from_behind}
 use Rattle.mio_edge.proofs.Tables.{entry_holds, shuts_entry, written}
 use Rattle.mio_edge.proofs.Turns.{queues_still}
+use Rattle.mio_edge.proofs.Closing.{shut_winds, winds_same}
 use Rattle.mio_edge.proofs.table.Table.shut.Goals as goal
 
 pub returns-in_default-clause-closed : goal.returns-in_default-clause-closed
@@ -37,3 +38,32 @@ returns-else-len-capacity-clause-shuts g c = λ e at world told.
     let done = shuts_entry g.S.Stream.tells c.args.self.now.sessions c.args.self.now.entries.items c.remove-place.new.self.items c.args.self.now.closed.items c.args.self.now.closed.items c.args.self.now.spare.items c.args.at e c.remove-place.result c.in-Some.session.now (record c.in-Some.session.now { is_open = false }) world at is (sym c.in-Some.ensures.value) refl c.remove-place.ensures.by_index.2
     (λ n q at. inl at) told.0 in
     (done.0, (done.1, queues_still s.sessions s.ready s.behind s.written (length s.spare.items) c.remove-place.result.place c.in-Some.session.now (record c.in-Some.session.now { is_open = false }) (sym c.in-Some.ensures.value) refl refl told.1), done.2)
+
+pub returns-in_default-clause-stands : goal.returns-in_default-clause-stands
+returns-in_default-clause-stands g c = λ e world links at told here_is.
+    let is : slice_get c.args.self.now.entries.items c.args.at ≡ Some c.remove-place.result = here c.args.self.now.entries.items (length c.args.self.now.entries.items) c.args.at c.remove-place.result refl c.requires c.remove-place.ensures.value in
+    absurd (entry_holds g.S.Stream.tells c.args.self.now.sessions c.args.self.now.entries.items c.args.self.now.closed.items c.args.self.now.spare.items c.args.at c.remove-place.result world told.0 is (sym c.in_default.ensures.value))
+
+pub returns-then-len-capacity-clause-stands : goal.returns-then-len-capacity-clause-stands
+returns-then-len-capacity-clause-stands g c = λ e world links at told links_are.
+    let is : slice_get c.args.self.now.entries.items c.args.at ≡ Some c.remove-place.result = here c.args.self.now.entries.items (length c.args.self.now.entries.items) c.args.at c.remove-place.result refl c.requires c.remove-place.ensures.value in
+    let s = c.args.self.now in
+    let a = c.in-Some.session.now in
+    shut_winds g.S.Stream.tells s.sessions s.entries.items s.closed.items s.spare.items c.args.at e c.remove-place.result a (record a { is_open = false }) world links at is (sym c.in-Some.ensures.value) refl links_are told.0
+
+pub returns-then-len-capacity-clause-winds : goal.returns-then-len-capacity-clause-winds
+returns-then-len-capacity-clause-winds g c =
+    let a = c.in-Some.session.now in
+    winds_same g.S.Stream.tells c.args.self.now.sessions c.remove-place.result.place a (record a { is_open = false }) (sym c.in-Some.ensures.value) refl (λ shut. refl) refl
+
+pub returns-else-len-capacity-clause-stands : goal.returns-else-len-capacity-clause-stands
+returns-else-len-capacity-clause-stands g c = λ e world links at told links_are.
+    let is : slice_get c.args.self.now.entries.items c.args.at ≡ Some c.remove-place.result = here c.args.self.now.entries.items (length c.args.self.now.entries.items) c.args.at c.remove-place.result refl c.requires c.remove-place.ensures.value in
+    let s = c.args.self.now in
+    let a = c.in-Some.session.now in
+    shut_winds g.S.Stream.tells s.sessions s.entries.items s.closed.items s.spare.items c.args.at e c.remove-place.result a (record a { is_open = false }) world links at is (sym c.in-Some.ensures.value) refl links_are told.0
+
+pub returns-else-len-capacity-clause-winds : goal.returns-else-len-capacity-clause-winds
+returns-else-len-capacity-clause-winds g c =
+    let a = c.in-Some.session.now in
+    winds_same g.S.Stream.tells c.args.self.now.sessions c.remove-place.result.place a (record a { is_open = false }) (sym c.in-Some.ensures.value) refl (λ shut. refl) refl

@@ -1,4 +1,4 @@
-use Rattle.std.proofs.Common.{[], length, false, sym, refl, ◌∙◌, ap, subst, inl, inr}
+use Rattle.std.proofs.Common.{[], ◌∷◌, length, false, sym, refl, ◌∙◌, ap, subst, inl, inr}
 use Rattle.std.specs.List.{slice_get}
 use Rattle.slab.specs.Slab.{with_value}
 use Rattle.mio_edge.specs.Sessions.{IsSame, IsUnsentAt}
@@ -8,24 +8,29 @@ use Rattle.mio_edge.specs.declared.session.Session.{Session}
 use Rattle.mio_edge.proofs.Standing.{not_free, put_twice, put_over, written_down, not_down, stood_from, from_rest}
 use Rattle.mio_edge.proofs.Tables.{moved_at, still_closed, named_at, session_named}
 use Rattle.mio_edge.proofs.Turns.{queues_popped}
+use Rattle.mio_edge.specs.Closing.{winds_on}
+use Rattle.mio_edge.proofs.Closing.{winds_same, winds_open}
+use Rattle.mio_edge.specs.Lines.{grows_same, line_first, none_closed}
+use Rattle.mio_edge.specs.declared.queue.Queue.{Queue}
+use Rattle.mio_edge.proofs.Order.{one_closed}
 use Rattle.mio_edge.proofs.table.Table.turn_first.Goals as goal
 
-pub returns-in_err-session-clause-names : goal.returns-in_err-session-clause-names
-returns-in_err-session-clause-names g c = λ world told. let s = c.args.self.now in absurd (not_free g.S.Stream.tells s.sessions s.ready s.behind s.written (length s.spare.items) c.in_ok-place.place c.pop.new.self.places.items told.1 c.in_ok-place.ensures.first (sym c.in_err-session.ensures.value))
+pub returns-in_default-get_mut-clause-names : goal.returns-in_default-get_mut-clause-names
+returns-in_default-get_mut-clause-names g c = λ world told. let s = c.args.self.now in absurd (not_free g.S.Stream.tells s.sessions s.ready s.behind s.written (length s.spare.items) c.in-Some.place c.pop.new.self.places.items told.1 c.in-Some.ensures.first (sym c.in_default-get_mut.ensures.value))
 
 pub returns-then-not-session-clause-names : goal.returns-then-not-session-clause-names
 returns-then-not-session-clause-names g c = λ world told.
     let t = g.S.Stream.tells in
     let s = c.args.self.now in
-    let a = c.in_ok-session.session.now in
+    let a = c.in-Some-get_mut.session.now in
     let b : Session g.row.S.Denot = record a { is_queued = false } in
-    let was = sym c.in_ok-session.ensures.value in
+    let was = sym c.in-Some-get_mut.ensures.value in
     let same : IsSame a b = record { number = refl; is_open = refl } in
-    let shut : IsClosedAt s.sessions c.in_ok-place.place = (a, was, c.if-not-session.true) in (
+    let shut : IsClosedAt s.sessions c.in-Some.place = (a, was, c.if-not-session.true) in (
       world,
-      c.wind_up.ensures.keeps (still_closed t s.sessions c.in_ok-place.place a b was same shut) world (
-        moved_at t s.sessions s.entries.items s.closed.items s.spare.items c.in_ok-place.place a b was same shut world told.0,
-        queues_popped s.sessions s.ready c.pop.new.self s.behind s.written (length s.spare.items) c.in_ok-place.place a b was refl refl c.in_ok-place.ensures.first c.in_ok-place.ensures.room told.1,
+      c.wind_up.ensures.keeps (still_closed t s.sessions c.in-Some.place a b was same shut) world (
+        moved_at t s.sessions s.entries.items s.closed.items s.spare.items c.in-Some.place a b was same shut world told.0,
+        queues_popped s.sessions s.ready c.pop.new.self s.behind s.written (length s.spare.items) c.in-Some.place a b was refl refl c.in-Some.ensures.first c.in-Some.ensures.room told.1,
       ),
       refl,
     )
@@ -34,14 +39,14 @@ pub returns-then-not-has_unsent-clause-names : goal.returns-then-not-has_unsent-
 returns-then-not-has_unsent-clause-names g c = λ world told.
     let t = g.S.Stream.tells in
     let s = c.args.self.now in
-    let a = c.in_ok-session.session.now in
+    let a = c.in-Some-get_mut.session.now in
     let b = c.begin_turn.new.self in
     let still = c.begin_turn.ensures.still in
-    let was = sym c.in_ok-session.ensures.value in
-    let named = named_at t s.sessions s.entries.items s.closed.items s.spare.items c.in_ok-place.place a b world was c.if-not-session.false (record { number = still.number; is_open = still.is_open })
-    (session_named t a b c.begin_turn.ensures.ports (λ p u. absurd (c.has_unsent.ensures c.if-not-has_unsent.true p (subst (λ v. IsUnsentAt (slice_get v.items p)) (sym c.begin_turn.ensures.ports) u)))) told.0 in (
+    let was = sym c.in-Some-get_mut.ensures.value in
+    let named = named_at t s.sessions s.entries.items s.closed.items s.spare.items c.in-Some.place a b world was c.if-not-session.false (record { number = still.number; is_open = still.is_open })
+    (session_named t a b c.begin_turn.ensures.ports (λ p u. absurd (c.has_unsent.ensures.waits c.if-not-has_unsent.true p (subst (λ v. IsUnsentAt (slice_get v.items p)) (sym c.begin_turn.ensures.ports) u)))) told.0 in (
       named.0,
-      (named.1, queues_popped s.sessions s.ready c.pop.new.self s.behind s.written (length s.spare.items) c.in_ok-place.place a b was still.queued still.written c.in_ok-place.ensures.first c.in_ok-place.ensures.room told.1),
+      (named.1, queues_popped s.sessions s.ready c.pop.new.self s.behind s.written (length s.spare.items) c.in-Some.place a b was still.queued still.written c.in-Some.ensures.first c.in-Some.ensures.room told.1),
       subst (λ k. Names k world named.0) (sym still.number) named.2,
     )
 
@@ -49,17 +54,17 @@ pub returns-then-write_down-clause-names : goal.returns-then-write_down-clause-n
 returns-then-write_down-clause-names g c = λ world told.
     let t = g.S.Stream.tells in
     let s = c.args.self.now in
-    let place = c.in_ok-place.place in
-    let a = c.in_ok-session.session.now in
+    let place = c.in-Some.place in
+    let a = c.in-Some-get_mut.session.now in
     let b = c.begin_turn.new.self in
     let d = c.write_down.new.self in
     let still = c.begin_turn.ensures.still in
     let rest = c.write_down.ensures.rest in
-    let was = sym c.in_ok-session.ensures.value in
+    let was = sym c.in-Some-get_mut.ensures.value in
     let noted = sym c.write_down.ensures.written ∙ c.if-write_down.true in
     let named = named_at t s.sessions s.entries.items s.closed.items s.spare.items place a d world was c.if-not-session.false (record { number = ap (λ x. x.number) rest ∙ still.number; is_open = ap (λ x. x.is_open) rest ∙ still.is_open })
     (session_named t a d (ap (λ x. x.ports) rest ∙ c.begin_turn.ensures.ports) (λ p u. inr noted)) told.0 in
-    let popped = queues_popped s.sessions s.ready c.pop.new.self s.behind s.written (length s.spare.items) place a b was still.queued still.written c.in_ok-place.ensures.first c.in_ok-place.ensures.room told.1 in (
+    let popped = queues_popped s.sessions s.ready c.pop.new.self s.behind s.written (length s.spare.items) place a b was still.queued still.written c.in-Some.ensures.first c.in-Some.ensures.room told.1 in (
       named.0,
       (
         named.1,
@@ -73,16 +78,16 @@ pub returns-clause-names : goal.returns-clause-names
 returns-clause-names g c = λ world told.
     let t = g.S.Stream.tells in
     let s = c.args.self.now in
-    let place = c.in_ok-place.place in
-    let a = c.in_ok-session.session.now in
+    let place = c.in-Some.place in
+    let a = c.in-Some-get_mut.session.now in
     let b = c.begin_turn.new.self in
     let d = c.write_down.new.self in
     let e = c.stand_in.new.self in
     let still = c.begin_turn.ensures.still in
-    let was = sym c.in_ok-session.ensures.value in
+    let was = sym c.in-Some-get_mut.ensures.value in
     let same = not_down t b d c.write_down.result c.write_down.ensures.written c.if-write_down.false (λ w. (c.write_down.ensures.was w).0) c.write_down.ensures.rest in
     let rest = from_rest t b d e same c.stand_in.ensures.rest in
-    let popped = queues_popped s.sessions s.ready c.pop.new.self s.behind s.written (length s.spare.items) place a b was still.queued still.written c.in_ok-place.ensures.first c.in_ok-place.ensures.room told.1 in
+    let popped = queues_popped s.sessions s.ready c.pop.new.self s.behind s.written (length s.spare.items) place a b was still.queued still.written c.in-Some.ensures.first c.in-Some.ensures.room told.1 in
     let stood = stood_from t (with_value s.sessions place b) c.pop.new.self s.behind c.stand_in.new.queue s.written (length s.spare.items) place b d e same (put_over t s.sessions place a b was) c.stand_in.ensures.was c.stand_in.ensures.stands c.stand_in.ensures.rest popped in
     let named = named_at t s.sessions s.entries.items s.closed.items s.spare.items place a e world was c.if-not-session.false (record { number = ap (λ x. x.number) rest ∙ still.number; is_open = ap (λ x. x.is_open) rest ∙ still.is_open })
     (session_named t a e (ap (λ x. x.ports) rest ∙ c.begin_turn.ensures.ports) (λ p u. inl stood.queued)) told.0 in (
@@ -97,12 +102,99 @@ returns-clause-names g c = λ world told.
 
 pub returns-then-not-has_unsent-clause-first : goal.returns-then-not-has_unsent-clause-first
 returns-then-not-has_unsent-clause-first g c =
-    ([], c.in_ok-place.place, c.in_ok-place.ensures.first, (c.begin_turn.new.self, put_over g.S.Stream.tells c.args.self.now.sessions c.in_ok-place.place c.in_ok-session.session.now c.begin_turn.new.self (sym c.in_ok-session.ensures.value), refl))
+    ([], c.in-Some.place, c.in-Some.ensures.first, (c.begin_turn.new.self, put_over g.S.Stream.tells c.args.self.now.sessions c.in-Some.place c.in-Some-get_mut.session.now c.begin_turn.new.self (sym c.in-Some-get_mut.ensures.value), refl))
 
 pub returns-then-write_down-clause-first : goal.returns-then-write_down-clause-first
 returns-then-write_down-clause-first g c =
-    ([], c.in_ok-place.place, c.in_ok-place.ensures.first, (c.write_down.new.self, put_over g.S.Stream.tells c.args.self.now.sessions c.in_ok-place.place c.in_ok-session.session.now c.write_down.new.self (sym c.in_ok-session.ensures.value), ap (λ x. x.number) c.write_down.ensures.rest))
+    ([], c.in-Some.place, c.in-Some.ensures.first, (c.write_down.new.self, put_over g.S.Stream.tells c.args.self.now.sessions c.in-Some.place c.in-Some-get_mut.session.now c.write_down.new.self (sym c.in-Some-get_mut.ensures.value), ap (λ x. x.number) c.write_down.ensures.rest))
 
 pub returns-clause-first : goal.returns-clause-first
 returns-clause-first g c =
-    ([], c.in_ok-place.place, c.in_ok-place.ensures.first, (c.stand_in.new.self, put_over g.S.Stream.tells c.args.self.now.sessions c.in_ok-place.place c.in_ok-session.session.now c.stand_in.new.self (sym c.in_ok-session.ensures.value), ap (λ x. x.number) c.stand_in.ensures.rest ∙ ap (λ x. x.number) c.write_down.ensures.rest))
+    ([], c.in-Some.place, c.in-Some.ensures.first, (c.stand_in.new.self, put_over g.S.Stream.tells c.args.self.now.sessions c.in-Some.place c.in-Some-get_mut.session.now c.stand_in.new.self (sym c.in-Some-get_mut.ensures.value), ap (λ x. x.number) c.stand_in.ensures.rest ∙ ap (λ x. x.number) c.write_down.ensures.rest))
+
+pub returns-then-not-session-clause-winds : goal.returns-then-not-session-clause-winds
+returns-then-not-session-clause-winds g c =
+    let t = g.S.Stream.tells in
+    let s = c.args.self.now in
+    let place = c.in-Some.place in
+    let a = c.in-Some-get_mut.session.now in
+    let b : Session g.row.S.Denot = record a { is_queued = false } in
+    winds_on t s.sessions (with_value s.sessions place b) c.wind_up.new.self.sessions (winds_same t s.sessions place a b (sym c.in-Some-get_mut.ensures.value) refl (λ shut. shut) refl) c.wind_up.ensures.winds
+
+pub returns-then-not-has_unsent-clause-winds : goal.returns-then-not-has_unsent-clause-winds
+returns-then-not-has_unsent-clause-winds g c =
+    winds_open g.S.Stream.tells c.args.self.now.sessions c.in-Some.place c.in-Some-get_mut.session.now c.begin_turn.new.self (sym c.in-Some-get_mut.ensures.value) c.if-not-session.false
+
+pub returns-then-write_down-clause-winds : goal.returns-then-write_down-clause-winds
+returns-then-write_down-clause-winds g c =
+    winds_open g.S.Stream.tells c.args.self.now.sessions c.in-Some.place c.in-Some-get_mut.session.now c.write_down.new.self (sym c.in-Some-get_mut.ensures.value) c.if-not-session.false
+
+pub returns-clause-winds : goal.returns-clause-winds
+returns-clause-winds g c =
+    winds_open g.S.Stream.tells c.args.self.now.sessions c.in-Some.place c.in-Some-get_mut.session.now c.stand_in.new.self (sym c.in-Some-get_mut.ensures.value) c.if-not-session.false
+
+pub returns-in_default-clause-turn : goal.returns-in_default-clause-turn
+returns-in_default-clause-turn g c = λ world told.
+    let s = c.args.self.now in
+    ([], record { line = line_first [] s.ready.places.items c.pop.new.self.places.items s.behind s.behind c.in_default.ensures.first (grows_same s.behind s.behind refl); closed = none_closed s.entries.items; entries = refl })
+
+pub returns-in_default-get_mut-clause-turn : goal.returns-in_default-get_mut-clause-turn
+returns-in_default-get_mut-clause-turn g c = λ world told.
+    let s = c.args.self.now in
+    absurd (not_free g.S.Stream.tells s.sessions s.ready s.behind s.written (length s.spare.items) c.in-Some.place c.pop.new.self.places.items told.1 c.in-Some.ensures.first (sym c.in_default-get_mut.ensures.value))
+
+pub returns-then-not-session-clause-turn : goal.returns-then-not-session-clause-turn
+returns-then-not-session-clause-turn g c = λ world told.
+    let t = g.S.Stream.tells in
+    let s = c.args.self.now in
+    let place = c.in-Some.place in
+    let after = c.wind_up.new.self in (
+      place ∷ [],
+      record {
+        line = line_first (place ∷ []) s.ready.places.items after.ready.places.items s.behind after.behind (c.in-Some.ensures.first ∙ ap (λ (q : Queue). place ∷ q.places.items) (sym c.wind_up.ensures.ready)) c.wind_up.ensures.behind;
+        closed = one_closed t s place c.in-Some-get_mut.session.now world told (sym c.in-Some-get_mut.ensures.value) c.if-not-session.true;
+        entries = c.wind_up.ensures.entries;
+      },
+    )
+
+pub returns-then-not-has_unsent-clause-turn : goal.returns-then-not-has_unsent-clause-turn
+returns-then-not-has_unsent-clause-turn g c = λ world told.
+    let s = c.args.self.now in
+    let place = c.in-Some.place in (
+      [],
+      place,
+      record {
+        line = line_first (place ∷ []) s.ready.places.items c.pop.new.self.places.items s.behind s.behind c.in-Some.ensures.first (grows_same s.behind s.behind refl);
+        closed = none_closed s.entries.items;
+        entries = refl;
+        number = (c.begin_turn.new.self, put_over g.S.Stream.tells s.sessions place c.in-Some-get_mut.session.now c.begin_turn.new.self (sym c.in-Some-get_mut.ensures.value), refl);
+      },
+    )
+
+pub returns-then-write_down-clause-turn : goal.returns-then-write_down-clause-turn
+returns-then-write_down-clause-turn g c = λ world told.
+    let s = c.args.self.now in
+    let place = c.in-Some.place in (
+      [],
+      place,
+      record {
+        line = line_first (place ∷ []) s.ready.places.items c.pop.new.self.places.items s.behind s.behind c.in-Some.ensures.first (grows_same s.behind s.behind refl);
+        closed = none_closed s.entries.items;
+        entries = refl;
+        number = (c.write_down.new.self, put_over g.S.Stream.tells s.sessions place c.in-Some-get_mut.session.now c.write_down.new.self (sym c.in-Some-get_mut.ensures.value), ap (λ x. x.number) c.write_down.ensures.rest);
+      },
+    )
+
+pub returns-clause-turn : goal.returns-clause-turn
+returns-clause-turn g c = λ world told.
+    let s = c.args.self.now in
+    let place = c.in-Some.place in (
+      [],
+      place,
+      record {
+        line = line_first (place ∷ []) s.ready.places.items c.pop.new.self.places.items s.behind c.stand_in.new.queue c.in-Some.ensures.first (c.stand_in.ensures.grows);
+        closed = none_closed s.entries.items;
+        entries = refl;
+        number = (c.stand_in.new.self, put_over g.S.Stream.tells s.sessions place c.in-Some-get_mut.session.now c.stand_in.new.self (sym c.in-Some-get_mut.ensures.value), ap (λ x. x.number) c.stand_in.ensures.rest ∙ ap (λ x. x.number) c.write_down.ensures.rest);
+      },
+    )

@@ -1,17 +1,74 @@
-use Rattle.std.proofs.Common.{sym}
+use Rattle.std.proofs.Common.{sym, ◌∙◌}
 use Rattle.mio_edge.proofs.Standing.{closed_moved, put_idle}
+use Rattle.slab.specs.Slab.{with_value}
+use Rattle.mio_edge.specs.Closing.{winds_on}
+use Rattle.mio_edge.proofs.Closing.{winds_moved, settled_at, flushed_at, flushed_none}
+use Rattle.mio_edge.specs.Lines.{grows_same}
 use Rattle.mio_edge.proofs.table.Table.wind_up.Goals as goal
 
 pub returns-in-Unsent-clause-keeps : goal.returns-in-Unsent-clause-keeps
-returns-in-Unsent-clause-keeps g c = closed_moved g.S.Stream.tells c.args.self.now c.args.place c.in-Some.session.now c.wind_up.new.self (sym c.in-Some.ensures.value) c.wind_up.ensures
+returns-in-Unsent-clause-keeps g c = closed_moved g.S.Stream.tells c.args.self.now c.args.place c.in-Some.session.now c.wind_up.new.self (sym c.in-Some.ensures.value) c.wind_up.ensures.still
 
 pub returns-in-Unread-clause-keeps : goal.returns-in-Unread-clause-keeps
-returns-in-Unread-clause-keeps g c = λ shut world told. c.put_behind.ensures.keeps world (closed_moved g.S.Stream.tells c.args.self.now c.args.place c.in-Some.session.now c.wind_up.new.self (sym c.in-Some.ensures.value) c.wind_up.ensures shut world told)
+returns-in-Unread-clause-keeps g c = λ shut world told. c.put_behind.ensures.keeps world (closed_moved g.S.Stream.tells c.args.self.now c.args.place c.in-Some.session.now c.wind_up.new.self (sym c.in-Some.ensures.value) c.wind_up.ensures.still shut world told)
 
 pub returns-in-Gone-clause-keeps : goal.returns-in-Gone-clause-keeps
-returns-in-Gone-clause-keeps g c = closed_moved g.S.Stream.tells c.args.self.now c.args.place c.in-Some.session.now c.wind_up.new.self (sym c.in-Some.ensures.value) c.wind_up.ensures
+returns-in-Gone-clause-keeps g c = closed_moved g.S.Stream.tells c.args.self.now c.args.place c.in-Some.session.now c.wind_up.new.self (sym c.in-Some.ensures.value) c.wind_up.ensures.still
 
 pub returns-in-Gone-2-clause-keeps : goal.returns-in-Gone-2-clause-keeps
 returns-in-Gone-2-clause-keeps g c = λ shut world told.
-    c.release.ensures.keeps (put_idle g.S.Stream.tells c.args.self.now.sessions c.args.place c.in-Some.session.now c.wind_up.new.self (sym c.in-Some.ensures.value) c.wind_up.ensures shut c.if-session.false) world
-    (closed_moved g.S.Stream.tells c.args.self.now c.args.place c.in-Some.session.now c.wind_up.new.self (sym c.in-Some.ensures.value) c.wind_up.ensures shut world told)
+    c.release.ensures.keeps (put_idle g.S.Stream.tells c.args.self.now.sessions c.args.place c.in-Some.session.now c.wind_up.new.self (sym c.in-Some.ensures.value) c.wind_up.ensures.still shut c.if-session.false) world
+    (closed_moved g.S.Stream.tells c.args.self.now c.args.place c.in-Some.session.now c.wind_up.new.self (sym c.in-Some.ensures.value) c.wind_up.ensures.still shut world told)
+
+pub returns-in-Unsent-clause-winds : goal.returns-in-Unsent-clause-winds
+returns-in-Unsent-clause-winds g c =
+    let t = g.S.Stream.tells in
+    let s = c.args.self.now in
+    let b = c.wind_up.new.self in
+    winds_moved t s.sessions c.args.place c.in-Some.session.now b (sym c.in-Some.ensures.value) c.wind_up.ensures.still.number (λ shut. c.wind_up.ensures.still.is_open ∙ shut) c.wind_up.ensures.sends
+
+pub returns-in-Gone-clause-winds : goal.returns-in-Gone-clause-winds
+returns-in-Gone-clause-winds g c =
+    let t = g.S.Stream.tells in
+    let s = c.args.self.now in
+    let b = c.wind_up.new.self in
+    winds_moved t s.sessions c.args.place c.in-Some.session.now b (sym c.in-Some.ensures.value) c.wind_up.ensures.still.number (λ shut. c.wind_up.ensures.still.is_open ∙ shut) c.wind_up.ensures.sends
+
+pub returns-in-Unread-clause-winds : goal.returns-in-Unread-clause-winds
+returns-in-Unread-clause-winds g c =
+    let t = g.S.Stream.tells in
+    let s = c.args.self.now in
+    let b = c.wind_up.new.self in
+    winds_on t s.sessions (with_value s.sessions c.args.place b) c.put_behind.new.self.sessions
+    (winds_moved t s.sessions c.args.place c.in-Some.session.now b (sym c.in-Some.ensures.value) c.wind_up.ensures.still.number (λ shut. c.wind_up.ensures.still.is_open ∙ shut) c.wind_up.ensures.sends)
+    c.put_behind.ensures.winds
+
+pub returns-in-Gone-2-clause-winds : goal.returns-in-Gone-2-clause-winds
+returns-in-Gone-2-clause-winds g c =
+    let t = g.S.Stream.tells in
+    let s = c.args.self.now in
+    let b = c.wind_up.new.self in
+    winds_on t s.sessions (with_value s.sessions c.args.place b) c.release.new.self.sessions
+    (winds_moved t s.sessions c.args.place c.in-Some.session.now b (sym c.in-Some.ensures.value) c.wind_up.ensures.still.number (λ shut. c.wind_up.ensures.still.is_open ∙ shut) c.wind_up.ensures.sends)
+    (c.release.ensures.winds (settled_at s.sessions c.args.place c.in-Some.session.now b (sym c.in-Some.ensures.value) (c.wind_up.ensures.gone c.in-Gone-2.is)))
+
+pub returns-in-Gone-2-clause-behind : goal.returns-in-Gone-2-clause-behind
+returns-in-Gone-2-clause-behind g c = grows_same c.args.self.now.behind c.release.new.self.behind c.release.ensures.turns.behind
+
+pub returns-in-Gone-2-clause-entries : goal.returns-in-Gone-2-clause-entries
+returns-in-Gone-2-clause-entries g c = c.release.ensures.turns.entries
+
+pub returns-in_default-clause-sent : goal.returns-in_default-clause-sent
+returns-in_default-clause-sent g c = flushed_none c.args.self.now.sessions c.args.place (sym c.in_default.ensures.value)
+
+pub returns-in-Unsent-clause-sent : goal.returns-in-Unsent-clause-sent
+returns-in-Unsent-clause-sent g c = flushed_at c.args.self.now.sessions c.args.place c.in-Some.session.now c.wind_up.new.self (sym c.in-Some.ensures.value) c.wind_up.ensures.sent
+
+pub returns-in-Unread-clause-sent : goal.returns-in-Unread-clause-sent
+returns-in-Unread-clause-sent g c = c.put_behind.ensures.flushed (flushed_at c.args.self.now.sessions c.args.place c.in-Some.session.now c.wind_up.new.self (sym c.in-Some.ensures.value) c.wind_up.ensures.sent)
+
+pub returns-in-Gone-clause-sent : goal.returns-in-Gone-clause-sent
+returns-in-Gone-clause-sent g c = flushed_at c.args.self.now.sessions c.args.place c.in-Some.session.now c.wind_up.new.self (sym c.in-Some.ensures.value) c.wind_up.ensures.sent
+
+pub returns-in-Gone-2-clause-sent : goal.returns-in-Gone-2-clause-sent
+returns-in-Gone-2-clause-sent g c = flushed_none c.release.new.self.sessions c.args.place c.release.ensures.free

@@ -1,9 +1,12 @@
-use Rattle.std.proofs.Common.{length, sym, ◌∙◌, subst, inl, inr}
+use Rattle.std.proofs.Common.{length, sym, refl, ◌∙◌, subst, inl, inr}
 use Rattle.slab.specs.Slab.{with_value}
 use Rattle.gate_hub.specs.Hubs.{LinkWrites}
 use Rattle.mio_edge.specs.Turns.{QueuesStand}
 use Rattle.mio_edge.proofs.Standing.{stood_behind, rest_same, rest_written, unspent, written_down, down_same, down_tells, down_allowance, not_down, stood_from, from_rest}
 use Rattle.mio_edge.proofs.Tables.{not_lost, not_empty, at_open, then_is, same_still}
+use Rattle.mio_edge.specs.Closing.{winds_nowhere}
+use Rattle.mio_edge.proofs.Closing.{winds_open, open_at}
+use Rattle.mio_edge.specs.Lines.{grows_same}
 use Rattle.mio_edge.proofs.table.Table.write.Goals as goal
 
 pub returns-in_default-clause-leads : goal.returns-in_default-clause-leads
@@ -54,3 +57,48 @@ returns-clause-leads g c = λ world told some.
     (then_is t a b d (down_same t a b c.write_down.ensures.rest) (same_still t b d c.write-2.ensures.still))
     (λ links tells. c.write-2.ensures.leads ((λ spent. absurd (unspent t a c.is_spent.result c.is_spent.ensures c.if-is_spent.false (sym (down_allowance t a b c.write_down.ensures.rest) ∙ spent))), inr noted) links (down_tells t a b c.write_down.ensures.rest noted links tells)) world told.0 some in
     (moved.0, (moved.1, written_down t s.sessions s.ready s.behind s.written c.write_down.new.queue (length s.spare.items) c.in-Some.place a b d was c.write_down.ensures.was (λ w. c.write_down.ensures.stands w c.if-not-write_down.false) noted c.write_down.ensures.rest c.write-2.ensures.still.queued c.write-2.ensures.still.written told.1), moved.2)
+
+pub returns-in_default-clause-winds : goal.returns-in_default-clause-winds
+returns-in_default-clause-winds g c = λ world told. winds_nowhere g.S.Stream.tells c.args.self.now.sessions
+
+pub returns-in_default-get_mut-clause-winds : goal.returns-in_default-get_mut-clause-winds
+returns-in_default-get_mut-clause-winds g c = λ world told. winds_nowhere g.S.Stream.tells c.args.self.now.sessions
+
+pub returns-then-is_spent-clause-winds : goal.returns-then-is_spent-clause-winds
+returns-then-is_spent-clause-winds g c = λ world told.
+    let t = g.S.Stream.tells in
+    let s = c.args.self.now in
+    let a = c.in-Some-get_mut.session.now in
+    let was = sym c.in-Some-get_mut.ensures.value in
+    winds_open t s.sessions c.in-Some.place a c.write.new.self was (open_at t s.sessions s.entries.items s.closed.items s.spare.items world c.args.number c.in-Some.place a told.0 (sym (c.find.ensures world told) ∙ c.in-Some.is) was)
+
+pub returns-then-not-write_down-clause-winds : goal.returns-then-not-write_down-clause-winds
+returns-then-not-write_down-clause-winds g c = λ world told.
+    let t = g.S.Stream.tells in
+    let s = c.args.self.now in
+    let a = c.in-Some-get_mut.session.now in
+    let was = sym c.in-Some-get_mut.ensures.value in
+    winds_open t s.sessions c.in-Some.place a c.write-then-not-write_down.new.self was (open_at t s.sessions s.entries.items s.closed.items s.spare.items world c.args.number c.in-Some.place a told.0 (sym (c.find.ensures world told) ∙ c.in-Some.is) was)
+
+pub returns-clause-winds : goal.returns-clause-winds
+returns-clause-winds g c = λ world told.
+    let t = g.S.Stream.tells in
+    let s = c.args.self.now in
+    let a = c.in-Some-get_mut.session.now in
+    let was = sym c.in-Some-get_mut.ensures.value in
+    winds_open t s.sessions c.in-Some.place a c.write-2.new.self was (open_at t s.sessions s.entries.items s.closed.items s.spare.items world c.args.number c.in-Some.place a told.0 (sym (c.find.ensures world told) ∙ c.in-Some.is) was)
+
+pub returns-then-is_spent-clause-joins : goal.returns-then-is_spent-clause-joins
+returns-then-is_spent-clause-joins g c = record { ready = refl; behind = c.stand_in.ensures.grows }
+
+pub returns-then-not-write_down-clause-joins : goal.returns-then-not-write_down-clause-joins
+returns-then-not-write_down-clause-joins g c = record { ready = refl; behind = c.stand_in-then-not-write_down.ensures.grows }
+
+pub returns-clause-joins : goal.returns-clause-joins
+returns-clause-joins g c = record { ready = refl; behind = grows_same c.args.self.now.behind c.args.self.now.behind refl }
+
+pub returns-in_default-clause-joins : goal.returns-in_default-clause-joins
+returns-in_default-clause-joins g c = record { ready = refl; behind = grows_same c.args.self.now.behind c.args.self.now.behind refl }
+
+pub returns-in_default-get_mut-clause-joins : goal.returns-in_default-get_mut-clause-joins
+returns-in_default-get_mut-clause-joins g c = record { ready = refl; behind = grows_same c.args.self.now.behind c.args.self.now.behind refl }

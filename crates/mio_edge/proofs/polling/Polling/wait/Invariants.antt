@@ -1,4 +1,4 @@
-use Rattle.mio_edge.proofs.mio_network.MioNetworkNetwork.wait.Given as goal
+use Rattle.mio_edge.proofs.polling.Polling.wait.Given as goal
 
 -- what came so far was reported
 abbrev pub invariant-loop-event : goal.invariant-loop-event

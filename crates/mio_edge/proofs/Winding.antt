@@ -1,0 +1,51 @@
+-- What becomes of the closed sessions of the sockets.
+use Rattle.std.proofs.Common.{◌≡◌, ℕ, Option, None, Some, sym, ◌∙◌, subst}
+use Rattle.mio_edge.specs.Wire.{Wire}
+use Rattle.mio_edge.specs.Tables.{World, TableTells}
+use Rattle.mio_edge.specs.Worlds.{ListeningTells, SocketsTell}
+use Rattle.mio_edge.specs.Closing.{Winds, TableCloses, winds_nowhere, winds_on}
+use Rattle.mio_edge.specs.Winding.{ListeningWinds, SocketsWind, SocketsWindIfTold, SocketsClose}
+use Rattle.mio_edge.specs.declared.listening.Listening.{Listening}
+use Rattle.mio_edge.specs.declared.sockets.Sockets.{Sockets}
+
+listening_same : {S : Type 0} (tells : S → Wire → Type 0) (o : Option (Listening S)) → ListeningWinds tells o o
+listening_same tells None = tt
+listening_same tells (Some l) = winds_nowhere tells l.table.sessions
+
+listening_on : {S : Type 0} (tells : S → Wire → Type 0) (x y z : Option (Listening S)) → ListeningWinds tells x y → ListeningWinds tells y z → ListeningWinds tells x z
+listening_on tells None y z first second = tt
+listening_on tells (Some x) None z first second = absurd first
+listening_on tells (Some x) (Some y) None first second = absurd second
+listening_on tells (Some x) (Some y) (Some z) first second = winds_on tells x.table.sessions y.table.sessions z.table.sessions first second
+
+-- nothing was done to the sessions
+pub sockets_same : {W S : Type 0} (tells : S → Wire → Type 0) (a b : Sockets W S) → b.listening ≡ a.listening → SocketsWind tells a b
+sockets_same {W} {S} tells a b same = record { on = subst (λ (o : Option (Listening S)). ListeningWinds tells a.listening o) (sym same) (listening_same tells a.listening) }
+
+pub sockets_on : {W S : Type 0} (tells : S → Wire → Type 0) (a b c : Sockets W S) → SocketsWind tells a b → SocketsWind tells b c → SocketsWind tells a c
+sockets_on tells a b c first second = record { on = listening_on tells a.listening b.listening c.listening first.on second.on }
+
+-- the sessions have gone on
+pub sockets_moved : {W S : Type 0} (tells : S → Wire → Type 0) (a b : Sockets W S) (l l' : Listening S) → a.listening ≡ Some l → b.listening ≡ Some l' → Winds tells l.table.sessions l'.table.sessions → SocketsWind tells a b
+sockets_moved {W} {S} tells a b l l' was now winds = record {
+  on = subst (λ (o : Option (Listening S)). ListeningWinds tells o b.listening) (sym was) (subst (λ (o : Option (Listening S)). ListeningWinds tells (Some l) o) (sym now) winds);
+}
+
+told_table : {W S : Type 0} (Is : Type 0) (tells : S → Wire → Type 0) (a : Sockets W S) (l : Listening S) (world : World) → a.listening ≡ Some l → SocketsTell Is tells a world → ListeningTells tells (Some l) world
+told_table {W} {S} Is tells a l world was told = subst (λ (o : Option (Listening S)). ListeningTells tells o world) was told.sessions
+
+pub sockets_told : {W S : Type 0} (Is : Type 0) (tells : S → Wire → Type 0) (a b : Sockets W S) (l l' : Listening S) → a.listening ≡ Some l → b.listening ≡ Some l' → ((world : World) → TableTells tells l.table world → Winds tells l.table.sessions l'.table.sessions) → SocketsWindIfTold Is tells a b
+sockets_told Is tells a b l l' was now winds world told = sockets_moved tells a b l l' was now (winds world (told_table Is tells a l world was told).1)
+
+pub sockets_close : {W S : Type 0} (Is : Type 0) (tells : S → Wire → Type 0) (k : ℕ) (a b : Sockets W S) (l l' : Listening S) → a.listening ≡ Some l → b.listening ≡ Some l' → TableCloses tells k l.table l'.table → SocketsClose Is tells k a b
+sockets_close Is tells k a b l l' was now closes world links told is = (l', now, closes world links (told_table Is tells a l world was told).1 is)
+
+-- where no server listens no session is open
+pub none_close : {W S : Type 0} (Is : Type 0) (tells : S → Wire → Type 0) (k : ℕ) (a b : Sockets W S) → a.listening ≡ None → SocketsClose Is tells k a b
+none_close {W} {S} Is tells k a b none world links told is = absurd (by (subst (λ (o : Option (Listening S)). ListeningTells tells o world) none told.sessions))
+  where
+    by : ((j : ℕ) → world j ≡ None) → ⊥
+    by closed = no_links (sym (closed k) ∙ is)
+      where
+        no_links : None ≡ Some links → ⊥
+        no_links e = absurd (cc)

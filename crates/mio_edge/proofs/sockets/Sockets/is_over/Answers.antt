@@ -1,0 +1,22 @@
+use Rattle.std.proofs.Common.{[], None, Some, refl, sym, ap, subst}
+use Rattle.mio_edge.specs.Closing.{Winds, winds_nowhere}
+use Rattle.mio_edge.specs.Lines.{moves_nowhere}
+use Rattle.mio_edge.proofs.Turning.{sockets_turned}
+use Rattle.mio_edge.proofs.Winding.{sockets_moved}
+use Rattle.mio_edge.proofs.sockets.Sockets.is_over.Goals as goal
+
+pub returns-in-Some-clause-winds : goal.returns-in-Some-clause-winds
+returns-in-Some-clause-winds g c =
+    let t = g.W.Stream.Stream.tells in
+    let l = c.in-Some.listening in
+    let after = c.stop_accepting.new.self in
+    sockets_moved t c.args.self.now (record c.args.self.now { network = c.stop_accepting.new.network; listening = Some after }) l after c.in-Some.is refl
+    (subst (λ table. Winds t l.table.sessions table.sessions) (sym c.stop_accepting.ensures.table) (winds_nowhere t l.table.sessions))
+
+pub returns-in-Some-clause-turn : goal.returns-in-Some-clause-turn
+returns-in-Some-clause-turn g c =
+    let l = c.in-Some.listening in
+    let after = c.stop_accepting.new.self in
+    let same = c.stop_accepting.ensures.table in
+    sockets_turned g.W.Network.is_telling g.W.Stream.Stream.tells None c.args.self.now (record c.args.self.now { network = c.stop_accepting.new.network; listening = Some after }) l after c.in-Some.is refl
+    (λ world told. ([], moves_nowhere l.table after.table (ap (λ table. table.ready) same) (ap (λ table. table.behind) same) (ap (λ table. table.entries) same)))

@@ -1,0 +1,12 @@
+use Rattle.std.proofs.Common.{Some, refl}
+use Rattle.mio_edge.proofs.Winding.{sockets_told}
+use Rattle.mio_edge.proofs.Turning.{sockets_joined}
+use Rattle.mio_edge.proofs.sockets.Sockets.read.Goals as goal
+
+pub returns-in-Some-clause-winds : goal.returns-in-Some-clause-winds
+returns-in-Some-clause-winds g c =
+    let l = record c.in-Some.listening { table = c.read.new.self } in
+    sockets_told g.W.Network.is_telling g.W.Stream.Stream.tells c.args.self.now (record c.args.self.now { listening = Some l }) c.in-Some.listening l c.in-Some.is refl c.read.ensures.winds
+
+pub returns-in-Some-clause-joins : goal.returns-in-Some-clause-joins
+returns-in-Some-clause-joins g c = sockets_joined c.args.self.now (record c.args.self.now { listening = Some (record c.in-Some.listening { table = c.read.new.self }) }) c.in-Some.listening (record c.in-Some.listening { table = c.read.new.self }) c.in-Some.is refl c.read.ensures.joins
