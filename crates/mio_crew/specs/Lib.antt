@@ -1,0 +1,2 @@
+-- What is handed from one server to another.
+pub mod Handing
