@@ -46,6 +46,8 @@ use std::alloc::Global;
 /// does so over the fan for clients whose calls name their services, and leads each call to its service's target. `drill SEED COUNT`
 /// writes messages that are drawn from a number, and reports how long they are. `help` writes what the commands are.
 ///
+/// It serves in the calling thread over the one hub or fan, whatever number of threads the words give.
+///
 /// The first fault that is met ends the command; its count says whose it is. Where there is no memory for the words, nothing is done.
 pub fn run<I: Source, O: Sink, E: Sink, F: Files, H: Hub, G: Fan>(
     alloc: Global,

@@ -12,8 +12,8 @@ const HELP: &[u8] = b"usage: thrift_gate check|convert|show|serve|drill|help
 check FILE
 convert FROM TO [--idl FILE] [--service NAME] [--limit F] [--lines SIDE]
 show FROM [--idl FILE] [--service NAME] [--limit F] [--lines SIDE]
-serve CLIENT UPSTREAM LISTEN TARGET [--idl FILE] [--service NAME] [--limit F] [--sessions N] [--accept C] [--events E] [--calls P] [--unframed SIDE] [--front KIND] [--tell refused]
-route CLIENT UPSTREAM LISTEN TARGETS [--idl FILE] [--limit F] [--sessions N] [--accept C] [--events E] [--calls P] [--tell refused]
+serve CLIENT UPSTREAM LISTEN TARGET [--idl FILE] [--service NAME] [--limit F] [--sessions N] [--accept C] [--events E] [--calls P] [--unframed SIDE] [--front KIND] [--threads N] [--tell refused]
+route CLIENT UPSTREAM LISTEN TARGETS [--idl FILE] [--limit F] [--sessions N] [--accept C] [--events E] [--calls P] [--threads N] [--tell refused]
 conform FROM --idl FILE [--service NAME] [--limit F]
 drill SEED COUNT
 help

@@ -4,6 +4,9 @@
 //!
 //! Each command has a file of its own: `check`, `convert`, `show`, `conform`, `serve`, `route`, `drill`, `help`. A conversion, a showing and a
 //! check of messages go through a `stream` of frames, each of which is handled in `frame`.
+//!
+//! Where several servers share an address, who runs them calls what `run` calls for one: `prepare`, `serve_all` or `route_all`, and
+//! `halt` or `end_with` where there is nothing to serve.
 #![tactic(auto)]
 
 mod check;
@@ -33,4 +36,8 @@ pub use laws::{
     a_stopped_hub_was_served, a_stopped_posting_hub_was_served, a_stopped_wrapped_hub_was_served,
     help_is_written, messages_are_made,
 };
-pub use status::Status;
+pub use page::Page;
+pub use route::route_all;
+pub use serve::serve_all;
+pub use start::{NoStart, Start, halt, prepare};
+pub use status::{Ending, Status, end_with};

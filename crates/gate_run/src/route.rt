@@ -51,8 +51,8 @@ pub fn start_router<O: Sink, E: Sink, F: Files, G: Fan>(
     }
 }
 
-// Starts the fan, leads the calls of its sessions until it stops, and writes one line for each session.
-fn route_all<O: Sink, E: Sink, G: Fan>(
+/// Starts the fan, leads the calls of its sessions until it stops, and writes one line for each session.
+pub fn route_all<O: Sink, E: Sink, G: Fan>(
     alloc: Global,
     routing: &Routing,
     start: &Start,

@@ -1,3 +1,4 @@
 -- Lemmas.
 pub mod Reading
 pub mod Listing
+pub mod Sharing

@@ -12,7 +12,8 @@ use Rattle.gate_words.specs.Routing.{route_of}
 use Rattle.gate_words.specs.declared.command.Command.{Command}
 use Rattle.gate_words.specs.declared.command.Command.TheVariants as commands
 use Rattle.gate_words.specs.declared.options.Options.{Options}
-use Rattle.gate_words.specs.declared.limits.TheConstants.{DEFAULT_LIMIT, LEAST_LIMIT, GREATEST_LIMIT, MOST_SESSIONS, MOST_EVENTS, MOST_CALLS, MOST_MESSAGES}
+use Rattle.gate_words.specs.declared.serving.Serving.{Serving}
+use Rattle.gate_words.specs.declared.limits.TheConstants.{DEFAULT_LIMIT, LEAST_LIMIT, GREATEST_LIMIT, MOST_SESSIONS, MOST_EVENTS, MOST_CALLS, MOST_MESSAGES, MOST_THREADS}
 
 -- check FILE
 abbrev pub check_of : List (List ℕ) → Option Command
@@ -115,15 +116,21 @@ command (name ∷ rest) =
     else if is name (codes "help") then help_of rest
     else None
 
+-- the numbers of a server lie in their ranges, and each thread has a session at the least
+abbrev pub CanCount : Serving → Type 0
+CanCount s =
+    (s.limit ≤ GREATEST_LIMIT) × (1 ≤ s.sessions) × (s.sessions ≤ MOST_SESSIONS) × (1 ≤ s.events) × (s.events ≤ MOST_EVENTS) × (1 ≤ s.calls) × (s.calls ≤ MOST_CALLS) × (LEAST_LIMIT ≤ s.limit)
+    × (1 ≤ s.threads) × (s.threads ≤ MOST_THREADS) × (s.threads ≤ s.sessions)
+
 -- each number lies in its range, and where declarations are meant a file of them is named
 abbrev pub IsInRange : Command → Type 0
 IsInRange (commands.Check file) = ⊤
 IsInRange (commands.Convert k declared) = k.limit ≤ GREATEST_LIMIT
 IsInRange (commands.Show k declared) = k.limit ≤ GREATEST_LIMIT
-IsInRange (commands.Serve s declared) =
-    (s.limit ≤ GREATEST_LIMIT) × (1 ≤ s.sessions) × (s.sessions ≤ MOST_SESSIONS) × (1 ≤ s.events) × (s.events ≤ MOST_EVENTS) × (1 ≤ s.calls) × (s.calls ≤ MOST_CALLS) × (LEAST_LIMIT ≤ s.limit)
+IsInRange (commands.Serve s declared) = CanCount s
 IsInRange (commands.Route r declared) =
     (r.limit ≤ GREATEST_LIMIT) × (1 ≤ r.sessions) × (r.sessions ≤ MOST_SESSIONS) × (1 ≤ r.events) × (r.events ≤ MOST_EVENTS) × (1 ≤ r.calls) × (r.calls ≤ MOST_CALLS) × (LEAST_LIMIT ≤ r.limit)
+    × (1 ≤ r.threads) × (r.threads ≤ MOST_THREADS) × (r.threads ≤ r.sessions)
 IsInRange (commands.Conform k declared) = (k.limit ≤ GREATEST_LIMIT) × (is_some declared.idl ≡ true)
 IsInRange (commands.Drill k) = k.count ≤ MOST_MESSAGES
 IsInRange commands.Help = ⊤

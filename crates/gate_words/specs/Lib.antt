@@ -4,6 +4,7 @@ pub mod Protos
 pub mod Peers
 pub mod Lines
 pub mod Options
+pub mod Shares
 pub mod Serving
 pub mod Targets
 pub mod Routing

@@ -9,10 +9,10 @@ use Rattle.gate_words.specs.declared.lines.LineSides.{LineSides}
 use Rattle.gate_words.specs.declared.peers.Sides.{Sides}
 use Rattle.gate_words.specs.declared.peers.Front.{Front}
 use Rattle.gate_words.specs.declared.options.Options.{Options}
-use Rattle.gate_words.specs.declared.limits.TheConstants.{LEAST_LIMIT, GREATEST_LIMIT, MOST_SESSIONS, MOST_ACCEPTED, MOST_EVENTS, MOST_CALLS}
+use Rattle.gate_words.specs.declared.limits.TheConstants.{LEAST_LIMIT, GREATEST_LIMIT, MOST_SESSIONS, MOST_ACCEPTED, MOST_EVENTS, MOST_CALLS, MOST_THREADS}
 
 abbrev pub no_options : Options
-no_options = record { idl = None; service = None; limit = None; sessions = None; accept = None; events = None; calls = None; tells_refusals = false; unframed = None; front = None; lines = None }
+no_options = record { idl = None; service = None; limit = None; sessions = None; accept = None; events = None; calls = None; threads = None; tells_refusals = false; unframed = None; front = None; lines = None }
 
 -- the name of a file or a service isn't empty
 abbrev pub with_idl : Options → List ℕ → Option Options
@@ -72,6 +72,14 @@ set_calls o (Some calls) = Some (record o { calls = Some calls })
 abbrev pub with_calls : Options → List ℕ → Option Options
 with_calls o value = if is_some o.calls then None else set_calls o (within 1 MOST_CALLS (number_of value))
 
+-- the threads that serve
+abbrev pub set_threads : Options → Option ℕ → Option Options
+set_threads o None = None
+set_threads o (Some threads) = Some (record o { threads = Some threads })
+
+abbrev pub with_threads : Options → List ℕ → Option Options
+with_threads o value = if is_some o.threads then None else set_threads o (within 1 MOST_THREADS (number_of value))
+
 -- the word for frames that are refused
 unfoldable pub names_refusals : List ℕ → Bool
 names_refusals value = is value (codes "refused")
@@ -110,12 +118,13 @@ with_server_option o name value =
     else if is name (codes "--accept") then with_accept o value
     else if is name (codes "--events") then with_events o value
     else if is name (codes "--calls") then with_calls o value
+    else if is name (codes "--threads") then with_threads o value
     else if is name (codes "--tell") then with_tell o value
     else with_peers o name value
 
 -- whether one of these stands
 abbrev pub is_server_alone : Options → Bool
-is_server_alone o = is_some o.sessions || is_some o.accept || is_some o.events || is_some o.calls || o.tells_refusals || is_some o.unframed || is_some o.front
+is_server_alone o = is_some o.sessions || is_some o.accept || is_some o.events || is_some o.calls || is_some o.threads || o.tells_refusals || is_some o.unframed || is_some o.front
 
 -- whether an option stands that a router doesn't have
 abbrev pub is_for_one_upstream : Options → Bool
@@ -147,3 +156,4 @@ pub record IsInRange (o : Options) : Type 0 where
   pub accept : IfSome o.accept (λ n. n ≤ MOST_ACCEPTED)
   pub events : IfSome o.events (λ n. (1 ≤ n) × (n ≤ MOST_EVENTS))
   pub calls : IfSome o.calls (λ n. (1 ≤ n) × (n ≤ MOST_CALLS))
+  pub threads : IfSome o.threads (λ n. (1 ≤ n) × (n ≤ MOST_THREADS))

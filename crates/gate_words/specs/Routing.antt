@@ -1,18 +1,19 @@
 -- The command that routes.
-use Rattle.std.specs.Prelude.{ℕ, ◌+◌, ◌*◌, List, [], ◌∷◌, length, Option, Some, None, Bool, if◌then◌else◌, nat_le}
+use Rattle.std.specs.Prelude.{ℕ, ◌+◌, ◌*◌, ◌&&◌, List, [], ◌∷◌, length, Option, Some, None, Bool, if◌then◌else◌, nat_le}
 use Rattle.gate_fan.specs.declared.fan.Target.{Target}
 use Rattle.protocol_traits.specs.declared.proto.Proto.{Proto}
 use Rattle.gate_words.specs.Same.{or_else}
 use Rattle.gate_words.specs.Protos.{proto_of}
 use Rattle.peer_addresses.specs.Addresses.{can_listen_at}
 use Rattle.gate_words.specs.Options.{no_options, options_of, is_for_one_upstream}
+use Rattle.gate_words.specs.Shares.{share}
 use Rattle.gate_words.specs.Targets.{targets_of}
 use Rattle.gate_words.specs.declared.command.Command.{Command}
 use Rattle.gate_words.specs.declared.command.Command.TheVariants as commands
 use Rattle.gate_words.specs.declared.options.Options.{Options}
 use Rattle.gate_words.specs.declared.routing.Routing.{Routing}
 use Rattle.gate_words.specs.declared.routing.RouteEnds.{RouteEnds}
-use Rattle.gate_words.specs.declared.limits.TheConstants.{DEFAULT_LIMIT, DEFAULT_SESSIONS, DEFAULT_CALLS, MOST_EVENTS, MOST_HELD}
+use Rattle.gate_words.specs.declared.limits.TheConstants.{DEFAULT_LIMIT, DEFAULT_SESSIONS, DEFAULT_CALLS, DEFAULT_THREADS, MOST_EVENTS, MOST_HELD}
 use Rattle.gate_words.specs.declared.limits.TheConstants.{HELD_BY_PORT, BUFFER_BYTES, HELD_BY_ROUTER, ROUTED_CALL_BYTES, SESSION_BYTES}
 
 -- the most bytes that a session with so many targets holds: its ports are the client's and one for each target
@@ -23,6 +24,10 @@ routed_bytes targets limit calls =
 -- all sessions together hold at most so many bytes
 abbrev pub is_routed_within_memory : Routing → Bool
 is_routed_within_memory r = nat_le (r.sessions * routed_bytes (length r.targets) r.limit r.calls) MOST_HELD
+
+-- the same router with the sessions of one of so many threads
+abbrev pub routed_part_of : Routing → ℕ → ℕ → Routing
+routed_part_of r threads at = record r { sessions = share r.sessions threads at }
 
 abbrev pub routing_of : RouteEnds → Options → Routing
 routing_of ends o = record {
@@ -35,13 +40,19 @@ routing_of ends o = record {
   accept = or_else 0 o.accept;
   events = or_else MOST_EVENTS o.events;
   calls = or_else DEFAULT_CALLS o.calls;
+  threads = or_else DEFAULT_THREADS o.threads;
   tells_refusals = o.tells_refusals;
 }
 
+-- each thread has a session at the least
+abbrev pub has_enough_sessions : Routing → Bool
+has_enough_sessions r = nat_le r.threads r.sessions
+
 abbrev pub route_as : RouteEnds → Options → Option Command
 route_as ends o =
+    let r = routing_of ends o in
     if is_for_one_upstream o then None
-    else if is_routed_within_memory (routing_of ends o) then Some (commands.Route (routing_of ends o) (record { idl = o.idl; service = None }))
+    else if has_enough_sessions r && is_routed_within_memory r then Some (commands.Route r (record { idl = o.idl; service = None }))
     else None
 
 abbrev pub routed : RouteEnds → Option Options → Option Command

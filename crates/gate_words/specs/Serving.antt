@@ -7,6 +7,7 @@ use Rattle.gate_words.specs.Protos.{proto_of}
 use Rattle.gate_words.specs.Peers.{has_client, has_upstream, is_http, front_or_framed}
 use Rattle.peer_addresses.specs.Addresses.{can_listen_at, can_connect_to}
 use Rattle.gate_words.specs.Options.{no_options, options_of}
+use Rattle.gate_words.specs.Shares.{share}
 use Rattle.gate_words.specs.declared.command.Command.{Command}
 use Rattle.gate_words.specs.declared.command.Command.TheVariants as commands
 use Rattle.gate_words.specs.declared.options.Options.{Options}
@@ -15,7 +16,7 @@ use Rattle.gate_words.specs.declared.peers.Front.{Front}
 use Rattle.gate_words.specs.declared.peers.Front.TheVariants as fronts
 use Rattle.gate_words.specs.declared.serving.Ends.{Ends}
 use Rattle.gate_words.specs.declared.serving.Serving.{Serving}
-use Rattle.gate_words.specs.declared.limits.TheConstants.{DEFAULT_LIMIT, DEFAULT_SESSIONS, DEFAULT_CALLS, MOST_EVENTS, MOST_HELD}
+use Rattle.gate_words.specs.declared.limits.TheConstants.{DEFAULT_LIMIT, DEFAULT_SESSIONS, DEFAULT_CALLS, DEFAULT_THREADS, MOST_EVENTS, MOST_HELD}
 use Rattle.gate_words.specs.declared.limits.TheConstants.{HELD_FRAMES, CALL_BYTES, SESSION_BYTES, UNFRAMED_FRAMES, HEAD_BYTES}
 
 -- the most bytes that a session holds
@@ -62,6 +63,10 @@ wraps_twice s = has_client_and_http s.unframed s.front
 abbrev pub can_serve : Serving → Bool
 can_serve s = not (speaks_unframed_json s) && (not (wraps_twice s) && is_within_memory s)
 
+-- the same server with the sessions of one of so many threads
+abbrev pub part_of : Serving → ℕ → ℕ → Serving
+part_of s threads at = record s { sessions = share s.sessions threads at }
+
 abbrev pub serving_of : Ends → Options → Serving
 serving_of ends o = record {
   client = ends.client;
@@ -73,14 +78,22 @@ serving_of ends o = record {
   accept = or_else 0 o.accept;
   events = or_else MOST_EVENTS o.events;
   calls = or_else DEFAULT_CALLS o.calls;
+  threads = or_else DEFAULT_THREADS o.threads;
   tells_refusals = o.tells_refusals;
   unframed = o.unframed;
   front = front_or_framed o.front;
 }
 
+-- each thread has a session at the least
+abbrev pub has_enough_sessions : Serving → Bool
+has_enough_sessions s = nat_le s.threads s.sessions
+
 abbrev pub serve_as : Ends → Options → Option Command
 serve_as ends o =
-    if not (is_some o.lines) && can_serve (serving_of ends o) then Some (commands.Serve (serving_of ends o) (record { idl = o.idl; service = o.service })) else None
+    let s = serving_of ends o in
+    if is_some o.lines then None
+    else if has_enough_sessions s && can_serve s then Some (commands.Serve s (record { idl = o.idl; service = o.service }))
+    else None
 
 abbrev pub served : Ends → Option Options → Option Command
 served ends None = None

@@ -56,9 +56,9 @@ pub enum Command {
     Convert(Conversion, Declared),
     /// `show FROM [--idl FILE] [--service NAME] [--limit F] [--lines SIDE]`
     Show(Showing, Declared),
-    /// `serve CLIENT UPSTREAM LISTEN TARGET [--idl FILE] [--service NAME] [--limit F] [--sessions N] [--accept C] [--events E] [--calls P] [--unframed SIDE] [--front KIND] [--tell refused]`
+    /// `serve CLIENT UPSTREAM LISTEN TARGET [--idl FILE] [--service NAME] [--limit F] [--sessions N] [--accept C] [--events E] [--calls P] [--unframed SIDE] [--front KIND] [--threads N] [--tell refused]`
     Serve(Serving, Declared),
-    /// `route CLIENT UPSTREAM LISTEN TARGETS [--idl FILE] [--limit F] [--sessions N] [--accept C] [--events E] [--calls P] [--tell refused]`
+    /// `route CLIENT UPSTREAM LISTEN TARGETS [--idl FILE] [--limit F] [--sessions N] [--accept C] [--events E] [--calls P] [--threads N] [--tell refused]`
     Route(Routing, Declared),
     /// `conform FROM --idl FILE [--service NAME] [--limit F]`
     Conform(Conforming, Declared),

@@ -5,16 +5,21 @@
 #![tactic(auto)]
 
 mod command;
+mod laws;
 mod limits;
 mod lines;
 mod options;
 mod peers;
 mod routing;
 mod serving;
+mod shares;
 mod targets;
 
 pub use command::{Command, Conforming, Conversion, Drilling, Showing, read_command};
-pub use limits::{GREATEST_LIMIT, LEAST_LIMIT, MOST_CALLS, MOST_MESSAGES};
+pub use laws::the_parts_make_all_sessions;
+pub use limits::{
+    GREATEST_LIMIT, LEAST_LIMIT, MOST_CALLS, MOST_MESSAGES, MOST_SESSIONS, MOST_THREADS,
+};
 pub use options::Declared;
 pub use peers::{Front, Sides};
 pub use routing::Routing;

@@ -15,6 +15,12 @@ pub const MOST_SESSIONS: u32 = 1_024;
 /// The sessions at a time where the words give no number.
 pub const DEFAULT_SESSIONS: u32 = 32;
 
+/// The most threads that serve.
+pub const MOST_THREADS: u32 = 64;
+
+/// The threads that serve where the words give no number.
+pub const DEFAULT_THREADS: u32 = 1;
+
 /// The most calls of a session that are open at a time.
 pub const MOST_CALLS: u32 = 65_536;
 

@@ -1,9 +1,10 @@
 //! The options of a command.
 ghost use Rattle.std.specs.Prelude.{◌≡◌, ◌≤◌, IfOk, IfSome};
-ghost use Rattle.gate_words.specs.Options.{no_options, options_of, with_option, with_server_option, with_peers, with_idl, with_service, with_limit, with_sessions, with_accept, with_events, with_calls, with_tell, with_unframed, with_front, with_lines, limit_of, names_refusals, is_server_alone, is_for_one_upstream, IsInRange};
+ghost use Rattle.gate_words.specs.Options.{no_options, options_of, with_option, with_server_option, with_peers, with_idl, with_service, with_limit, with_sessions, with_accept, with_events, with_calls, with_threads, with_tell, with_unframed, with_front, with_lines, limit_of, names_refusals, is_server_alone, is_for_one_upstream, IsInRange};
 
 use crate::limits::{
     GREATEST_LIMIT, LEAST_LIMIT, MOST_ACCEPTED, MOST_CALLS, MOST_EVENTS, MOST_SESSIONS,
+    MOST_THREADS,
 };
 use crate::lines::{LineSides, read_line_sides};
 use crate::peers::{Front, Sides, read_front, read_sides};
@@ -28,6 +29,7 @@ pub struct Options {
     pub accept: Option<u64>,
     pub events: Option<u64>,
     pub calls: Option<u32>,
+    pub threads: Option<u32>,
     /// Whether each refusal is told.
     pub tells_refusals: bool,
     pub unframed: Option<Sides>,
@@ -48,6 +50,7 @@ impl Options {
             accept: None,
             events: None,
             calls: None,
+            threads: None,
             tells_refusals: false,
             unframed: None,
             front: None,
@@ -90,6 +93,8 @@ impl Options {
             self.with_events(value)
         } else if name == b"--calls".as_slice() {
             self.with_calls(value)
+        } else if name == b"--threads".as_slice() {
+            self.with_threads(value)
         } else if name == b"--tell".as_slice() {
             self.with_tell(value)
         } else {
@@ -239,6 +244,23 @@ impl Options {
         }
     }
 
+    fn with_threads(self, value: &[u8]) -> Option<Options>
+        requires range { IsInRange self }
+        ensures value { result ≡ with_threads self value.now }
+        ensures range { IfSome result IsInRange }
+    {
+        if self.threads.is_some() {
+            return None;
+        }
+        match number_within(1, MOST_THREADS as u64, value) {
+            Some(threads) => Some(Options {
+                threads: Some(threads as u32),
+                ..self
+            }),
+            None => None,
+        }
+    }
+
     fn with_tell(self, value: &[u8]) -> Option<Options>
         requires range { IsInRange self }
         ensures value { result ≡ with_tell self value.now }
@@ -295,6 +317,7 @@ impl Options {
             || self.accept.is_some()
             || self.events.is_some()
             || self.calls.is_some()
+            || self.threads.is_some()
             || self.tells_refusals
             || self.unframed.is_some()
             || self.front.is_some()

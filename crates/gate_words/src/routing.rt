@@ -2,14 +2,16 @@
 ghost use Rattle.std.specs.Prelude.{◌≡◌, ◌<◌, ◌≤◌, ◌^◌, IfOk, IfSome};
 ghost use Rattle.gate_words.specs.Commands.{IsInRange};
 ghost use Rattle.gate_words.specs.Options.{IsInRange as AreInRange};
-ghost use Rattle.gate_words.specs.Routing.{route_of, route_at, route_with, route_as, is_routed_within_memory, routed_bytes};
+ghost use Rattle.gate_words.specs.Routing.{route_of, route_at, route_with, route_as, routed_part_of, is_routed_within_memory, routed_bytes};
 
 use crate::command::{Command, proto};
 use crate::limits::{
-    BUFFER_BYTES, DEFAULT_CALLS, DEFAULT_LIMIT, DEFAULT_SESSIONS, HELD_BY_PORT, HELD_BY_ROUTER,
-    MOST_EVENTS, MOST_HELD, MOST_TARGETS, ROUTED_CALL_BYTES, SESSION_BYTES,
+    BUFFER_BYTES, DEFAULT_CALLS, DEFAULT_LIMIT, DEFAULT_SESSIONS, DEFAULT_THREADS, HELD_BY_PORT,
+    HELD_BY_ROUTER, MOST_EVENTS, MOST_HELD, MOST_SESSIONS, MOST_TARGETS, ROUTED_CALL_BYTES,
+    SESSION_BYTES,
 };
 use crate::options::{Declared, Options, read_options};
+use crate::shares::share;
 use crate::targets::{Targets, read_targets};
 use gate_base::{OutOfMemory, Text, Word};
 use peer_addresses::can_listen_at;
@@ -37,8 +39,35 @@ pub struct Routing {
     pub events: u64,
     /// The most open calls of a session.
     pub calls: u32,
+    /// The threads that serve, each its own part of the sessions.
+    pub threads: u32,
     /// Whether each refusal is told.
     pub tells_refusals: bool,
+}
+
+impl Routing {
+    /// The same router with the sessions of the thread at this place, counted from 0, where so many threads share them.
+    ///
+    /// `OutOfMemory`: the memory for a copy of the addresses was not found.
+    pub fn part_of(&self, alloc: Global, threads: usize, at: usize) -> Result<Routing, OutOfMemory>
+        requires some { 0 < threads }
+        requires few { self.now.sessions ≤ MOST_SESSIONS }
+        ensures { IfOk result (λ part. part ≡ routed_part_of self.now threads at) }
+    {
+        Ok(Routing {
+            client: self.client,
+            upstream: self.upstream,
+            listen: Text::new(alloc, self.listen.as_slice())?,
+            targets: self.targets.copy(alloc)?,
+            limit: self.limit,
+            sessions: share(self.sessions, threads, at),
+            accept: self.accept,
+            events: self.events,
+            calls: self.calls,
+            threads: self.threads,
+            tells_refusals: self.tells_refusals,
+        })
+    }
 }
 
 /// The address and targets of a router, and the protocols on both sides.
@@ -131,13 +160,14 @@ fn route_as(ends: RouteEnds, options: Options) -> Option<Command>
         accept: options.accept.unwrap_or(0),
         events: options.events.unwrap_or(MOST_EVENTS),
         calls: options.calls.unwrap_or(DEFAULT_CALLS),
+        threads: options.threads.unwrap_or(DEFAULT_THREADS),
         tells_refusals: options.tells_refusals,
     };
     let declared = Declared {
         idl: options.idl,
         service: None,
     };
-    if is_within_memory(&routing) {
+    if routing.threads <= routing.sessions && is_within_memory(&routing) {
         Some(Command::Route(routing, declared))
     } else {
         None

@@ -1,17 +1,18 @@
 //! The command that serves.
-ghost use Rattle.std.specs.Prelude.{◌≡◌, ◌<◌, ◌^◌, IfOk, IfSome};
-ghost use Rattle.gate_words.specs.Commands.{IsInRange};
+ghost use Rattle.std.specs.Prelude.{◌≡◌, ◌<◌, ◌≤◌, ◌^◌, IfOk, IfSome};
+ghost use Rattle.gate_words.specs.Commands.{IsInRange, CanCount};
 ghost use Rattle.gate_words.specs.Options.{IsInRange as AreInRange};
-ghost use Rattle.gate_words.specs.Serving.{serve_of, serve_at, serve_with, serve_as, can_serve, speaks_unframed_json, wraps_twice, is_within_memory, session_bytes, unframed_bytes, http_bytes};
+ghost use Rattle.gate_words.specs.Serving.{serve_of, serve_at, serve_with, serve_as, serving_of, part_of, can_serve, speaks_unframed_json, wraps_twice, is_within_memory, session_bytes, unframed_bytes, http_bytes};
 
 use crate::command::{Command, proto};
 use crate::limits::{
-    CALL_BYTES, DEFAULT_CALLS, DEFAULT_LIMIT, DEFAULT_SESSIONS, HEAD_BYTES, HELD_FRAMES,
-    MOST_EVENTS, MOST_HELD, SESSION_BYTES, UNFRAMED_FRAMES,
+    CALL_BYTES, DEFAULT_CALLS, DEFAULT_LIMIT, DEFAULT_SESSIONS, DEFAULT_THREADS, HEAD_BYTES,
+    HELD_FRAMES, MOST_EVENTS, MOST_HELD, MOST_SESSIONS, SESSION_BYTES, UNFRAMED_FRAMES,
 };
 use crate::lines::is_json;
 use crate::options::{Declared, Options, read_options};
 use crate::peers::{Front, Sides};
+use crate::shares::share;
 use gate_base::{OutOfMemory, Text, Word};
 use peer_addresses::{can_connect_to, can_listen_at};
 use protocol_traits::Proto;
@@ -38,12 +39,41 @@ pub struct Serving {
     pub events: u64,
     /// The most open calls of a session.
     pub calls: u32,
+    /// The threads that serve, each its own part of the sessions.
+    pub threads: u32,
     /// Whether each refusal is told.
     pub tells_refusals: bool,
     /// The sides whose messages stand in no frames.
     pub unframed: Option<Sides>,
     /// What the clients wrap each message in.
     pub front: Front,
+}
+
+impl Serving {
+    /// The same server with the sessions of the thread at this place, counted from 0, where so many threads share them.
+    ///
+    /// `OutOfMemory`: the memory for a copy of the addresses was not found.
+    pub fn part_of(&self, alloc: Global, threads: usize, at: usize) -> Result<Serving, OutOfMemory>
+        requires some { 0 < threads }
+        requires few { self.now.sessions ≤ MOST_SESSIONS }
+        ensures { IfOk result (λ part. part ≡ part_of self.now threads at) }
+    {
+        Ok(Serving {
+            client: self.client,
+            upstream: self.upstream,
+            listen: Text::new(alloc, self.listen.as_slice())?,
+            target: Text::new(alloc, self.target.as_slice())?,
+            limit: self.limit,
+            sessions: share(self.sessions, threads, at),
+            accept: self.accept,
+            events: self.events,
+            calls: self.calls,
+            threads: self.threads,
+            tells_refusals: self.tells_refusals,
+            unframed: self.unframed,
+            front: self.front,
+        })
+    }
 }
 
 /// The addresses of a server, and the protocols on both sides.
@@ -116,8 +146,28 @@ fn serve_as(ends: Ends, options: Options) -> Option<Command>
     ensures value { result ≡ serve_as ends options }
     ensures range { IfSome result IsInRange }
 {
-    let has_lines = options.lines.is_some();
-    let serving = Serving {
+    if options.lines.is_some() {
+        return None;
+    }
+    let serving = serving_of(ends, &options);
+    let declared = Declared {
+        idl: options.idl,
+        service: options.service,
+    };
+    if serving.threads <= serving.sessions && can_serve(&serving) {
+        Some(Command::Serve(serving, declared))
+    } else {
+        None
+    }
+}
+
+// The server between these ends, with what stands where an option is missing.
+fn serving_of(ends: Ends, options: &Options) -> Serving
+    requires range { AreInRange options.now }
+    ensures value { result ≡ serving_of ends options.now }
+    ensures range { result.threads ≤ result.sessions → CanCount result }
+{
+    Serving {
         client: ends.client,
         upstream: ends.upstream,
         listen: ends.listen,
@@ -127,18 +177,10 @@ fn serve_as(ends: Ends, options: Options) -> Option<Command>
         accept: options.accept.unwrap_or(0),
         events: options.events.unwrap_or(MOST_EVENTS),
         calls: options.calls.unwrap_or(DEFAULT_CALLS),
+        threads: options.threads.unwrap_or(DEFAULT_THREADS),
         tells_refusals: options.tells_refusals,
         unframed: options.unframed,
         front: options.front.unwrap_or(Front::Framed),
-    };
-    let declared = Declared {
-        idl: options.idl,
-        service: options.service,
-    };
-    if !has_lines && can_serve(&serving) {
-        Some(Command::Serve(serving, declared))
-    } else {
-        None
     }
 }
 

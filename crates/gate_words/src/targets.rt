@@ -36,6 +36,36 @@ impl Targets {
     {
         self.list.as_slice()
     }
+
+    /// A copy of them.
+    ///
+    /// `OutOfMemory`: the memory for it was not found.
+    pub fn copy(&self, alloc: Global) -> Result<Targets, OutOfMemory>
+        ensures { IfOk result (λ targets. targets ≡ self.now) }
+    {
+        let list = copied(alloc, self.list.as_slice())?;
+        Ok(Targets { list })
+    }
+}
+
+// A copy of some targets.
+fn copied(alloc: Global, targets: &[Target]) -> Result<Vec<Target>, OutOfMemory>
+    ensures { IfOk result (λ copy. copy.items ≡ targets.now) }
+{
+    let mut copy = Vec::new(alloc);
+    for target in targets {
+        copy.push(copied_one(alloc, target)?)?;
+    }
+    Ok(copy)
+}
+
+// A copy of a target.
+fn copied_one(alloc: Global, target: &Target) -> Result<Target, OutOfMemory>
+    ensures { IfOk result (λ copy. copy ≡ target.now) }
+{
+    let service = Text::new(alloc, target.service.as_slice())?;
+    let address = Text::new(alloc, target.address.as_slice())?;
+    Ok(Target { service, address })
 }
 
 /// The targets that a word spells, or that it spells none: 1 to 16, each with a name of its own.

@@ -6,14 +6,14 @@ use Rattle.protocol_traits.specs.declared.proto.Proto.{Proto}
 use Rattle.peer_addresses.specs.Addresses.{can_listen_at, can_connect_to}
 use Rattle.gate_words.specs.Commands.{command, check_of, convert_of, convert_between, converted, show_of, show_from, shown, conform_of, conform_from, conformed, drill_of, drill_as, help_of}
 use Rattle.decimal_words.specs.Numbers.{number_of, within}
-use Rattle.gate_words.specs.Options.{no_options, is_for_one_upstream, set_limit, limit_of, set_sessions, set_accept, set_events, set_calls, set_unframed, set_front, set_lines, names_refusals, with_server_option, with_peers, with_option, and_then, options_of, is_server_alone}
+use Rattle.gate_words.specs.Options.{no_options, is_for_one_upstream, set_limit, limit_of, set_sessions, set_accept, set_events, set_calls, set_threads, set_unframed, set_front, set_lines, names_refusals, with_server_option, with_peers, with_option, and_then, options_of, is_server_alone}
 use Rattle.gate_words.specs.Protos.{proto_of}
 use Rattle.gate_words.specs.Routing.{route_of, route_between, route_at, route_to, routed}
 use Rattle.gate_words.specs.Targets.{targets_of}
 use Rattle.gate_fan.specs.declared.fan.Target.{Target}
 use Rattle.decimal_words.specs.Same.{is}
 use Rattle.gate_words.specs.Same.{is_empty, or_else}
-use Rattle.gate_words.specs.Serving.{serve_of, serve_between, serve_at, served, serving_of, can_serve, wraps_twice}
+use Rattle.gate_words.specs.Serving.{serve_of, serve_between, serve_at, served, serving_of, has_enough_sessions, can_serve, wraps_twice}
 use Rattle.gate_words.specs.Lines.{can_convert, can_show}
 use Rattle.gate_words.specs.declared.command.Command.TheVariants as commands
 use Rattle.gate_words.specs.declared.lines.LineSides.{LineSides}
@@ -37,9 +37,9 @@ second_of_three a false c e = refl
 second_of_three true true c e = absurd (cc)
 second_of_three false true c e = absurd (cc)
 
-third_of_four : (l a b c : Bool) → (not l && (not a && (not b && c))) ≡ true → b ≡ false
-third_of_four true a b c e = absurd (cc)
-third_of_four false a b c e = second_of_three a b c e
+third_of_four : (w a b c : Bool) → (w && (not a && (not b && c))) ≡ true → b ≡ false
+third_of_four false a b c e = absurd (cc)
+third_of_four true a b c e = second_of_three a b c e
 
 none_is : {X : Type 0} {P : Type 0} (v : X) → None ≡ Some v → P
 none_is v e = absurd (cc)
@@ -85,6 +85,10 @@ called : (o new : Options) (found : Option ℕ) → ((n : ℕ) → found ≡ Som
 called o new None some e p = absurd (cc)
 called o new (Some n) some e p = some_same (record o { calls = Some n }) new e (p.0, some n refl)
 
+threaded : (o new : Options) (found : Option ℕ) → set_threads o found ≡ Some new → IsBounded o → IsBounded new
+threaded o new None e p = absurd (cc)
+threaded o new (Some n) e p = some_same (record o { threads = Some n }) new e p
+
 wrapped : (o new : Options) (found : Option Sides) → set_unframed o found ≡ Some new → IsBounded o → IsBounded new
 wrapped o new None e p = absurd (cc)
 wrapped o new (Some sides) e p = some_same (record o { unframed = Some sides }) new e p
@@ -116,13 +120,15 @@ one_option o new name value e p =
     (by_test (IsBounded new) (is_some o.events) None _ new (none_is new) (λ f. spent o new _ f p))
     (by_test (IsBounded new) (is name (codes "--calls")) _ _ new
     (by_test (IsBounded new) (is_some o.calls) None _ new (none_is new) (λ f. called o new _ (λ n g. omega (arith, (within_is _ _ (number_of value) n g).0)) f p))
+    (by_test (IsBounded new) (is name (codes "--threads")) _ _ new
+    (by_test (IsBounded new) (is_some o.threads) None _ new (none_is new) (λ f. threaded o new _ f p))
     (by_test (IsBounded new) (is name (codes "--tell")) _ _ new
     (by_test (IsBounded new) (o.tells_refusals || not (names_refusals value)) None _ new (none_is new) (λ f. some_same (record o { tells_refusals = true }) new f p))
     (by_test (IsBounded new) (is name (codes "--unframed")) _ _ new
     (by_test (IsBounded new) (is_some o.unframed) None _ new (none_is new) (λ f. wrapped o new _ f p))
     (by_test (IsBounded new) (is name (codes "--front")) _ None new
     (by_test (IsBounded new) (is_some o.front) None _ new (none_is new) (λ f. fronted o new _ f p))
-    (none_is new))))))))))) e
+    (none_is new)))))))))))) e
 
 all_options : (words : List (List ℕ)) (o new : Options) → options_of o words ≡ Some new → IsBounded o → IsBounded new
 all_options [] o new e p = some_same o new e p
@@ -151,10 +157,12 @@ served_small : (client upstream : Proto) (listen target : List ℕ) (found : Opt
     → served (record { client = client; upstream = upstream; listen = listen; target = target }) found ≡ Some (commands.Serve s d) → IsSmall s
 served_small client upstream listen target None s d p e = absurd (cc)
 served_small client upstream listen target (Some o) s d p e =
-    by_true (IsSmall s) (not (is_some o.lines) && can_serve (serving_of (record { client = client; upstream = upstream; listen = listen; target = target }) o)) _ None (commands.Serve s d)
-    (λ can f. subst IsSmall (serving_is _ s _ d f)
+    let it = serving_of (record { client = client; upstream = upstream; listen = listen; target = target }) o in
+    by_test (IsSmall s) (is_some o.lines) None _ (commands.Serve s d) (none_is (commands.Serve s d))
+    (by_true (IsSmall s) (has_enough_sessions it && can_serve it) _ None (commands.Serve s d)
+    (λ can f. subst IsSmall (serving_is it s _ d f)
     (or_bounded IsLimit _ o.limit (omega arith, omega arith) p.0, or_bounded (λ n. 0 < n) _ o.calls (omega arith) p.1, third_of_four _ _ _ _ can))
-    (none_is (commands.Serve s d)) e
+    (none_is (commands.Serve s d))) e
 
 bounded_options : (words : List (List ℕ)) (found : Option Options) → options_of no_options words ≡ found → IfSome found IsBounded
 bounded_options words None e = tt
