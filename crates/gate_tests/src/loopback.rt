@@ -1,13 +1,22 @@
-//! The command `serve` over real sockets, in one process with its client and its upstream.
-use crate::outside::{Ending, Outside, was_written, with_input, words_of};
+//! The command `serve` over real sockets, in one process with its clients and its upstream, in one thread and in several.
+ghost use Rattle.gate_words.specs.Commands.{IsInRange};
+ghost use Rattle.gate_words.specs.declared.command.Command.TheVariants.{Serve};
+
+use crate::outside::{Ending, Outside, none, was_written, with_input, words_of};
 use crate::serving::{ANSWERS, CALLS, REPLIES};
-use gate_base::{OutOfMemory, Word};
+use crew_server::{Worker, serve_crew};
+use gate_base::{OutOfMemory, Text, Word};
+use gate_memory::{MemFiles, MemSink};
 use gate_run::run;
+use gate_words::{Command, Declared, Serving, read_command};
+use mio_crew::{Bell, CrewNetwork, Member, open_crew};
 use mio_edge::{MioFan, MioHub};
 use std::alloc::Global;
 use std::io::{ErrorKind, Read, Write};
 use std::net::{Net, Shutdown, SocketAddr, TcpListener, TcpStream};
+use std::sync::Arc;
 use std::test::*;
+use std::thread::Threads;
 use std::{io, thread};
 
 /// The client tries so often to connect.
@@ -68,6 +77,70 @@ fn serve<N: Net>(net: &N, alloc: Global, line: &[u8]) -> Result<u8, OutOfMemory>
     let words = words_of(alloc, line)?;
     let mut outside = with_input(alloc, b"")?;
     Ok(serve_over(net, alloc, &words, &mut outside))
+}
+
+/// A worker over real sockets.
+type Hand<'n, N> = Worker<MioHub<CrewNetwork<'n, N>>, MemSink, Bell>;
+
+fn hire<'n, N: Net>(
+    alloc: Global,
+    members: Vec<Member<'n, N>>,
+    crew: &mut Vec<Hand<'n, N>>,
+) -> Result<(), OutOfMemory> {
+    for member in members {
+        let hub = MioHub::over(member.network);
+        let output = MemSink::new(alloc, 64, none(alloc))?;
+        crew.push(Worker::new(alloc, hub, output, member.exit)?)?;
+    }
+    Ok(())
+}
+
+/// Serves in as many threads as the words say, and gives the status: that of a hub fault where the system refuses a poll.
+fn serve_in_threads<R: Threads + Sync>(
+    rt: &HostRuntime,
+    starter: &R,
+    serving: &Serving,
+    declared: &Declared,
+) -> Result<u8, OutOfMemory>
+    requires { IsInRange (Serve serving.now declared.now) }
+{
+    let alloc = rt.alloc();
+    let target = [Text::new(alloc, serving.target.as_slice())?];
+    let Some(members) = open_crew(rt, alloc, serving.threads as usize, &target)? else {
+        return Ok(7);
+    };
+    let mut crew = Vec::new(alloc);
+    hire(alloc, members, &mut crew)?;
+    let mut files = MemFiles::new(alloc, none(alloc))?;
+    let mut report = MemSink::new(alloc, 64, none(alloc))?;
+    Ok(
+        serve_crew(
+            starter,
+            alloc,
+            serving,
+            declared,
+            &mut files,
+            &mut report,
+            &mut crew,
+        )
+        .code,
+    )
+}
+
+/// The same of the server of a line.
+fn serve_line<R: Threads + Sync>(
+    rt: &HostRuntime,
+    starter: &R,
+    line: &[u8],
+) -> Result<u8, OutOfMemory> {
+    let words = words_of(rt.alloc(), line)?;
+    let command = read_command(rt.alloc(), &words)?;
+    match &command {
+        Some(Command::Serve(serving, declared)) => {
+            serve_in_threads(rt, starter, serving, declared)
+        }
+        _ => Ok(2),
+    }
 }
 
 /// Connects once the server listens.
@@ -157,5 +230,32 @@ fn a_name_that_nobody_knows_is_told(rt: HostRuntime) -> Result<(), Fail> {
     let code = serve_over(&rt, rt.alloc(), &words, &mut outside);
     assert_eq!(rt; code, UNFOUND.code);
     assert!(rt; was_written(&outside, &UNFOUND));
+    Ok(())
+}
+
+#[test]
+fn three_threads_over_loopback(rt: HostRuntime) -> Result<(), Fail> {
+    let upstream = TcpListener::bind(&rt, SocketAddr::from(([127, 0, 0, 1], 0)))?;
+    let target = upstream.local_addr()?;
+    let listen = free_address(&rt)?;
+    let line = format!(in rt.alloc();
+        "serve compact json {listen} {target} --accept 3 --threads 3"
+    )?;
+    let upstream = Arc::new(rt.alloc(), upstream)?;
+    for _ in 0..3 {
+        let listener = Arc::try_clone(&upstream)?;
+        thread::spawn(&rt, move || answer(&listener).is_ok())?;
+    }
+    thread::spawn(&rt, move || serve_line(&rt, &rt, line.as_bytes()).is_ok())?;
+    let mut streams = [
+        connect(&rt, listen)?,
+        connect(&rt, listen)?,
+        connect(&rt, listen)?,
+    ];
+    for stream in &mut streams {
+        let mut answers = [0; 52];
+        assert!(rt; ask(stream, &mut answers)?);
+        assert_eq!(rt; answers, ANSWERS);
+    }
     Ok(())
 }

@@ -115,7 +115,7 @@ fn calls_go_to_the_target_of_their_service(rt: HostRuntime) -> Result<(), Fail> 
 }
 
 /// Whether a line is no command.
-fn is_usage(alloc: Global, line: &[u8]) -> Result<bool, OutOfMemory> {
+pub fn is_usage(alloc: Global, line: &[u8]) -> Result<bool, OutOfMemory> {
     let mut outside = with_input(alloc, b"")?;
     Ok(run_line(alloc, line, &mut outside)? == 2)
 }

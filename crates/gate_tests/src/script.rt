@@ -47,7 +47,8 @@ fn step_of(alloc: Global, act: &Act<'_>) -> Result<HubStep, OutOfMemory> {
     })
 }
 
-fn steps_of(alloc: Global, acts: &[Act<'_>]) -> Result<HubSteps, OutOfMemory> {
+/// The steps of a hub in memory that does these acts.
+pub fn steps_of(alloc: Global, acts: &[Act<'_>]) -> Result<HubSteps, OutOfMemory> {
     let mut steps = HubSteps::new(alloc);
     for act in acts {
         steps.push(step_of(alloc, act)?)?;

@@ -2,9 +2,13 @@
 //! that `run` answers.
 #![tactic(auto)]
 
+mod threads;
+
+use crate::threads::{route_in_threads, serve_in_threads};
 use gate_base::{OutOfMemory, Word};
 use gate_io::{DiskFiles, Sink, StdSink, StdSource};
-use gate_run::run;
+use gate_run::{Status, run};
+use gate_words::{Command, read_command};
 use mio_edge::{MioFan, MioHub};
 use std::alloc::Global;
 use std::env::Env;
@@ -12,6 +16,7 @@ use std::fs::File;
 use std::io;
 use std::process::ExitCode;
 use std::rt::Files;
+use std::thread::Threads;
 
 /// The longest word that the system hands to a program, in bytes.
 const LONGEST_WORD: usize = 131_072;
@@ -23,7 +28,7 @@ const FOLDER: &str = "/";
 const NO_MEMORY: u8 = 9;
 
 fn main(rt: HostRuntime) -> ExitCode {
-    match run_words(&rt) {
+    match run_words(&rt, &rt) {
         Ok(code) => ExitCode::from(code),
         Err(OutOfMemory) => {
             let _ = StdSink::new(rt.stderr()).write(b"no memory\n");
@@ -32,28 +37,42 @@ fn main(rt: HostRuntime) -> ExitCode {
     }
 }
 
-// Runs the command over the files of the disk and the real sockets.
-fn run_words(rt: &HostRuntime) -> Result<u8, OutOfMemory> {
+// Does what the words say, in as many threads as they give. `starter` makes them.
+fn run_words<R: Threads + Sync>(rt: &HostRuntime, starter: &R) -> Result<u8, OutOfMemory> {
     let _held = hold_streams(rt);
     let alloc = rt.alloc();
     let words = read_words(rt, alloc)?;
+    let command = read_command(alloc, &words)?;
+    let status = match &command {
+        Some(Command::Serve(serving, declared)) if serving.threads > 1 => {
+            serve_in_threads(rt, starter, serving, declared)?
+        }
+        Some(Command::Route(routing, declared)) if routing.threads > 1 => {
+            route_in_threads(rt, starter, routing, declared)?
+        }
+        _ => run_alone(rt, alloc, &words),
+    };
+    Ok(status.code)
+}
+
+// Runs the command in this thread, over the files of the disk and the real sockets.
+fn run_alone(rt: &HostRuntime, alloc: Global, words: &[Word]) -> Status {
     let mut files = DiskFiles::new(rt);
     let mut hub = MioHub::new(rt);
     let mut fan = MioFan::new(rt);
     let mut input = StdSource::new(rt.stdin());
     let mut output = StdSink::new(rt.stdout());
     let mut report = StdSink::new(rt.stderr());
-    let status = run(
+    run(
         alloc,
-        &words,
+        words,
         &mut files,
         &mut input,
         &mut output,
         &mut report,
         &mut hub,
         &mut fan,
-    );
-    Ok(status.code)
+    )
 }
 
 // Opens a folder once for each standard stream, so that one that was closed has it: to read it or to write to it is a fault.
