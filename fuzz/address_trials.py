@@ -1,9 +1,9 @@
 #!/usr/bin/env python3
 """Tries the addresses of a running gateway: those of IPv6, and names, known and unknown.
 
-    address_trials.py [TRIAL..]
+    address_trials.py [--threads N] [TRIAL..]
 
-Without names all trials are run, in some seconds. Each starts
+Without names all trials are run, in some seconds. With N each gateway has so many threads. Each starts
 
     crates/thrift_gate/out/thrift_gate serve binary binary LISTEN TARGET --accept 1
 
@@ -74,7 +74,7 @@ def running(words: List[str], before: Optional[List[str]] = None) -> Iterator[su
 def carries(listen: str, host: str, target: str, before: Optional[List[str]] = None) -> None:
     """A gateway at LISTEN, which has the place of a port in it, carries a hundred calls to TARGET."""
     port = free_port(host)
-    with running(["serve", "binary", "binary", listen % port, target, "--accept", "1"], before) as gate:
+    with running(["serve", "binary", "binary", listen % port, target, "--accept", "1"] + trials.thread_words(), before) as gate:
         with connect(host, port) as stream:
             trials.ask(stream, calls(0, 100))
         said, told = gate.communicate(timeout=20)

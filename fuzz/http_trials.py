@@ -1,9 +1,9 @@
 #!/usr/bin/env python3
 """Tries how a gateway with an HTTP front treats clients that send what they should not.
 
-    http_trials.py [TRIAL..]
+    http_trials.py [--threads N] [TRIAL..]
 
-Without names all trials are run, in a minute. Each starts a gateway from Binary to Binary with a limit of 1,024 bytes,
+Without names all trials are run, in a minute. With N each gateway has so many threads. Each starts a gateway from Binary to Binary with a limit of 1,024 bytes,
 
     crates/thrift_gate/out/thrift_gate serve binary binary LISTEN TARGET --limit 1024 --front http ..
 
@@ -335,8 +335,7 @@ def endless_body() -> str:
 
 def all_lines(one: Front, count: int) -> List[str]:
     """The lines of so many clients."""
-    one.gate.wait_for_line(r"session %d: .*" % count)
-    lines = one.gate.lines()
+    lines = one.gate.wait_for_lines(count)
     want(len(lines) == count, "%d lines for %d clients" % (len(lines), count))
     return lines
 

@@ -1,9 +1,10 @@
 #!/usr/bin/env python3
 """Tries how a running gateway treats its connections: idle, busy, slow, broken and too many ones.
 
-    hub_trials.py [--command COMMAND] [--seconds SECONDS] [TRIAL..]
+    hub_trials.py [--command COMMAND] [--seconds SECONDS] [--threads N] [TRIAL..]
 
-Without names all trials are run, in some three minutes; SECONDS, 60 by default, is how long a client sends without a pause. Each starts a gateway from Binary to Binary, as
+Without names all trials are run, in some three minutes; SECONDS, 60 by default, is how long a client sends without a pause. With N each gateway has so many
+threads, but for one of fewer sessions. Each trial starts a gateway from Binary to Binary, as
 
     crates/thrift_gate/out/thrift_gate serve binary binary LISTEN TARGET --accept C --sessions N --limit 1024
 
@@ -25,17 +26,17 @@ import sys
 import tempfile
 import threading
 import time
-from typing import Callable, Dict, Iterator
+from typing import Callable, Dict, Iterator, List
 
 import trials
-from trials import COMMAND, HOST, Failed, Gateway, answers, ask, call, calls, free_port, read_bytes, read_to_end, timed, want
+from trials import COMMAND, HOST, Failed, Gateway, answers, are_usage, ask, call, calls, free_port, gets, read_bytes, read_to_end, timed, want
 
 MOST_FILES = 8192
 
 
 @contextlib.contextmanager
 def gateway(*serve: Callable[[socket.socket], None], **kept) -> Iterator[Gateway]:
-    with trials.gateway(*serve, command=options.command, **kept) as gate:
+    with trials.gateway(*serve, **{"command": options.command, **kept}) as gate:
         yield gate
 
 
@@ -124,7 +125,7 @@ def random_bytes() -> str:
             if number % 50 == 0:
                 ask(other, calls(number, 100))
         ask(other, calls(0, 100))
-        lines = gate.lines()
+        lines = gate.wait_for_lines(count - 1)
         good = re.compile(r"session \d+: (client fault: frame \d+: (length -?\d+|at \d+: G\d+ [\w ]+|wrong way|ended inside)|link fault: client)")
         odd = [line for line in lines if not good.fullmatch(line)]
         want(not odd, "such lines: %s" % odd[:3])
@@ -256,13 +257,15 @@ def without_pause() -> str:
 
 def few_descriptors() -> str:
     """A lack of descriptors ends nothing: connections wait, and are served later."""
-    with gateway(sessions=100, files=24) as gate:
+    # Several threads may accept more connections at once than there are descriptors left for their upstreams.
+    fewest = 5 if options.threads == 1 else -1
+    with gateway(sessions=100, files=22 + 2 * options.threads) as gate:
         streams, served = [gate.connect(1) for _ in range(20)], []
         for stream in streams:
             with contextlib.suppress(OSError, Failed):
                 ask(stream, call(1))
                 served.append(stream)
-        want(gate.runs() and len(served) > 5, "%d were served" % len(served))
+        want(gate.runs() and len(served) > fewest, "%d were served" % len(served))
         for stream in served:
             stream.close()
         later = 0
@@ -271,13 +274,17 @@ def few_descriptors() -> str:
                 with contextlib.suppress(OSError, Failed):
                     stream.settimeout(3)
                     later += read_bytes(stream, len(call(1))) == answers(call(1))
-        want(gate.runs() and later > 5, "%d more were served" % later)
+        want(gate.runs() and later > fewest, "%d more were served" % later)
+        for stream in streams:
+            stream.close()
+        come_in(gate)
     return "%d of 20 were served at once, %d more when these had left" % (len(served), later)
 
 
 def no_connection_left() -> str:
     """A client that opens connections until none is left holds up no session that is open."""
-    with gateway(sessions=1024, files=100) as gate:
+    files = 98 + 2 * options.threads
+    with gateway(sessions=1024, files=files) as gate:
         other = gate.connect()
         ask(other, call(1))
         crowd, refused = [], 0
@@ -297,14 +304,14 @@ def no_connection_left() -> str:
         waited = timed(lambda: come_in(gate))
         ask(other, calls(0, 10))
         want(gate.runs(), "it ended")
-    return "%d connections stood before 100 descriptors; 1,000 calls beside them took %.2f s, and one came in %.1f s after they had left" % (
-        len(crowd), beside, waited)
+    return "%d connections stood before %d descriptors; 1,000 calls beside them took %.2f s, and one came in %.1f s after they had left" % (
+        len(crowd), files, beside, waited)
 
 
 def too_many() -> str:
     """A connection beyond the sessions is closed at once, and a place that is free again is given away."""
-    with gateway(sessions=2) as gate:
-        streams = [gate.connect() for _ in range(2)]
+    with gateway(sessions=2 * options.threads) as gate:
+        streams = [gate.connect() for _ in range(2 * options.threads)]
         for stream in streams:
             ask(stream, call(1))
         for _ in range(100):
@@ -315,7 +322,9 @@ def too_many() -> str:
             want(read_to_end(stream) == b"", "bytes came")
         streams[0].shutdown(socket.SHUT_WR)
         want(read_to_end(streams[0]) == b"", "bytes came")
-        ask(gate.connect(), call(2))
+        come_in(gate)
+        turned_away = [line for line in gate.lines() if line.endswith(": full")]
+        want(len(turned_away) >= 120 and (options.threads > 1 or len(turned_away) == 120), "%d were told `full`" % len(turned_away))
     return "120 were turned away, and one came in when another had left"
 
 
@@ -389,6 +398,110 @@ def closed_streams() -> str:
     return "a folder has their place, no peer got a line, and it ended with status 5"
 
 
+def all_answer(streams: List[socket.socket]) -> None:
+    for stream in streams:
+        ask(stream, call(1))
+
+
+def even_spread() -> str:
+    """A thousand connections within a second are spread over all threads, also when half of them have left and others came: the fullest
+    has at most a fifth more than the mean."""
+    count, source, fullest = 1000, random.Random(4), []
+    with gateway(sessions=1024) as gate:
+        before, streams = gate.watched(), []
+
+        def sessions_of_threads() -> List[int]:
+            """A session has two sockets."""
+            return [(now - then) // 2 for then, now in zip(before, gate.watched())]
+
+        def see() -> None:
+            all_answer(streams)
+            until = time.monotonic() + 10
+            while sum(sessions_of_threads()) != count and time.monotonic() < until:
+                time.sleep(0.1)
+            sessions = sessions_of_threads()
+            want((len(sessions), sum(sessions)) == (gate.threads, count), "the threads have %s sessions" % sessions)
+            want(max(sessions) <= 1.2 * count / gate.threads, "the threads have %s sessions" % sessions)
+            fullest.append(max(sessions))
+
+        took = timed(lambda: streams.extend(gate.connect() for _ in range(count)))
+        see()
+        for stream in source.sample(streams, count // 2):
+            streams.remove(stream)
+            stream.close()
+        gate.wait_for_lines(count // 2)
+        streams.extend(gate.connect() for _ in range(count // 2))
+        see()
+    return "%d connections in %.2f s over %d threads: %d on the fullest, %d when half were others" % (count, took, gate.threads, *fullest)
+
+
+def totals() -> str:
+    """`--accept` counts the connections of all threads; each has a whole line, and a number of its own."""
+    count, clients = 2000, 8
+    with gateway(accept=count, sessions=64) as gate:
+
+        def come_and_go() -> None:
+            for number in range(count // clients):
+                want(gets(gate.connect, [call(number)]) == answers(call(number)), "other answers")
+
+        callers = [threading.Thread(target=come_and_go, daemon=True) for _ in range(clients)]
+        for caller in callers:
+            caller.start()
+        for caller in callers:
+            caller.join()
+        lines = gate.ended()
+        want(sorted(lines) == sorted("session %d: clean" % number for number in range(count)), "%d lines, such ones: %s" % (len(lines), lines[:3]))
+    return "%d connections of %d clients at a time, and it ended with status 0" % (count, clients)
+
+
+def one_ends() -> str:
+    """Where one thread has spent its budget, the others end too: each open session is told `left open` once, and the status is that thread's."""
+    count = 4 * options.threads
+    with gateway(sessions=count, command=options.command + " --events 1000") as gate:
+        streams = [gate.connect() for _ in range(count)]
+        all_answer(streams)
+        with contextlib.suppress(OSError):
+            while streams[0].send(call(1)) and read_bytes(streams[0], len(call(1))):
+                pass
+        for stream in streams[1:]:
+            with contextlib.suppress(ConnectionError):
+                want(read_to_end(stream) == b"", "bytes came")
+        lines = gate.ended(8)
+        want(sorted(lines) == sorted("session %d: left open" % number for number in range(count)), "such lines: %s" % lines)
+        want(gate.reported() == ["budget spent"], "such a report: %s" % gate.reported())
+    return "%d sessions were left open, and it ended with status 8" % count
+
+
+def broken_output() -> str:
+    """Where nobody reads its lines any more, all threads end with the first line that can't be written."""
+    count = 4 * options.threads
+    source, sink = os.pipe()
+    with gateway(sessions=count, output=sink) as gate:
+        os.close(sink)
+        streams = [gate.connect() for _ in range(count)]
+        all_answer(streams)
+        os.close(source)
+        streams[0].shutdown(socket.SHUT_WR)
+        for stream in streams:
+            with contextlib.suppress(ConnectionError):
+                want(read_to_end(stream) == b"", "bytes came")
+        gate.ended(5)
+        want(gate.reported() == [], "such a report: %s" % gate.reported())
+    return "%d sessions ended with it, and its status is 5" % count
+
+
+THREAD_WORDS = ["--threads", "--threads 0", "--threads 65 --sessions 100", "--threads 33", "--threads 5 --sessions 4", "--sessions 4 --threads 5",
+                "--threads 02", "--threads +2", "--threads=2", "--threads 2 --threads 2", "--threads two"]
+
+
+def thread_words() -> str:
+    """Other numbers than 1 to 64, or more threads than sessions, are a usage error, and so are threads of a command that has none."""
+    listen = "%s:%d" % (HOST, free_port())
+    commands = [["serve", "binary", "compact", listen, HOST + ":1", *words.split()] for words in THREAD_WORDS]
+    commands += [["route", "binary", "compact", listen, "A=%s:1" % HOST, *words.split()] for words in THREAD_WORDS]
+    return are_usage(commands + [["convert", "binary", "compact", "--threads", "2"], ["show", "binary", "--threads", "2"]])
+
+
 def system_calls() -> str:
     """Many small messages share their system calls."""
     if shutil.which("strace") is None:
@@ -411,18 +524,19 @@ def system_calls() -> str:
 TRIALS: Dict[str, Callable[[], str]] = {trial.__name__: trial for trial in (
     half_close, idle_connections, resets, stop_inside, random_bytes, never_reads, byte_a_second, million_calls, slow_reader,
     refused_upstream, without_pause, few_descriptors, no_connection_left, too_many, end_behind_all, stops,
-    closed_streams, system_calls)}
+    even_spread, totals, one_ends, broken_output, thread_words, closed_streams, system_calls)}
 
 
 def main() -> int:
     most = resource.getrlimit(resource.RLIMIT_NOFILE)[1]
     resource.setrlimit(resource.RLIMIT_NOFILE, (min(MOST_FILES, most), most))
-    return trials.run(TRIALS, options.trials)
+    return trials.run(TRIALS, options.trials, options.threads)
 
 
 parser = argparse.ArgumentParser(description=__doc__, formatter_class=argparse.RawDescriptionHelpFormatter)
 parser.add_argument("--command", default=COMMAND)
 parser.add_argument("--seconds", type=float, default=60)
+trials.add_threads(parser)
 parser.add_argument("trials", nargs="*", choices=[[], *TRIALS], metavar="TRIAL")
 options = parser.parse_args() if __name__ == "__main__" else parser.parse_args([])
 if __name__ == "__main__":

@@ -1,9 +1,9 @@
 #!/usr/bin/env python3
 """Tries how a running router treats targets and clients that send what they should not.
 
-    route_trials.py [TRIAL..]
+    route_trials.py [--threads N] [TRIAL..]
 
-Without names all trials are run, in half a minute. Each starts a router from Binary to Binary with a limit of 1,024 bytes,
+Without names all trials are run, in half a minute. With N each router has so many threads. Each starts a router from Binary to Binary with a limit of 1,024 bytes,
 
     crates/thrift_gate/out/thrift_gate route binary binary LISTEN A=TARGET,B=TARGET,.. --limit 1024 ..
 
@@ -22,7 +22,7 @@ import time
 from typing import Callable, Dict, Iterator, List, NamedTuple
 
 import trials
-from trials import HOST, PROGRAM, REST, SOCKETS_OF_FEW, Failed, Gateway, Upstream, answering, are_usage, exchange, free_port, gets, read_bytes, read_to_end, want
+from trials import HOST, PROGRAM, REST, Failed, Gateway, Upstream, answering, are_usage, exchange, free_port, gets, read_bytes, read_to_end, want
 
 LIMIT = 1024
 SESSIONS = 32
@@ -60,7 +60,7 @@ class Router(Gateway):
 
     def __init__(self, targets: Dict[str, str], **kept: int) -> None:
         super().__init__(",".join("%s=%s" % pair for pair in targets.items()), command=COMMAND, **kept)
-        self.bound = SESSIONS * most_bytes(len(targets)) + (SESSIONS + 1) * SOCKETS_OF_FEW + REST
+        self.bound = SESSIONS * most_bytes(len(targets)) + trials.socket_buffers(SESSIONS, self.threads) + REST
 
 
 @contextlib.contextmanager
@@ -271,8 +271,7 @@ def broken_targets() -> str:
             want(replies(0, 10).startswith(got), "session %d got %r" % (number, got[:80]))
             if number % 20 == 0:
                 ask(other, ["A"], 100)
-        gate.wait_for_line("session %d: .*" % count)
-        lines = gate.lines()
+        lines = gate.wait_for_lines(count)
         good = re.compile(r"session \d+: (link fault: upstream 2|upstream 2 ended: open calls \d+)")
         odd = [line for line in lines if not good.fullmatch(line)]
         want(not odd and len(lines) == count, "%d lines, such ones: %s" % (len(lines), odd[:3]))
@@ -291,8 +290,7 @@ def garbage() -> str:
             want(got == replies(0, good), "client %d got %r" % (number, got[:80]))
             if number % 50 == 0:
                 ask(other, ["A", "B"], 100)
-        gate.wait_for_line("session %d: .*" % count)
-        odd = [line for line in gate.lines() if not re.fullmatch(r"session \d+: client fault: frame \d+: (length -\d+|ended inside)", line)]
+        odd = [line for line in gate.wait_for_lines(count) if not re.fullmatch(r"session \d+: client fault: frame \d+: (length -\d+|ended inside)", line)]
         want(not odd, "such lines: %s" % odd[:3])
     return "%d clients, each with its fault" % count
 

@@ -1,9 +1,9 @@
 #!/usr/bin/env python3
 """Tries what a running server tells of the frames that it refuses.
 
-    tell_trials.py [TRIAL..]
+    tell_trials.py [--threads N] [TRIAL..]
 
-Without names all trials are run, in half a minute. Each starts a server from Binary to Binary with a limit of 1,024 bytes,
+Without names all trials are run, in half a minute. With N each server has so many threads. Each starts a server from Binary to Binary with a limit of 1,024 bytes,
 
     crates/thrift_gate/out/thrift_gate serve binary binary LISTEN TARGET --limit 1024 --tell refused ..
 
@@ -222,6 +222,26 @@ def many() -> str:
     return "%d lines in %.0f s; another client waited %.0f ms at most for each of %d answers" % (count, spent, 1000 * max(waits), len(waits))
 
 
+def at_once() -> str:
+    """Clients that are refused at the same time, by all threads: each line stands whole, and those of a session in their order."""
+    clients, count = 16, 5000
+    frames = [Frame(CALL, b"n" * 40, number, False) for number in range(count)]
+    with gateway(replying, command=TELLING) as gate:
+        senders = [threading.Thread(target=session, args=(gate, frames), daemon=True) for _ in range(clients)]
+        for sender in senders:
+            sender.start()
+        for sender in senders:
+            sender.join()
+        lines = gate.wait_for_lines(clients * (count + 1))
+        for number in range(clients):
+            start, wanted = "session %d: " % number, told(number, frames)
+            found = [line for line in lines if line.startswith(start)]
+            differ = [pair for pair in zip(found, wanted) if pair[0] != pair[1]]
+            want(found == wanted, "session %d has %d lines, not %d; the first that differ: %s" % (number, len(found), len(wanted), differ[:1]))
+        want(len(lines) == clients * (count + 1), "%d lines" % len(lines))
+    return "%d lines of %d sessions" % (len(lines), clients)
+
+
 def routed() -> str:
     """A router tells a refused answer with its target, and a call without a route at its name."""
     def bad(stream: socket.socket) -> None:
@@ -244,7 +264,7 @@ def routed() -> str:
 def no_output() -> str:
     """Where a refusal's line can't be written the server ends with status 5."""
     port = free_port()
-    words = TELLING.format(listen="%s:%d" % (HOST, port), target=Upstream(replying).address, accept=0, sessions=2).split()
+    words = TELLING.format(listen="%s:%d" % (HOST, port), target=Upstream(replying).address, accept=0, sessions=2).split() + trials.thread_words(2)
     with open("/dev/full", "wb") as full:
         process = subprocess.Popen(words, stdout=full)
     try:
@@ -275,7 +295,7 @@ def usage() -> str:
 
 
 TRIALS: Dict[str, Callable[[], str]] = {trial.__name__: trial for trial in (
-    mixed, names, without_the_words, refused_answers, halts, routed, no_output, usage, many)}
+    mixed, names, without_the_words, refused_answers, halts, at_once, routed, no_output, usage, many)}
 
 
 if __name__ == "__main__":

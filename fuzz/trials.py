@@ -22,8 +22,15 @@ HOST = "127.0.0.1"
 # there may be up to 64 sessions, and where there may be more.
 SESSION = 52 * LIMIT + 16 * 1024 + 4096
 FEW_SESSIONS = 64
+DEFAULT_SESSIONS = 32
 SOCKETS_OF_FEW, SOCKETS_OF_MANY = 1_048_576, 262_144
 REST = 16 << 20
+
+
+class Settings:
+    """What the words of a script say of all its trials: how many threads each gateway has, but for those that have fewer sessions."""
+
+    threads = 1
 
 
 class Failed(Exception):
@@ -94,6 +101,22 @@ def answering(stream: socket.socket, received: Optional[bytearray] = None) -> No
         held = held[end:]
 
 
+def parts(sessions: int, threads: int) -> List[int]:
+    """How many of a gateway's sessions each of its threads serves."""
+    return [sessions // threads + (number < sessions % threads) for number in range(threads)]
+
+
+def socket_buffers(sessions: int, threads: int) -> int:
+    """The bytes of the sockets' buffers. A thread has a place more than sessions."""
+    return sum((part + 1) * (SOCKETS_OF_FEW if part <= FEW_SESSIONS else SOCKETS_OF_MANY) for part in parts(sessions, threads))
+
+
+def thread_words(sessions: int = DEFAULT_SESSIONS) -> List[str]:
+    """What a command says of its threads."""
+    threads = min(Settings.threads, sessions)
+    return ["--threads", str(threads)] if threads > 1 else []
+
+
 def free_port() -> int:
     with socket.create_server((HOST, 0)) as listener:
         return listener.getsockname()[1]
@@ -102,15 +125,17 @@ def free_port() -> int:
 class Gateway:
     """A gateway that runs. Its lines can be read once it has ended."""
 
-    def __init__(self, target: str, accept: int = 0, sessions: int = 32, files: Optional[int] = None,
-                 before: Optional[List[str]] = None, is_closed: bool = False, command: str = COMMAND) -> None:
+    def __init__(self, target: str, accept: int = 0, sessions: int = DEFAULT_SESSIONS, files: Optional[int] = None,
+                 before: Optional[List[str]] = None, is_closed: bool = False, command: str = COMMAND, output: Optional[int] = None) -> None:
         self.port = free_port()
-        sockets = SOCKETS_OF_FEW if sessions <= FEW_SESSIONS else SOCKETS_OF_MANY
-        self.bound = sessions * SESSION + (sessions + 1) * sockets + REST
+        self.threads = min(Settings.threads, sessions)
+        self.bound = sessions * SESSION + socket_buffers(sessions, self.threads) + REST
         self.is_traced = before is not None
-        self.output = tempfile.TemporaryFile("w+")
+        # They are opened anew to be read: where a process writes and where another reads is one place in a file that both share.
+        self.output = tempfile.NamedTemporaryFile("a")
+        self.report = tempfile.NamedTemporaryFile("a")
         listen = "%s:%d" % (HOST, self.port)
-        words = command.format(listen=listen, target=target, accept=accept, sessions=sessions).split()
+        words = command.format(listen=listen, target=target, accept=accept, sessions=sessions).split() + thread_words(sessions)
 
         def limit() -> None:
             if files is not None:
@@ -118,7 +143,7 @@ class Gateway:
             if is_closed:
                 os.closerange(0, 3)
 
-        self.process = subprocess.Popen((before or []) + words, stdout=self.output, preexec_fn=limit)
+        self.process = subprocess.Popen((before or []) + words, stdout=self.output if output is None else output, stderr=self.report, preexec_fn=limit)
         self.wait_for_port()
 
     def wait_for_port(self) -> None:
@@ -128,8 +153,11 @@ class Gateway:
             with open("/proc/net/tcp", encoding="ascii") as table:
                 if any(line.split()[1].endswith(":" + wanted) and line.split()[3] == "0A" for line in list(table)[1:]):
                     return
+            if not self.runs():
+                break
             time.sleep(0.02)
-        raise Failed("the gateway doesn't listen")
+        self.stop()
+        raise Failed("the gateway doesn't listen: %s" % self.reported())
 
     def connect(self, patience: float = 20) -> socket.socket:
         stream = socket.create_connection((HOST, self.port), timeout=patience)
@@ -141,6 +169,16 @@ class Gateway:
         with open("/proc/%d/stat" % self.process.pid, encoding="ascii") as stat:
             fields = stat.read().rpartition(")")[2].split()
         return (int(fields[11]) + int(fields[12])) / os.sysconf("SC_CLK_TCK")
+
+    def watched(self) -> List[int]:
+        """How many descriptors each thread waits for, by what the system tells of the epoll descriptor of each."""
+        process = "/proc/%d" % self.process.pid
+        polls = [name for name in sorted(os.listdir(process + "/fd"), key=int) if os.readlink("%s/fd/%s" % (process, name)) == "anon_inode:[eventpoll]"]
+        counts = []
+        for name in polls:
+            with open("%s/fdinfo/%s" % (process, name), encoding="ascii") as information:
+                counts.append(sum(line.startswith("tfd:") for line in information))
+        return counts
 
     def runs(self) -> bool:
         return self.process.poll() is None
@@ -162,14 +200,26 @@ class Gateway:
             time.sleep(0.02)
         raise Failed("no line %s in %s" % (pattern, self.lines()))
 
-    def ended(self) -> List[str]:
-        """The lines of a gateway that ends by itself."""
-        want(self.process.wait(20) == 0, "its status is %s" % self.process.returncode)
+    def wait_for_lines(self, count: int, seconds: float = 10) -> List[str]:
+        """Waits until so many lines were written. Those of several threads come in any order."""
+        end = time.time() + seconds
+        while time.time() < end and len(self.lines()) < count:
+            time.sleep(0.02)
+        return self.lines()
+
+    def ended(self, status: int = 0) -> List[str]:
+        """The lines of a gateway that ends by itself, with this status."""
+        want(self.process.wait(20) == status, "its status is %s" % self.process.returncode)
         return self.lines()
 
     def lines(self) -> List[str]:
-        self.output.seek(0)
-        return self.output.read().splitlines()
+        with open(self.output.name) as output:
+            return output.read().splitlines()
+
+    def reported(self) -> List[str]:
+        """The lines on standard error."""
+        with open(self.report.name) as report:
+            return report.read().splitlines()
 
     def stop(self) -> None:
         if self.runs():
@@ -254,9 +304,14 @@ def are_usage(commands: List[List[str]]) -> str:
     return "%d commands" % len(commands)
 
 
-def run(trials: Dict[str, Callable[[], str]], names: List[str]) -> int:
-    """Runs these trials, or all, and prints a line for each. The answer is 0 where every one went well."""
-    faults = 0
+def add_threads(parser: argparse.ArgumentParser) -> None:
+    """An option of each script that has gateways."""
+    parser.add_argument("--threads", type=int, default=1, metavar="N", help="how many threads each gateway has; without it one, and its words name none")
+
+
+def run(trials: Dict[str, Callable[[], str]], names: List[str], threads: int = 1) -> int:
+    """Runs these trials, or all, over gateways with so many threads, and prints a line for each. The answer is 0 where every one went well."""
+    Settings.threads, faults = threads, 0
     for name in names or trials:
         try:
             print("ok     %s: %s" % (name, trials[name]()), flush=True)
@@ -269,5 +324,7 @@ def run(trials: Dict[str, Callable[[], str]], names: List[str]) -> int:
 def main(description: Optional[str], trials: Dict[str, Callable[[], str]]) -> int:
     """Runs the trials that the words of the command name, or all."""
     parser = argparse.ArgumentParser(description=description, formatter_class=argparse.RawDescriptionHelpFormatter)
+    add_threads(parser)
     parser.add_argument("trials", nargs="*", choices=[[], *trials], metavar="TRIAL")
-    return run(trials, parser.parse_args().trials)
+    options = parser.parse_args()
+    return run(trials, options.trials, options.threads)

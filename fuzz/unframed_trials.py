@@ -1,9 +1,9 @@
 #!/usr/bin/env python3
 """Tries how a running gateway treats peers without frames that send what they should not.
 
-    unframed_trials.py [TRIAL..]
+    unframed_trials.py [--threads N] [TRIAL..]
 
-Without names all trials are run, in a minute. Each starts a gateway from Binary to Binary with a limit of 1,024 bytes,
+Without names all trials are run, in a minute. With N each gateway has so many threads. Each starts a gateway from Binary to Binary with a limit of 1,024 bytes,
 
     crates/thrift_gate/out/thrift_gate serve binary binary LISTEN TARGET --limit 1024 --unframed SIDE ..
 
@@ -80,8 +80,7 @@ def garbage() -> str:
             if number % 50 == 0:
                 ask_bare(other, bare_calls(number, 100))
         ask_bare(other, bare_calls(0, 100))
-        gate.wait_for_line(r"session %d: .*" % count)
-        lines = gate.lines()
+        lines = gate.wait_for_lines(count)
         good = re.compile(r"session \d+: client fault: frame \d+: (length -1|at \d+: G\d+ [\w ]+|wrong way|ended inside)")
         odd = [line for line in lines if not good.fullmatch(line)]
         want(not odd, "such lines: %s" % odd[:3])
@@ -104,8 +103,7 @@ def mutations() -> str:
             if number % 50 == 0:
                 ask_bare(other, bare_calls(number, 100))
         ask_bare(other, bare_calls(0, 100))
-        gate.wait_for_line(r"session %d: .*" % count)
-        ends = [re.sub(r"session \d+: |\d+", "", line) for line in gate.lines()]
+        ends = [re.sub(r"session \d+: |\d+", "", line) for line in gate.wait_for_lines(count)]
         want(len(ends) == count, "%d lines for %d clients" % (len(ends), count))
     return "%d clients, %d of them clean" % (count, ends.count("clean"))
 

@@ -47,7 +47,7 @@ def main() -> int:
     for number in range(10 * len(CALLS)):
         receive(number)
     transport.close()
-    print("ok")
+    sys.stdout.write("ok\n")
     return 0
 
 

@@ -68,7 +68,7 @@ def main() -> int:
         if number % count == 0:
             refused(number)
     transport.close()
-    print("ok")
+    sys.stdout.write("ok\n")
     return 0
 
 
