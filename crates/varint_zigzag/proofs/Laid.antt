@@ -1,18 +1,17 @@
 -- The shortest bytes of a number, eight at a time.
-use Rattle.std.proofs.Common.{◌≡◌, ℕ, zero, suc, ◌+◌, ◌-◌, ◌*◌, ◌/◌, ◌%◌, ◌^◌, ◌<◌, ◌≤◌, inl, inr, List, [], ◌∷◌, ◌++◌, length, take, get_or, replicate, bit_and, bit_or, arith, refl, sym, ap, ◌∙◌, length-take, length-append, append_assoc}
+use Rattle.std.proofs.Common.{◌≡◌, ℕ, zero, suc, ◌+◌, ◌-◌, ◌*◌, ◌/◌, ◌%◌, ◌^◌, ◌<◌, ◌≤◌, inl, inr, List, [], ◌∷◌, ◌++◌, length, take, get_or, replicate, bit_and, arith, refl, sym, ap, ◌∙◌, length-take, length-append, append_assoc}
 use Rattle.std.specs.Int.{w64, to_le_bytes}
-use Rattle.std.proofs.lemmas.Nat.{and_mask, mod-pow-add, pow-add, pow_pos, shr-shr, or_block, leading_top, le_bytes_8}
+use Rattle.std.proofs.lemmas.Nat.{and_mask, mod-pow-add, pow-add, pow_pos, shr-shr, le_bytes_8}
 use Rattle.std.proofs.lemmas.Nat.Bits.{and_high}
 use Rattle.std.proofs.lemmas.List.{take_all, take-append-le}
-use Rattle.std.specs.Int.Bits.{or_zero_r}
 use Rattle.std.proofs.Math.Pow.{pow_mono}
 use Rattle.std.specs.Simd.Lanes.{number_l, digits_l}
-use lib.Count.{count_leading_zeros}
 use Rattle.varint_zigzag.specs.Varint.{shortest_in, shortest}
 use Rattle.varint_zigzag.specs.Bounds.{large_or_small, shortest_last, shortest_more}
 use Rattle.varint_zigzag.specs.Places.{AllBelow, AreGroups}
 use Rattle.varint_zigzag.proofs.Words.{lanes_and}
 use Rattle.varint_zigzag.proofs.Fronts.{word_of}
+use Rattle.varint_zigzag.proofs.Tops.{Sized, wider}
 
 -- ---- the groups, spread
 
@@ -107,9 +106,6 @@ spread_groups (a ∷ b ∷ c ∷ d ∷ e ∷ f ∷ g ∷ h ∷ []) are number is
 
 -- ---- the groups of a number
 
-wider : (k : ℕ) → 2 ^ (7 * suc k) ≡ 128 * 2 ^ (7 * k)
-wider k = let e : 7 * suc k ≡ 7 + 7 * k = omega arith in ap (λ n. 2 ^ n) e ∙ pow-add 2 7 (7 * k)
-
 digits_number : (k v : ℕ) → number_l 128 (digits_l 128 k v) ≡ v % 2 ^ (7 * k)
 digits_number zero v = omega arith
 digits_number (suc k) v =
@@ -127,44 +123,32 @@ length-digits (suc k) v = ap suc (length-digits k (v / 128))
 digits_are_groups : (v : ℕ) → AreGroups (digits_l 128 8 v)
 digits_are_groups v = record { eight = length-digits 8 v; small = digits_below 8 v }
 
--- every byte but the last of so many has its high bit set, and so has each behind that
-marked : ℕ → List ℕ → List ℕ
-marked n [] = []
-marked zero (g ∷ groups) = (g + 128) ∷ marked zero groups
-marked (suc zero) (g ∷ groups) = g ∷ marked zero groups
-marked (suc (suc n)) (g ∷ groups) = (g + 128) ∷ marked (suc n) groups
+-- the first so many bytes have their high bit set
+carried : ℕ → List ℕ → List ℕ
+carried n [] = []
+carried zero (g ∷ groups) = g ∷ carried zero groups
+carried (suc n) (g ∷ groups) = (g + 128) ∷ carried n groups
 
-all_marked : (groups : List ℕ) → number_l 256 (marked zero groups) ≡ number_l 256 groups + number_l 256 (replicate (length groups) 128)
-unfolding marked
-all_marked [] = refl
-all_marked (g ∷ groups) = let rest = all_marked groups in omega arith
+carried_sum : (n : ℕ) (groups : List ℕ) → n ≤ length groups → number_l 256 (carried n groups) ≡ number_l 256 groups + number_l 256 (replicate n 128)
+unfolding carried
+carried_sum zero [] h = refl
+carried_sum (suc n) [] h = absurd (omega arith)
+carried_sum zero (g ∷ groups) h = let rest = carried_sum zero groups (omega arith) in omega arith
+carried_sum (suc n) (g ∷ groups) h = let rest = carried_sum n groups (omega arith) in omega arith
 
-one_unmarked : (n : ℕ) (groups : List ℕ) → n < length groups → number_l 256 (marked (suc n) groups) + 128 * 2 ^ (8 * n) ≡ number_l 256 groups + number_l 256 (replicate (length groups) 128)
-unfolding marked
-one_unmarked n [] h = absurd (omega arith)
-one_unmarked zero (g ∷ groups) h = let rest = all_marked groups in omega arith
-one_unmarked (suc n) (g ∷ groups) h =
-    let rest = one_unmarked n groups (omega arith) in
-    let e : 8 * suc n ≡ 8 + 8 * n = omega arith in
-    let wide : 2 ^ (8 * suc n) ≡ 256 * 2 ^ (8 * n) = ap (λ k. 2 ^ k) e ∙ pow-add 2 8 (8 * n) in
-    omega (arith, rest, wide)
+length-carried : (n : ℕ) (groups : List ℕ) → length (carried n groups) ≡ length groups
+unfolding carried
+length-carried n [] = refl
+length-carried zero (g ∷ groups) = ap suc (length-carried zero groups)
+length-carried (suc n) (g ∷ groups) = ap suc (length-carried n groups)
 
-length-marked : (n : ℕ) (groups : List ℕ) → length (marked n groups) ≡ length groups
-unfolding marked
-length-marked n [] = refl
-length-marked zero (g ∷ groups) = ap suc (length-marked zero groups)
-length-marked (suc zero) (g ∷ groups) = ap suc (length-marked zero groups)
-length-marked (suc (suc n)) (g ∷ groups) = ap suc (length-marked (suc n) groups)
-
-marked_below : (n : ℕ) (groups : List ℕ) → AllBelow 128 groups → (i : ℕ) → get_or (marked n groups) i 0 < 256
-unfolding marked
-marked_below n [] small i = omega arith
-marked_below zero (g ∷ groups) small zero = omega (arith, small.0)
-marked_below zero (g ∷ groups) small (suc i) = marked_below zero groups small.1 i
-marked_below (suc zero) (g ∷ groups) small zero = omega (arith, small.0)
-marked_below (suc zero) (g ∷ groups) small (suc i) = marked_below zero groups small.1 i
-marked_below (suc (suc n)) (g ∷ groups) small zero = omega (arith, small.0)
-marked_below (suc (suc n)) (g ∷ groups) small (suc i) = marked_below (suc n) groups small.1 i
+carried_below : (n : ℕ) (groups : List ℕ) → AllBelow 128 groups → (i : ℕ) → get_or (carried n groups) i 0 < 256
+unfolding carried
+carried_below n [] small i = omega arith
+carried_below zero (g ∷ groups) small zero = omega (arith, small.0)
+carried_below zero (g ∷ groups) small (suc i) = carried_below zero groups small.1 i
+carried_below (suc n) (g ∷ groups) small zero = omega (arith, small.0)
+carried_below (suc n) (g ∷ groups) small (suc i) = carried_below n groups small.1 i
 
 -- the bytes of a word
 bytes_of : (bytes : List ℕ) (word : ℕ) → length bytes ≡ 8 → ((i : ℕ) → get_or bytes i 0 < 256) → word ≡ number_l 256 bytes → to_le_bytes w64 word ≡ bytes
@@ -178,76 +162,21 @@ number_small (b ∷ bytes) small =
     let wide : 2 ^ (8 * suc (length bytes)) ≡ 256 * 2 ^ (8 * length bytes) = ap (λ k. 2 ^ k) e ∙ pow-add 2 8 (8 * length bytes) in
     omega (arith, rest, wide, small 0)
 
--- ---- how many bytes a short number has
+-- ---- the bytes of a short number
 
-pub record Counted (v count : ℕ) : Type 0 where
-  pub last : ℕ
-  pub is : count ≡ suc last
-  pub few : last < 8
-  pub below : v < 2 ^ (7 * suc last)
-  pub above : 0 < last → 2 ^ (7 * last) ≤ v
-
-odd : (v : ℕ) → bit_or v 1 ≡ v / 2 * 2 + 1
-odd v =
-    let parts : v / 2 * 2 + v % 2 ≡ v = omega arith in
-    ap (λ n. bit_or n 1) (sym parts) ∙ or_block 1 (v / 2) 0 (v % 2) 1 (omega arith) (omega arith) ∙ rest (v % 2) (omega arith) (v / 2)
-  where
-    rest : (r : ℕ) → r < 2 → (q : ℕ) → bit_or q 0 * 2 + bit_or r 1 ≡ q * 2 + 1
-    rest zero h q = rw or_zero_r refl
-    rest (suc zero) h q = rw or_zero_r refl
-    rest (suc (suc r)) h q = absurd (omega arith)
-
-below_power : (j k n : ℕ) → 2 ^ j ≤ n → n < 2 ^ k → j < k
-below_power j k n low high =
-    elim (large_or_small k j) as (λ _. j < k) [
-      | inl large ↦ let more : 2 ^ k ≤ 2 ^ j = pow_mono large in absurd (omega arith)
-      | inr small ↦ small
-    ]
-
-half_power : (k v : ℕ) → 0 < k → 2 ^ k ≤ v / 2 * 2 + 1 → 2 ^ k ≤ v
-half_power zero v some h = absurd (omega arith)
-half_power (suc k) v some h = let twice : 2 ^ suc k ≡ 2 * 2 ^ k = omega arith in omega (arith, twice)
-
-pub counted : (v : ℕ) → v < 2 ^ 56 → Counted v ((9 * (64 - count_leading_zeros 64 (bit_or v 1)) + 64) / 64)
-counted v small =
-    let is = odd v in
-    let some : 0 < bit_or v 1 = omega (arith, is) in
-    let fits : bit_or v 1 < 2 ^ 64 = omega (arith, is) in
-    let top = leading_top 64 (bit_or v 1) some fits in
-    let j = top.0 in
-    let low : 2 ^ j ≤ v / 2 * 2 + 1 = omega (arith, is, top.2) in
-    let high : v / 2 * 2 + 1 < 2 ^ suc j = omega (arith, is, top.3) in
-    let few : j < 56 = below_power j 56 (v / 2 * 2 + 1) low (omega arith) in
-    let count = (9 * (64 - count_leading_zeros 64 (bit_or v 1)) + 64) / 64 in
-    let bits : 64 - count_leading_zeros 64 (bit_or v 1) ≡ suc j = omega (arith, top.1) in
-    let one : 1 ≤ count = omega (arith, bits) in
-    let last : count ≡ suc (count - 1) = omega arith in
-    let within : suc j ≤ 7 * suc (count - 1) = omega (arith, bits) in
-    let over : 7 * (count - 1) ≤ j = omega (arith, bits) in
-    record {
-      last = count - 1;
-      is = last;
-      few = omega (arith, bits);
-      below = let wide : 2 ^ suc j ≤ 2 ^ (7 * suc (count - 1)) = pow_mono within in omega (arith, wide, high);
-      above = λ more. half_power (7 * (count - 1)) v (omega arith) (let less : 2 ^ (7 * (count - 1)) ≤ 2 ^ j = pow_mono over in omega (arith, less, low));
-    }
-
-marked_shortest : (last fuel k v : ℕ) → last < fuel → last < k → v < 2 ^ (7 * suc last) → (0 < last → 2 ^ (7 * last) ≤ v) → take (suc last) (marked (suc last) (digits_l 128 k v)) ≡ shortest_in fuel v
-unfolding marked
-marked_shortest last zero k v few room below above = absurd (omega arith)
-marked_shortest last (suc fuel) zero v few room below above = absurd (omega arith)
-marked_shortest zero (suc fuel) (suc k) v few room below above =
+carried_shortest : (last fuel k v : ℕ) → last < fuel → last < k → v < 2 ^ (7 * suc last) → (0 < last → 2 ^ (7 * last) ≤ v) → take (suc last) (carried last (digits_l 128 k v)) ≡ shortest_in fuel v
+unfolding carried
+carried_shortest last zero k v few room below above = absurd (omega arith)
+carried_shortest last (suc fuel) zero v few room below above = absurd (omega arith)
+carried_shortest zero (suc fuel) (suc k) v few room below above =
     let same : v % 128 ≡ v = omega arith in
     ap (λ n. n ∷ []) same ∙ sym (shortest_last fuel v (omega arith))
-marked_shortest (suc last) (suc fuel) (suc k) v few room below above =
+carried_shortest (suc last) (suc fuel) (suc k) v few room below above =
     let floor = above (omega arith) in
     let one : 1 ≤ 2 ^ (7 * last) = pow_pos (7 * last) in
     let large : 128 ≤ v = omega (arith, wider last) in
-    ap (λ bytes. (v % 128 + 128) ∷ bytes) (marked_shortest last fuel k (v / 128) (omega arith) (omega arith) (omega (arith, wider (suc last))) (λ _. omega (arith, wider last)))
+    ap (λ bytes. (v % 128 + 128) ∷ bytes) (carried_shortest last fuel k (v / 128) (omega arith) (omega arith) (omega (arith, wider (suc last))) (λ _. omega (arith, wider last)))
     ∙ sym (shortest_more fuel v large)
-
-length-marked_shortest : (last : ℕ) (groups : List ℕ) → last < length groups → length (take (suc last) (marked (suc last) groups)) ≡ suc last
-length-marked_shortest last groups h = omega (arith, length-take (suc last) (marked (suc last) groups), length-marked (suc last) groups)
 
 -- ---- a word laid into the cells
 
@@ -261,46 +190,34 @@ laid_in old new bytes rest to n m is within place few =
     ap (take m) is ∙ front_of (take to old) bytes rest n m (omega (arith, length-take to old)) few
 
 -- what is laid of a short number
-pub record Short (v count word : ℕ) : Type 0 where
+pub record Short (v word : ℕ) : Type 0 where
   pub fits : word < 2 ^ 64
-  pub few : count ≤ 8
+  pub few : length (shortest v) ≤ 8
   pub long : length (to_le_bytes w64 word) ≡ 8
-  pub laid : take count (to_le_bytes w64 word) ≡ shortest v
-  pub size : length (shortest v) ≡ count
+  pub laid : take (length (shortest v)) (to_le_bytes w64 word) ≡ shortest v
 
-pub short_word : (v count spread : ℕ) → v < 2 ^ 56 → Counted v count → ((groups : List ℕ) → AreGroups groups → v ≡ number_l 128 groups → spread ≡ number_l 256 groups)
-    → (128 * 2 ^ (8 * count - 8) % 18446744073709551616 ≤ 9259542123273814144) × Short v count (spread + (9259542123273814144 - 128 * 2 ^ (8 * count - 8) % 18446744073709551616))
+pub short_word : (v last spread : ℕ) → last < 8 → Sized v last → ((groups : List ℕ) → AreGroups groups → v ≡ number_l 128 groups → spread ≡ number_l 256 groups) → Short v (spread + number_l 256 (replicate (length (shortest v) - 1) 128))
 unfolding shortest
-short_word v count spread small c spreads =
+short_word v last spread few sized spreads =
     let groups = digits_l 128 8 v in
-    let n = c.last in
+    let size = sized.size in
     let long : length groups ≡ 8 = length-digits 8 v in
-    let value : v ≡ number_l 128 groups = omega (arith, digits_number 8 v) in
+    let bound : 2 ^ (7 * suc last) ≤ 2 ^ 56 = let most : 7 * suc last ≤ 56 = omega arith in pow_mono most in
+    let value : v ≡ number_l 128 groups = omega (arith, digits_number 8 v, bound, sized.below) in
     let is : spread ≡ number_l 256 groups = spreads groups (digits_are_groups v) value in
-    let few = c.few in
-    let shift : 8 * count - 8 ≡ 8 * n = omega (arith, c.is) in
-    let bound : 8 * n ≤ 56 = omega arith in
-    let power : 2 ^ (8 * n) ≤ 2 ^ 56 = pow_mono bound in
-    let last : 128 * 2 ^ (8 * count - 8) % 18446744073709551616 ≡ 128 * 2 ^ (8 * n) = ap (λ k. 128 * 2 ^ k % 18446744073709551616) shift ∙ omega (arith, power) in
-    let marks : number_l 256 (replicate (length groups) 128) ≡ 9259542123273814144 = ap (λ k. number_l 256 (replicate k 128)) long in
-    let sum = one_unmarked n groups (omega (arith, long)) in
-    let word : spread + (9259542123273814144 - 128 * 2 ^ (8 * count - 8) % 18446744073709551616) ≡ number_l 256 (marked (suc n) groups) = omega (arith, is, last, marks, sum, power) in
-    let bytes = marked (suc n) groups in
-    let long_bytes : length bytes ≡ 8 = length-marked (suc n) groups ∙ long in
-    let below = marked_below (suc n) groups (digits_below 8 v) in
+    let marks : length (shortest v) - 1 ≡ last = omega (arith, size) in
+    let bytes = carried last groups in
+    let word : spread + number_l 256 (replicate (length (shortest v) - 1) 128) ≡ number_l 256 bytes = ap (λ n. spread + number_l 256 (replicate n 128)) marks ∙ omega (arith, is, carried_sum last groups (omega (arith, long))) in
+    let long_bytes : length bytes ≡ 8 = length-carried last groups ∙ long in
+    let below = carried_below last groups (digits_below 8 v) in
     let same = bytes_of bytes _ long_bytes below word in
     let fits = number_small bytes below in
-    let laid : take count bytes ≡ shortest_in 10 v = ap (λ k. take k bytes) c.is ∙ marked_shortest n 10 8 v (omega arith) few c.below c.above in
-    let size : length (take count bytes) ≡ count = ap (λ k. length (take k bytes)) c.is ∙ length-marked_shortest n groups (omega (arith, long)) ∙ sym c.is in (
-      omega (arith, last, power),
-      record {
-        fits = omega (arith, word, ap (λ k. 2 ^ (8 * k)) long_bytes, fits);
-        few = omega (arith, c.is);
-        long = ap length same ∙ long_bytes;
-        laid = ap (take count) same ∙ laid;
-        size = ap length (sym laid) ∙ size;
-      },
-    )
+    record {
+      fits = omega (arith, word, ap (λ k. 2 ^ (8 * k)) long_bytes, fits);
+      few = omega (arith, size);
+      long = ap length same ∙ long_bytes;
+      laid = ap (take (length (shortest v))) same ∙ ap (λ k. take k bytes) size ∙ carried_shortest last 10 8 v (omega arith) few sized.below sized.above;
+    }
 
 -- ---- numbers of nine and ten bytes
 
@@ -308,17 +225,17 @@ more : ℕ → ℕ → ℕ
 more zero fuel = fuel
 more (suc k) fuel = suc (more k fuel)
 
-all_marked_shortest : (k fuel v : ℕ) → 2 ^ (7 * k) ≤ v → shortest_in (more k fuel) v ≡ marked zero (digits_l 128 k v) ++ shortest_in fuel (v / 2 ^ (7 * k))
-unfolding marked more
-all_marked_shortest zero fuel v large = ap (shortest_in fuel) (omega arith)
-all_marked_shortest (suc k) fuel v large =
+all_carried_shortest : (k fuel v : ℕ) → 2 ^ (7 * k) ≤ v → shortest_in (more k fuel) v ≡ carried k (digits_l 128 k v) ++ shortest_in fuel (v / 2 ^ (7 * k))
+unfolding carried more
+all_carried_shortest zero fuel v large = ap (shortest_in fuel) (omega arith)
+all_carried_shortest (suc k) fuel v large =
     let one : 1 ≤ 2 ^ (7 * k) = pow_pos (7 * k) in
     let wide = wider k in
     let many : 128 ≤ v = omega (arith, wide) in
     let e : 7 + 7 * k ≡ 7 * suc k = omega arith in
     shortest_more (more k fuel) v many
-    ∙ ap (λ bytes. (v % 128 + 128) ∷ bytes) (all_marked_shortest k fuel (v / 128) (omega (arith, wide))
-    ∙ ap (λ n. marked zero (digits_l 128 k (v / 128)) ++ shortest_in fuel n) (shr-shr v 7 (7 * k) ∙ ap (λ n. v / 2 ^ n) e))
+    ∙ ap (λ bytes. (v % 128 + 128) ∷ bytes) (all_carried_shortest k fuel (v / 128) (omega (arith, wide))
+    ∙ ap (λ n. carried k (digits_l 128 k (v / 128)) ++ shortest_in fuel n) (shr-shr v 7 (7 * k) ∙ ap (λ n. v / 2 ^ n) e))
 
 two_shortest : (top : ℕ) → 1 ≤ top → top < 256 → shortest_in 2 top ≡ take (1 + top / 128) (top ∷ 1 ∷ [])
 two_shortest top some small =
@@ -346,14 +263,14 @@ long_word v spread fits large spreads =
     let top = v / 72057594037927936 in
     let long : length groups ≡ 8 = length-digits 8 v in
     let is : spread ≡ number_l 256 groups = spreads groups (digits_are_groups v) (sym (digits_number 8 v)) in
-    let marks : number_l 256 (replicate (length groups) 128) ≡ 9259542123273814144 = ap (λ k. number_l 256 (replicate k 128)) long in
-    let bytes = marked zero groups in
-    let word : spread + 9259542123273814144 ≡ number_l 256 bytes = omega (arith, is, marks, all_marked groups) in
-    let long_bytes : length bytes ≡ 8 = length-marked zero groups ∙ long in
-    let below = marked_below zero groups (digits_below 8 v) in
+    let marks : number_l 256 (replicate 8 128) ≡ 9259542123273814144 = refl in
+    let bytes = carried 8 groups in
+    let word : spread + 9259542123273814144 ≡ number_l 256 bytes = omega (arith, is, marks, carried_sum 8 groups (omega (arith, long))) in
+    let long_bytes : length bytes ≡ 8 = length-carried 8 groups ∙ long in
+    let below = carried_below 8 groups (digits_below 8 v) in
     let same = bytes_of bytes _ long_bytes below word in
     let small = number_small bytes below in
-    let whole : shortest_in 10 v ≡ bytes ++ take (1 + top / 128) (top ∷ 1 ∷ []) = all_marked_shortest 8 2 v large ∙ ap (λ xs. bytes ++ xs) (two_shortest top (omega arith) (omega arith)) in
+    let whole : shortest_in 10 v ≡ bytes ++ take (1 + top / 128) (top ∷ 1 ∷ []) = all_carried_shortest 8 2 v large ∙ ap (λ xs. bytes ++ xs) (two_shortest top (omega arith) (omega arith)) in
     let few : top / 128 ≤ 1 = omega arith in
     record {
       fits = omega (arith, word, ap (λ k. 2 ^ (8 * k)) long_bytes, small);

@@ -5,4 +5,5 @@ pub mod Groups
 pub mod Laid
 pub mod Meaning
 pub mod Shortest
+pub mod Tops
 pub mod Words

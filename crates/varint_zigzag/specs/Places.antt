@@ -1,5 +1,5 @@
 -- Numbers at a place, and the groups of seven bits that they are made of.
-use Rattle.std.specs.Prelude.{◌≡◌, ℕ, zero, suc, ◌+◌, ◌*◌, ◌%◌, ◌<◌, ◌≤◌, Bool, nat_lt, List, [], ◌∷◌, length, Option, Some, None, Result, Ok, Err}
+use Rattle.std.specs.Prelude.{◌≡◌, ℕ, zero, suc, ◌+◌, ◌*◌, ◌%◌, ◌^◌, ◌<◌, ◌≤◌, Bool, nat_lt, List, [], ◌∷◌, length, Option, Some, None, Result, Ok, Err}
 use Rattle.varint_zigzag.specs.declared.fault.VarFault.{VarFault}
 
 -- the number that was found at a place, and the place behind it
@@ -39,3 +39,8 @@ AllBelow bound (x ∷ xs) = (x < bound) × AllBelow bound xs
 pub record AreGroups (groups : List ℕ) : Type 0 where
   pub eight : length groups ≡ 8
   pub small : AllBelow 128 groups
+
+-- the highest bit of a number is at this place, which is 0 where the number is 0
+pub record HasTop (v top : ℕ) : Type 0 where
+  pub below : v < 2 ^ suc top
+  pub above : 0 < top → 2 ^ top ≤ v

@@ -1,9 +1,9 @@
 //! The shortest bytes of a number, laid into cells eight at a time, so that how many they are costs no jump.
-ghost use Rattle.std.specs.Prelude.{◌≡◌, ℕ, List, ◌≤◌, ◌<◌, ◌+◌, ◌^◌, ◌++◌, length, take, drop};
+ghost use Rattle.std.specs.Prelude.{◌≡◌, ℕ, List, ◌≤◌, ◌<◌, ◌+◌, ◌-◌, ◌^◌, ◌++◌, length, take, drop, replicate};
 ghost use Rattle.std.specs.Int.{to_le_bytes, w64};
 ghost use Rattle.std.specs.Simd.Lanes.{number_l};
 ghost use Rattle.varint_zigzag.specs.Varint.{shortest};
-ghost use Rattle.varint_zigzag.specs.Places.{AreGroups};
+ghost use Rattle.varint_zigzag.specs.Places.{AreGroups, HasTop};
 
 /// So many bytes are laid at once.
 const WORD: usize = 8;
@@ -13,6 +13,72 @@ const HIGH_BITS: u64 = 0x8080_8080_8080_8080;
 
 /// The numbers below it have at most eight bytes.
 const SHORT: u64 = 1 << 56;
+
+/// How many bytes a number has, by the place of its highest bit.
+static COUNTS: [u8; 56] = [
+    1, 1, 1, 1, 1, 1, 1, 2, 2, 2, 2, 2, 2, 2, 3, 3, 3, 3, 3, 3, 3, 4, 4, 4, 4, 4, 4, 4, 5, 5, 5, 5,
+    5, 5, 5, 6, 6, 6, 6, 6, 6, 6, 7, 7, 7, 7, 7, 7, 7, 8, 8, 8, 8, 8, 8, 8,
+];
+
+/// The high bits of all its bytes but the last, by the same place.
+static MARKS: [u64; 56] = [
+    0,
+    0,
+    0,
+    0,
+    0,
+    0,
+    0,
+    0x0080,
+    0x0080,
+    0x0080,
+    0x0080,
+    0x0080,
+    0x0080,
+    0x0080,
+    0x8080,
+    0x8080,
+    0x8080,
+    0x8080,
+    0x8080,
+    0x8080,
+    0x8080,
+    0x0080_8080,
+    0x0080_8080,
+    0x0080_8080,
+    0x0080_8080,
+    0x0080_8080,
+    0x0080_8080,
+    0x0080_8080,
+    0x8080_8080,
+    0x8080_8080,
+    0x8080_8080,
+    0x8080_8080,
+    0x8080_8080,
+    0x8080_8080,
+    0x8080_8080,
+    0x0080_8080_8080,
+    0x0080_8080_8080,
+    0x0080_8080_8080,
+    0x0080_8080_8080,
+    0x0080_8080_8080,
+    0x0080_8080_8080,
+    0x0080_8080_8080,
+    0x8080_8080_8080,
+    0x8080_8080_8080,
+    0x8080_8080_8080,
+    0x8080_8080_8080,
+    0x8080_8080_8080,
+    0x8080_8080_8080,
+    0x8080_8080_8080,
+    0x0080_8080_8080_8080,
+    0x0080_8080_8080_8080,
+    0x0080_8080_8080_8080,
+    0x0080_8080_8080_8080,
+    0x0080_8080_8080_8080,
+    0x0080_8080_8080_8080,
+    0x0080_8080_8080_8080,
+];
 
 /// Lays the shortest bytes of a number, one to ten, into the cells from a place on, and gives the place behind them.
 /// The cells behind that, up to ten from the first, may be written over (the varints of the Compact protocol
@@ -65,11 +131,37 @@ fn put_short(cells: &mut [u8], to: usize, v: u64) -> usize
     ensures laid { take result cells.new ≡ take to cells.old ++ shortest v }
     ensures place { result ≡ to + length (shortest v) }
 {
-    let bits = 64 - (v | 1).leading_zeros();
-    let count = (9 * bits + 64) / 64;
-    let last = 0x80 << (8 * count - 8);
-    put_word(cells, to, spread(v) + (HIGH_BITS - last));
-    to + count as usize
+    let top = top_bit(v);
+    put_word(cells, to, spread(v) + marks_at(top));
+    to + count_at(top)
+}
+
+// The place of a number's highest bit, 0 where the number is 0.
+#[inline(always)]
+fn top_bit(v: u64) -> usize
+    requires { v < 2 ^ 56 }
+    ensures highest { HasTop v result }
+    ensures few { result < 56 }
+{
+    (v | 1).ilog2() as usize
+}
+
+// How many bytes each number has whose highest bit is at this place.
+#[inline(always)]
+fn count_at(top: usize) -> usize
+    requires { top < 56 }
+    ensures count { (v : ℕ) → HasTop v top → result ≡ length (shortest v) }
+{
+    COUNTS[top] as usize
+}
+
+// The high bits of all bytes but the last of each number whose highest bit is at this place.
+#[inline(always)]
+fn marks_at(top: usize) -> u64
+    requires { top < 56 }
+    ensures marks { (v : ℕ) → HasTop v top → result ≡ number_l 256 (replicate (length (shortest v) - 1) 128) }
+{
+    MARKS[top]
 }
 
 // Lays nine or ten bytes.

@@ -1,4 +1,4 @@
-use Rattle.std.proofs.Common.{◌++◌, take, refl, arith}
+use Rattle.std.proofs.Common.{refl, arith}
 use Rattle.varint_zigzag.proofs.Laid.{laid_in}
 use Rattle.varint_zigzag.proofs.Shortest.{shortest_small}
 use Rattle.varint_zigzag.proofs.cells.put_size.Goals as goal
