@@ -11,7 +11,7 @@ ghost use Rattle.json_protocol.specs.WriteForms.{stand_key};
 ghost use Rattle.json_protocol.specs.ReadForms.{Finds, IsMark, Leads, SizeFound, Valued};
 
 use crate::lay::stand_key;
-use json_text::plain_int;
+use json_text::{plain_int, plain_small_int};
 use protocol_traits::Stand;
 use thrift_value::Kind;
 
@@ -103,6 +103,19 @@ pub fn quoted_int(frame: &[u8], at: usize) -> Option<(i64, usize)>
 {
     let begin = behind_mark(frame, at, b'"')?;
     let (value, end) = plain_int(frame, begin)?;
+    let behind = behind_mark(frame, end, b'"')?;
+    Some((value, behind))
+}
+
+/// The same of an id, which mostly has one digit.
+#[inline(always)]
+pub fn quoted_id(frame: &[u8], at: usize) -> Option<(i64, usize)>
+    requires { at ≤ length frame.now }
+    ensures quote { IfSome result (λ x. slice_index frame.now at ≡ 34) }
+    ensures found { IfSome result (λ x. (reason : Reason) (low high : ℤ) → low ≤ℤ x.0 → x.0 ≤ℤ high → Finds frame.now at (quoted_int_in reason low high) x.0 x.1) }
+{
+    let begin = behind_mark(frame, at, b'"')?;
+    let (value, end) = plain_small_int(frame, begin)?;
     let behind = behind_mark(frame, end, b'"')?;
     Some((value, behind))
 }

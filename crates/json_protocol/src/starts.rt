@@ -8,7 +8,7 @@ ghost use Rattle.json_protocol.specs.Words.{quoted_int_in};
 ghost use Rattle.json_protocol.specs.Values.{field_at, i16_low, sequence_at, map_head_at};
 ghost use Rattle.json_protocol.specs.ReadForms.{Finds, IsStop, FieldLeads, Separates, Ends, EndsMap};
 
-use crate::places::{behind_mark, kind_word, quoted_int, size_behind};
+use crate::places::{behind_mark, kind_word, quoted_id, size_behind};
 use protocol_traits::{Container, Lead, Opening, Pairs};
 use thrift_value::Kind;
 
@@ -75,7 +75,7 @@ fn field_id(frame: &[u8], at: usize) -> Option<(i16, usize)>
     ensures quote { IfSome result (λ x. slice_index frame.now at ≡ 34) }
     ensures found { IfSome result (λ x. Finds frame.now at (quoted_int_in Reason.BadId i16_low (pos 32767)) x.0 x.1) }
 {
-    let (id, behind) = quoted_int(frame, at)?;
+    let (id, behind) = quoted_id(frame, at)?;
     if id < -32768 {
         return None;
     }

@@ -1,5 +1,5 @@
 //! Words at a place, as writers spell them: no escape, and a byte behind. `None` says nothing of the bytes.
-ghost use Rattle.std.specs.Prelude.{◌≡◌, ◌≤◌, ◌<◌, ◌+◌, ◌-◌, ◌^◌, ◌≤ℤ◌, ℤ, negsuc, length, map, take, drop, true, Some, IfSome, slice_index};
+ghost use Rattle.std.specs.Prelude.{◌≡◌, ◌≤◌, ◌<◌, ◌+◌, ◌-◌, ◌^◌, ◌≤ℤ◌, ℤ, pos, negsuc, length, map, take, drop, true, Some, IfSome, slice_index};
 ghost use Rattle.std.specs.List.{prefix_len};
 ghost use Rattle.std.specs.Char.{is_ascii_digit};
 ghost use Rattle.std.specs.Simd.Lanes.{mask_l};
@@ -11,6 +11,7 @@ ghost use Rattle.json_text.specs.Places.{IsInside, IsAsciiRun, is_high};
 
 use crate::run::stops;
 use crate::text::{Run, judge_run};
+use core::dec2flt::read_digits;
 use std::simd::prelude::*;
 
 /// The integer that begins at a place and ends before another byte, and the place of that byte.
@@ -24,27 +25,63 @@ pub fn plain_int(bytes: &[u8], at: usize) -> Option<(i64, usize)>
     if at == bytes.len() {
         return None;
     }
-    if bytes[at] == b'-' {
-        let (size, end) = plain_digits(bytes, at + 1)?;
-        if size == 0 || size > 1 << 63 {
-            return None;
-        }
-        return Some((negated(size), end));
+    let sign = sign_at(bytes, at);
+    let (size, end) = plain_digits(bytes, at + sign as usize)?;
+    // Behind a minus a size of 0 wraps, and is refused with those that are too large.
+    let rank = size.wrapping_sub(sign);
+    if rank >= 1 << 63 {
+        return None;
     }
-    let (size, end) = plain_digits(bytes, at)?;
-    if size < 1 << 63 {
-        return Some((size as i64, end));
-    }
-    None
+    Some((signed(rank, sign), end))
 }
 
-/// The negative number of this size.
+/// The same, quicker where the integer has one digit.
 #[inline(always)]
-fn negated(size: u64) -> i64
-    requires { (0 < size) × (size ≤ 2 ^ 63) }
-    ensures { result ≡ negsuc (size - 1) }
+pub fn plain_small_int(bytes: &[u8], at: usize) -> Option<(i64, usize)>
+    requires { at ≤ length bytes.now }
+    ensures inside { IfSome result (λ x. IsInside bytes.now at x.1) }
+    ensures begins { IfSome result (λ x. is_int_byte (slice_index bytes.now at) ≡ true) }
+    ensures found { IfSome result (λ x. (low high : ℤ) → low ≤ℤ x.0 → x.0 ≤ℤ high → int_at low high (drop at bytes.now) ≡ Whole x.0 (x.1 - at)) }
 {
-    -1 - (size - 1) as i64
+    if is_lone_digit(bytes, at) {
+        return Some(((bytes[at] - b'0') as i64, at + 1));
+    }
+    plain_int(bytes, at)
+}
+
+/// Whether a digit is an integer of its own, with another byte behind it.
+#[inline(always)]
+fn is_lone_digit(bytes: &[u8], at: usize) -> bool
+    requires { at ≤ length bytes.now }
+    ensures inside { result ≡ true → at + 1 < length bytes.now }
+    ensures digit { result ≡ true → is_ascii_digit (slice_index bytes.now at) ≡ true }
+    ensures run { result ≡ true → prefix_len is_int_byte (drop at bytes.now) ≡ 1 }
+{
+    if bytes.len() - at < 2 {
+        return false;
+    }
+    bytes[at].is_ascii_digit() && !bytes[at + 1].is_ascii_digit() && bytes[at + 1] != b'-'
+}
+
+/// 1 where a minus stands, and 0 at another byte.
+#[inline(always)]
+fn sign_at(bytes: &[u8], at: usize) -> u64
+    requires { at < length bytes.now }
+    ensures small { result ≤ 1 }
+    ensures minus { slice_index bytes.now at ≡ 45 → result ≡ 1 }
+    ensures other { (slice_index bytes.now at ≡ 45 → ⊥) → result ≡ 0 }
+{
+    (bytes[at] == b'-') as u64
+}
+
+/// The number of this rank from 0 on, or from -1 down where the sign is 1. No jump asks for the sign, for none foresees it.
+#[inline(always)]
+fn signed(rank: u64, sign: u64) -> i64
+    requires { rank < 2 ^ 63 }
+    ensures plus { sign ≡ 0 → result ≡ pos rank }
+    ensures minus { sign ≡ 1 → result ≡ negsuc rank }
+{
+    (rank ^ 0u64.wrapping_sub(sign)).cast_signed()
 }
 
 /// Digits that begin with a 0 only where they are `0`, as a number, and the place of the byte behind them, which is no sign.
@@ -66,7 +103,7 @@ fn plain_digits(bytes: &[u8], at: usize) -> Option<(u64, usize)>
     Some((value, end))
 }
 
-/// The longest run of digits, as a number, and the place behind it.
+/// The longest run of digits, as a number, and the place behind it. 19 digits and fewer make a number below 2^64.
 #[inline(always)]
 fn digits_here(bytes: &[u8], at: usize) -> Option<(u64, usize)>
     requires { at ≤ length bytes.now }
@@ -74,14 +111,9 @@ fn digits_here(bytes: &[u8], at: usize) -> Option<(u64, usize)>
     ensures run { IfSome result (λ x. prefix_len is_ascii_digit (drop at bytes.now) ≡ x.1 - at) }
     ensures value { IfSome result (λ x. digits_from 0 (take (x.1 - at) (drop at bytes.now)) ≡ Some x.0) }
 {
-    let mut value: u64 = 0;
-    let mut end = at;
-    'digits: while end < bytes.len() && bytes[end].is_ascii_digit() {
-        if value > 1_000_000_000_000_000_000 {
-            return None;
-        }
-        value = value * 10 + (bytes[end] - b'0') as u64;
-        end += 1;
+    let (end, value) = read_digits(bytes, at, 0);
+    if end - at > 19 {
+        return None;
     }
     Some((value, end))
 }
