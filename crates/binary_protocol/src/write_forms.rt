@@ -5,9 +5,8 @@ ghost use Rattle.binary_protocol.specs.Grammar.{size as size_of};
 ghost use Rattle.binary_protocol.specs.WriteForms.{goes_on, starts_at};
 
 use crate::codes::code_of_kind;
-use crate::writer::{BinaryWrite, put_head};
+use crate::writer::{BinaryWrite, lay_head};
 use cell_writes::{lay, lay_part};
-use gate_io::Out;
 use protocol_traits::{Container, FormWrite, Head, Hint, Mark, Opening, Stand, UUID};
 use thrift_value::Kind;
 
@@ -31,8 +30,8 @@ impl FormWrite for BinaryWrite {
     }
 
     #[inline(always)]
-    fn front(head: &Head<'_>, out: &mut Out) {
-        put_head(head, out)
+    fn front(cells: &mut [u8], to: usize, head: &Head<'_>) -> usize {
+        lay_head(cells, to, head)
     }
 
     #[inline(always)]

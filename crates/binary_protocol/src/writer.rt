@@ -118,20 +118,20 @@ pub fn put_head(head: &Head<'_>, out: &mut Out)
     ensures { out.new ≡ record out.old { bytes = out.old.bytes ++ plain_head (header_of head.now) } }
 {
     let cells = out.tail(head.name.len() + AROUND_NAME);
-    lay_head(cells, head);
+    lay_head(cells, 0, head);
 }
 
-/// Lays the strict header into cells, and gives how many it took.
+/// Lays the strict header into the cells from a place on, and gives the place behind it.
 #[inline(always)]
-fn lay_head(cells: &mut [u8], head: &Head<'_>) -> usize
+pub fn lay_head(cells: &mut [u8], to: usize, head: &Head<'_>) -> usize
     requires size { length head.now.name.now < 2 ^ 31 }
-    requires room { length head.now.name.now + AROUND_NAME ≤ length cells.old }
-    ensures laid { take result cells.new ≡ plain_head (header_of head.now) }
-    ensures place { result ≡ length head.now.name.now + AROUND_NAME }
+    requires room { to + (length head.now.name.now + AROUND_NAME) ≤ length cells.old }
+    ensures laid { take result cells.new ≡ take to cells.old ++ plain_head (header_of head.now) }
+    ensures place { result ≡ to + (length head.now.name.now + AROUND_NAME) }
 {
     let [a, b, c, d] = (head.name.len() as u32).to_be_bytes();
     let code = code_of_type(head.mtype);
-    let to = lay(cells, 0, &[0x80, 1, 0, code, a, b, c, d]);
+    let to = lay(cells, to, &[0x80, 1, 0, code, a, b, c, d]);
     let to = lay(cells, to, head.name);
     lay(cells, to, &head.seq.to_be_bytes())
 }

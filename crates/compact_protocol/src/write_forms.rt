@@ -7,14 +7,13 @@ ghost use Rattle.compact_protocol.specs.Codes.{code_of};
 ghost use Rattle.compact_protocol.specs.Plain.{field_spelling, elements_spelling, head_spelling};
 ghost use Rattle.compact_protocol.specs.WriteForms.{starts_at, goes_on};
 
-use crate::writer::{CompactWrite, code_of, flag_code, put_head, short_step, type_code};
+use crate::writer::{CompactWrite, code_of, flag_code, short_step, type_code};
 use cell_writes::{lay, lay_part};
-use gate_io::Out;
 use protocol_traits::{Container, FormWrite, Head, Hint, Mark, Opening, Stand, UUID};
 use thrift_value::Kind;
 use varint_zigzag::{put_size, put_u32, put_u64, zigzag32, zigzag64};
 
-/// So many cells are free for a header besides its name's: it takes at most twelve, and its lengths are laid eight cells
+/// So many cells are free for a header besides its name's: it takes at most twelve, and its numbers are laid eight cells
 /// at a time.
 const AROUND_NAME: usize = 16;
 
@@ -39,8 +38,8 @@ impl FormWrite for CompactWrite {
     }
 
     #[inline(always)]
-    fn front(head: &Head<'_>, out: &mut Out) {
-        append_head(head, out)
+    fn front(cells: &mut [u8], to: usize, head: &Head<'_>) -> usize {
+        lay_head(cells, to, head)
     }
 
     #[inline(always)]
@@ -168,35 +167,16 @@ impl FormWrite for CompactWrite {
     }
 }
 
-/// Appends a header.
-#[inline(always)]
-fn append_head(head: &Head<'_>, out: &mut Out)
-    requires size { length head.now.name.now < 2 ^ 31 }
-    requires room { length out.old.bytes + length (head_spelling (header_of head.now)) ≤ out.old.room }
-    ensures { out.new ≡ record out.old { bytes = out.old.bytes ++ head_spelling (header_of head.now) } }
-{
-    let count = head.name.len() + AROUND_NAME;
-    if count > out.spare() {
-        put_head(head, out);
-        return;
-    }
-    let before = out.bytes().len();
-    let cells = out.tail(count);
-    let taken = lay_head(cells, head);
-    out.cut(before + taken);
-}
-
-/// Lays a header into cells, and gives how many it took.
+/// Lays a header into the cells from a place on, and gives the place behind it.
 #[inline(always)]
 #[tactic(auto, unfolding(crate::specs::Plain::head_spelling, crate::specs::Plain::string_spelling))]
-fn lay_head(cells: &mut [u8], head: &Head<'_>) -> usize
+fn lay_head(cells: &mut [u8], to: usize, head: &Head<'_>) -> usize
     requires size { length head.now.name.now < 2 ^ 31 }
-    requires room { length head.now.name.now + AROUND_NAME ≡ length cells.old }
-    ensures kept { length cells.new ≡ length cells.old }
-    ensures laid { take result cells.new ≡ head_spelling (header_of head.now) }
-    ensures short { result ≤ length cells.old }
+    requires room { to + (length head.now.name.now + AROUND_NAME) ≤ length cells.old }
+    ensures laid { take result cells.new ≡ take to cells.old ++ head_spelling (header_of head.now) }
+    ensures short { result ≤ to + (length head.now.name.now + AROUND_NAME) }
 {
-    let to = lay(cells, 0, &[0x82, 32 * type_code(head.mtype) + 1]);
+    let to = lay(cells, to, &[0x82, 32 * type_code(head.mtype) + 1]);
     let to = put_u32(cells, to, head.seq.cast_unsigned());
     let to = put_size(cells, to, head.name.len() as u32);
     lay(cells, to, head.name)

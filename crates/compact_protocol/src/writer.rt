@@ -234,6 +234,8 @@ pub fn flag_code(value: bool) -> u8
     if value { 1 } else { 2 }
 }
 
+/// The number that stands for a message type.
+#[inline(always)]
 pub fn type_code(mtype: MessageType) -> u8
     ensures code { result ≡ type_code mtype }
     ensures bound { result < 5 }

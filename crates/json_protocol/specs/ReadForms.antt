@@ -730,13 +730,13 @@ back_found frame name code kind_end number last behind kind seq mtype is first c
     (ap (λ (t : MessageType). Ok ((t, seq), behind)) (sym is))
 
 -- a header from its words
-pub head_found : (frame : List ℕ) (start finish behind : ℕ) (name : List ℕ) (mtype : MessageType) (seq : ℤ) → front_at frame ≡ Ok (tt, start) → start < finish → text_at (drop start frame) ≡ Whole name (finish + 1 - start)
-    → back_at (finish + 1) frame ≡ Ok ((mtype, seq), behind) → length name ≤ finish → finish + 1 ≤ behind → behind < length frame → HeadFound frame (record { name = name; mtype = mtype; seq = seq }) behind
+pub head_found : (frame : List ℕ) (start finish behind : ℕ) (name : List ℕ) (mtype : MessageType) (seq : ℤ) → front_at frame ≡ Ok (tt, start) → start ≤ finish → text_at (drop start frame) ≡ Whole name (finish - start)
+    → back_at finish frame ≡ Ok ((mtype, seq), behind) → length name ≤ finish → finish ≤ behind → behind < length frame → HeadFound frame (record { name = name; mtype = mtype; seq = seq }) behind
 unfolding head_at text_in
 head_found frame start finish behind name mtype seq front order named back short onward within = record {
   start = start;
   found =
-      let whole : shifted start (text_in (drop start frame)) ≡ Ok (name, finish + 1) =
+      let whole : shifted start (text_in (drop start frame)) ≡ Ok (name, finish) =
       ap (λ s. shifted start (item reasons.BadString (drop start frame) (words.moved 0 s))) named ∙ ap (λ n. Ok (name, n)) (omega (arith, order)) in
       rw (front, whole, back) refl;
   short = omega (arith, short, onward);

@@ -1,6 +1,8 @@
 //! The header and the end of a message.
-ghost use Rattle.std.specs.Prelude.{◌≡◌, ℕ, ◌+◌, ◌≤◌, ◌<◌, ◌≤ℤ◌, length, drop, pos, false, slice_index, Ok, IfOk, IfSome};
+ghost use Rattle.std.specs.Prelude.{◌≡◌, ◌+◌, ◌-◌, ◌≤◌, ◌<◌, ◌≤ℤ◌, length, drop, pos, false, slice_index, Ok, IfOk, IfSome};
 ghost use Rattle.json_text.specs.Scan.{is_white};
+ghost use Rattle.json_text.specs.Text.{text_at};
+ghost use Rattle.json_text.specs.declared.scanned.Scan.TheVariants.{Whole};
 ghost use Rattle.protocol_traits.specs.Steps.{seen};
 ghost use Rattle.json_protocol.specs.Scan.{IsWithin, Keeps, further, shifted, string_scan};
 ghost use Rattle.json_protocol.specs.Words.{int_in, text_in};
@@ -12,7 +14,7 @@ use crate::places::behind_mark;
 use crate::room::Room;
 use crate::scan::{gap_from, mark_from};
 use crate::word::int_in;
-use json_text::{plain_int, plain_text};
+use json_text::{Scan, plain_int, plain_text, read_text};
 use protocol_traits::{Fault, Head, Reason, fault_at};
 use thrift_value::MessageType;
 
@@ -111,33 +113,16 @@ pub fn head_at<'f>(
     Ok(((Head { name, mtype, seq }, start), taken))
 }
 
-/// The header in its plain spelling, where its name has no escape and a byte stands behind it.
+/// The header in its plain spelling, where a byte stands behind it. A name that has an escape is decoded into the room.
 #[inline(always)]
-pub fn front_of(frame: &[u8]) -> Option<(Head<'_>, usize)>
+pub fn front_of<'f>(frame: &'f [u8], room: &'f mut [u8]) -> Option<(Head<'f>, usize)>
+    requires { length frame.now ≤ length room.old }
     ensures { IfSome result (λ x. HeadFound frame.now (header_of x.0) x.1) }
 {
     let start = name_place(frame)?;
-    let stop = plain_text(frame, start)?;
-    let code = behind_mark(frame, stop + 1, b',')?;
-    let (kind, end) = plain_int(frame, code)?;
-    if kind < 1 || kind > 4 {
-        return None;
-    }
-    let number = behind_mark(frame, end, b',')?;
-    let (seq, end) = plain_int(frame, number)?;
-    if seq < -2147483648 || seq > 2147483647 {
-        return None;
-    }
-    let behind = behind_mark(frame, end, b',')?;
-    let name = &frame[start + 1..stop];
-    Some((
-        Head {
-            name,
-            mtype: type_of(kind),
-            seq: seq as i32,
-        },
-        behind,
-    ))
+    let (name, stop) = name_word(frame, start, room)?;
+    let ((mtype, seq), behind) = behind_name(frame, stop)?;
+    Some((Head { name, mtype, seq }, behind))
 }
 
 /// The place of the name, behind the bracket and the version.
@@ -153,6 +138,62 @@ fn name_place(frame: &[u8]) -> Option<usize>
     }
     let start = behind_mark(frame, end, b',')?;
     Some(start)
+}
+
+/// A name and the place behind its quote: lent from the frame where it has no escape, else decoded into the room.
+#[inline(always)]
+fn name_word<'f>(frame: &'f [u8], at: usize, room: &'f mut [u8]) -> Option<(&'f [u8], usize)>
+    requires place { at < length frame.now }
+    requires room { length frame.now ≤ length room.old }
+    ensures begins { IfSome result (λ x. slice_index frame.now at ≡ 34) }
+    ensures within { IfSome result (λ x. x.1 ≤ length frame.now) }
+    ensures shorter { IfSome result (λ x. length x.0.now + at + 2 ≤ x.1) }
+    ensures found { IfSome result (λ x. text_at (drop at frame.now) ≡ Whole x.0.now (x.1 - at)) }
+{
+    match plain_text(frame, at) {
+        Some(stop) => Some((&frame[at + 1..stop], stop + 1)),
+        None => escaped_name(frame, at, room),
+    }
+}
+
+/// A name that has an escape, decoded into the room. In a function of its own, so that the plain name stays quick.
+#[inline(never)]
+fn escaped_name<'f>(frame: &[u8], at: usize, room: &'f mut [u8]) -> Option<(&'f [u8], usize)>
+    requires place { at < length frame.now }
+    requires room { length frame.now ≤ length room.old }
+    ensures begins { IfSome result (λ x. slice_index frame.now at ≡ 34) }
+    ensures within { IfSome result (λ x. x.1 ≤ length frame.now) }
+    ensures shorter { IfSome result (λ x. length x.0.now + at + 2 ≤ x.1) }
+    ensures found { IfSome result (λ x. text_at (drop at frame.now) ≡ Whole x.0.now (x.1 - at)) }
+{
+    if frame[at] != b'"' {
+        return None;
+    }
+    match read_text(frame, at, &mut *room) {
+        Scan::Whole(size, stop) => Some((&room[..size], stop)),
+        Scan::Short | Scan::Bad(_) => None,
+    }
+}
+
+/// The type and the number behind a name, with their commas.
+#[inline(always)]
+fn behind_name(frame: &[u8], at: usize) -> Option<((MessageType, i32), usize)>
+    requires { at ≤ length frame.now }
+    ensures within { IfSome result (λ x. (at ≤ x.1) × (x.1 < length frame.now)) }
+    ensures found { IfSome result (λ x. back_at at frame.now ≡ Ok x) }
+{
+    let code = behind_mark(frame, at, b',')?;
+    let (kind, end) = plain_int(frame, code)?;
+    if kind < 1 || kind > 4 {
+        return None;
+    }
+    let number = behind_mark(frame, end, b',')?;
+    let (seq, end) = plain_int(frame, number)?;
+    if seq < -2147483648 || seq > 2147483647 {
+        return None;
+    }
+    let behind = behind_mark(frame, end, b',')?;
+    Some(((type_of(kind), seq as i32), behind))
 }
 
 /// The closing bracket, and only whitespace behind it.

@@ -42,13 +42,14 @@ impl<'f> FormRead for JsonRead<'f> {
     }
 
     #[inline(always)]
-    fn front(frame: &[u8]) -> Option<(Head<'_>, usize)>
-        requires { length frame.now < 2 ^ 31 }
+    fn front<'a>(frame: &'a [u8], room: &'a mut [u8]) -> Option<(Head<'a>, usize)>
+        requires size { length frame.now < 2 ^ 31 }
+        requires room { length frame.now ≤ length room.old }
         ensures reads { IfSome result (λ x. ReadsHead stands_at (reads_head (begun frame.now)) frame.now (header_of x.0) x.1) }
         ensures sized { IfSome result (λ x. length x.0.name.now < 2 ^ 31) }
         ensures place { IfSome result (λ x. (length x.0.name.now ≤ x.1) × (x.1 ≤ length frame.now)) }
     {
-        let (head, behind) = front_of(frame)?;
+        let (head, behind) = front_of(frame, room)?;
         Some((head, behind))
     }
 

@@ -1,21 +1,18 @@
 //! The writer's quick forms: one item laid into the cells, by value.
-ghost use Rattle.std.specs.Prelude.{◌≡◌, ℤ, pos, ◌+◌, ◌*◌, ◌≤◌, ◌<◌, ◌^◌, ◌∷◌, [], ◌++◌, true, length, take, IfSome};
+ghost use Rattle.std.specs.Prelude.{◌≡◌, ◌+◌, ◌*◌, ◌≤◌, ◌∷◌, ◌++◌, true, length, take, IfSome};
 ghost use Rattle.std.specs.Str.{is_utf8};
-ghost use Rattle.std.specs.Fmt.{signed_decimal};
 ghost use Rattle.json_text.specs.Blob.{blob_spelling};
 ghost use Rattle.json_text.specs.Plain.{text_spelling};
-ghost use Rattle.protocol_traits.specs.Heads.{header_of};
-ghost use Rattle.json_protocol.specs.Writing.{flag, kinds_spelling, plain_head, sequence_spelling, stop_spelling};
+ghost use Rattle.json_protocol.specs.Writing.{flag, kinds_spelling, sequence_spelling, stop_spelling};
 ghost use Rattle.json_protocol.specs.WriteForms.{starts_at, goes_on, stand_lead};
 
 use crate::lay::{
     container_end, flag_word, lay_both, lay_field, lay_marks, lay_whole, quoted_name, stand_key,
     stand_lead, stop_marks,
 };
-use crate::put::{put_head, type_digit};
+use crate::put::type_digit;
 use crate::writer::{JsonWrite, is_uuid};
 use cell_writes::lay;
-use gate_io::Out;
 use json_text::{lay_blob, lay_int, lay_text, lay_utf8};
 use protocol_traits::{Container, FormWrite, Head, Hint, Mark, Opening, Stand};
 use thrift_value::Kind;
@@ -40,8 +37,13 @@ impl FormWrite for JsonWrite {
     }
 
     #[inline(always)]
-    fn front(head: &Head<'_>, out: &mut Out) {
-        append_head(head, out);
+    fn front(cells: &mut [u8], to: usize, head: &Head<'_>) -> usize {
+        let name = lay(cells, to, b"[1,");
+        let (behind, _) = lay_utf8(cells, name, head.name, head.name.len());
+        let digit = lay_both(cells, behind, b",", type_digit(head.mtype));
+        let number = lay(cells, digit, b",");
+        let end = lay_int(cells, number, i64::from(head.seq));
+        lay(cells, end, b",")
     }
 
     #[inline(always)]
@@ -184,43 +186,6 @@ impl FormWrite for JsonWrite {
     fn end(cells: &mut [u8], to: usize, container: Container) -> usize {
         lay(cells, to, container_end(container))
     }
-}
-
-/// How many cells a header may take besides six for each byte of its name, and a wide copy may write over.
-const AROUND_NAME: usize = 80;
-
-/// Appends a header: at once, where there is room for a wide copy behind it.
-#[inline(always)]
-fn append_head(head: &Head<'_>, out: &mut Out)
-    requires sized { length head.now.name.now < 2 ^ 31 }
-    requires room { length out.old.bytes + length (plain_head (header_of head.now)) ≤ out.old.room }
-    ensures { out.new ≡ record out.old { bytes = out.old.bytes ++ plain_head (header_of head.now) } }
-{
-    let most = 6 * head.name.len() + AROUND_NAME;
-    if most > out.spare() {
-        put_head(head, out);
-        return;
-    }
-    let before = out.bytes().len();
-    let cells = out.tail(most);
-    let taken = lay_front(cells, head);
-    out.cut(before + taken);
-}
-
-/// Lays a header at the front of the cells, and gives how many it took.
-#[inline(always)]
-fn lay_front(cells: &mut [u8], head: &Head<'_>) -> usize
-    requires { 6 * length head.now.name.now + AROUND_NAME ≤ length cells.old }
-    ensures kept { length cells.new ≡ length cells.old }
-    ensures laid { take result cells.new ≡ plain_head (header_of head.now) }
-    ensures short { result ≤ length cells.old }
-{
-    let name = lay(cells, 0, b"[1,");
-    let (behind, _) = lay_utf8(cells, name, head.name, head.name.len());
-    let digit = lay_both(cells, behind, b",", type_digit(head.mtype));
-    let number = lay(cells, digit, b",");
-    let to = lay_int(cells, number, i64::from(head.seq));
-    lay(cells, to, b",")
 }
 
 /// A bool field's value with the mark before it.

@@ -15,11 +15,10 @@ ghost use Rattle.protocol_traits.specs.Heads.{header_of};
 ghost use Rattle.protocol_traits.specs.Steps.{told};
 ghost use Rattle.protocol_traits.specs.Follow.{after as levels_after};
 ghost use Rattle.protocol_traits.specs.Forms.{elements_item, container_kind, pairs_item, part, double_item, uuid_item, text_weight, opening_after, IsPast, StepsLead, StepsFlag, StepsValue, StepsText, StepsInto, StepsEnd, ReadsHead, SpellsField, SpellsFlag, SpellsStop, SpellsValue, SpellsText, SpellsElements, SpellsNoPairs, SpellsEnd};
-ghost use Rattle.protocol_traits.specs.Room.{weight};
+ghost use Rattle.protocol_traits.specs.Room.{head_weight, weight};
 
 use crate::forms::{Container, Decoded, Lead, Opening, Pairs, Span, Stand};
 use crate::{Head, Hint, Mark, ReadRules, WireWrite};
-use gate_io::Out;
 use thrift_value::Kind;
 
 /// How many cells behind a place an item other than a text may write to: its spelling, and what a wide copy overwrites
@@ -40,8 +39,10 @@ pub trait FormRead: ReadRules {
         ensures { result ≡ hinted };
 
     /// The header at the beginning of a frame, and the place behind it, where the body begins.
-    fn front(frame: &[u8]) -> Option<(Head<'_>, usize)>
-        requires { length frame.now < 2 ^ 31 }
+    /// `room` is at least as long as the frame. A name that doesn't lie in the frame as it is meant stands there.
+    fn front<'f>(frame: &'f [u8], room: &'f mut [u8]) -> Option<(Head<'f>, usize)>
+        requires size { length frame.now < 2 ^ 31 }
+        requires room { length frame.now ≤ length room.old }
         ensures reads { IfSome result (λ x. ReadsHead Self.stands_at (Self.reads_head (Self.begun frame.now)) frame.now (header_of x.0) x.1) }
         ensures sized { IfSome result (λ x. length x.0.name.now < 2 ^ 31) }
         ensures place { IfSome result (λ x. (length x.0.name.now ≤ x.1) × (x.1 ≤ length frame.now)) };
@@ -179,12 +180,14 @@ pub trait FormWrite: WireWrite {
     fn is_marked() -> bool
         ensures { result ≡ marked };
 
-    /// Appends a header.
-    fn front(head: &Head<'_>, out: &mut Out)
+    /// A header.
+    fn front(cells: &mut [u8], to: usize, head: &Head<'_>) -> usize
         requires sized { length head.now.name.now < 2 ^ 31 }
         requires taken { Self.name_bar head.now.name.now ≡ None }
-        requires room { length out.old.bytes + length (Self.plain_head (header_of head.now)) ≤ out.old.room }
-        ensures { out.new ≡ record out.old { bytes = out.old.bytes ++ Self.plain_head (header_of head.now) } };
+        requires room { to + (head_weight (length head.now.name.now) + WIDE) ≤ length cells.old }
+        ensures kept { length cells.new ≡ length cells.old }
+        ensures short { result ≤ to + head_weight (length head.now.name.now) }
+        ensures spells { take result cells.new ≡ take to cells.old ++ Self.plain_head (header_of head.now) };
 
     /// A field's id and kind, where its value is no bool.
     fn field(cells: &mut [u8], to: usize, opening: Opening, last: i16, id: i16, kind: Kind) -> usize

@@ -1,7 +1,5 @@
 -- The verdict on a frame, from any reader to any writer.
-use Rattle.std.specs.Prelude.{◌≡◌, ℕ, List, [], ◌++◌, Option, Some, None, is_some, Result, Ok, Err, if◌then◌else◌}
-use Rattle.thrift_value.specs.declared.kind.MessageType.{MessageType}
-use Rattle.protocol_traits.specs.declared.fault.Fault.{Fault}
+use Rattle.std.specs.Prelude.{◌≡◌, ℕ, List, [], ◌++◌, Option, Some, None, is_some, Ok, Err, if◌then◌else◌}
 use Rattle.protocol_traits.specs.Heads.{Header}
 use Rattle.protocol_traits.specs.Steps.{Step}
 use Rattle.translate_core.specs.declared.verdict.Cause.{Cause}
@@ -83,11 +81,6 @@ IsLeft (Unread f) old new = new ≡ old
 -- the output has grown, where the message passed by these bytes
 abbrev pub Grows : Verdict → List ℕ → List ℕ → List ℕ → Type 0
 Grows verdict old new bytes = (added : List ℕ) × (new ≡ old ++ added) × (kept verdict added ≡ kept verdict bytes)
-
--- the type in a header that was read
-abbrev pub type_of : {S : Type 0} → Step S Header → Result MessageType Fault
-type_of (Ok x) = Ok x.0.mtype
-type_of (Err f) = Err f
 
 -- ---- by the rules of any reader and any writer
 

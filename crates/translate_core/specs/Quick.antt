@@ -14,6 +14,7 @@ use Rattle.protocol_traits.specs.declared.forms.Stand.{Stand}
 use Rattle.protocol_traits.specs.declared.nest.Slot.{Slot}
 use Rattle.protocol_traits.specs.declared.nest.Slot.TheVariants as slots
 use Rattle.protocol_traits.specs.Follow.{spent}
+use Rattle.protocol_traits.specs.Heads.{Header}
 use Rattle.protocol_traits.specs.Steps.{told}
 use Rattle.protocol_traits.specs.declared.proto.Hint.{Hint}
 use Rattle.protocol_traits.specs.Forms.{Appends, Calls, Steps, lead_item}
@@ -199,10 +200,10 @@ module _ {S T : Type 0} (reads : ReadRules S) (writes : WriteRules T) where
     TookFields depth frame at opening old to new taken written = IfSome taken (λ read. (ty : Ty) → means ty
         → TakesFields (source_in reads) (target_in writes) reads.stands_at writes.stands_at d ty depth frame at opening old to new read written)
 
-    -- the fields of a body were taken to its end, into the front of the cells
-    abbrev pub TookBody : List ℕ → ℕ → List ℕ → List ℕ → Option Reach → Type 0
-    TookBody frame at old new taken = IfSome taken (λ x. (ty : Ty) → means ty
-        → TakesFields (source_in reads) (target_in writes) reads.stands_at writes.stands_at d ty 1 frame at openings.Body old 0 new x.read x.written)
+    -- the fields of a body were taken to its end
+    abbrev pub TookBody : List ℕ → ℕ → List ℕ → ℕ → List ℕ → Option Reach → Type 0
+    TookBody frame at old to new taken = IfSome taken (λ x. (ty : Ty) → means ty
+        → TakesFields (source_in reads) (target_in writes) reads.stands_at writes.stands_at d ty 1 frame at openings.Body old to new x.read x.written)
 
     -- so many elements of a list or set were taken, and its end was not
     abbrev pub TookRun : ℕ → List ℕ → ℕ → Kind → ℕ → List ℕ → ℕ → List ℕ → Option Reach → Type 0
@@ -220,12 +221,16 @@ module _ {S T : Type 0} (reads : ReadRules S) (writes : WriteRules T) where
       IfSome taken (λ x. (level : Level) → Turns level → keys (called_for (Some level)) → values (called_for (Some (turned level)))
       → TakesPairs (source_in reads) (target_in writes) reads.stands_at writes.stands_at d level depth frame pairs.behind pairs.key pairs.value pairs.size old to new x.read x.written)
 
-  -- a whole body of this struct, if any, was taken from a place of the frame into the front of the cells
-  abbrev pub TakesBody : Declarations → Option StructId → List ℕ → ℕ → List ℕ → List ℕ → ℕ → ℕ → Type 0
-  TakesBody d body frame at old new read written =
-      TakesFields (source_in reads) (target_in writes) reads.stands_at writes.stands_at d (body_type body) 1 frame at openings.Body old 0 new read written
+  -- a whole body of this struct, if any, was taken from a place of the frame into the cells from a place on
+  abbrev pub TakesBody : Declarations → Option StructId → List ℕ → ℕ → List ℕ → ℕ → List ℕ → ℕ → ℕ → Type 0
+  TakesBody d body frame at old to new read written =
+      TakesFields (source_in reads) (target_in writes) reads.stands_at writes.stands_at d (body_type body) 1 frame at openings.Body old to new read written
 
   -- From each reader that stands at the beginning of the body, at this place of the frame, the body passes whole.
   abbrev pub PassesBody : Declarations → Option StructId → List ℕ → ℕ → List ℕ → List ℕ → Type 0
   PassesBody d body frame at old new =
       (s : S) → reads.stands_at s frame at openings.Body (slots.Fields (pos 0) ∷ []) → Passes (source_in reads) (target_in writes) s (start d body) old new
+
+  -- the same behind this header, which was written first
+  abbrev pub PassesMessage : Declarations → Option StructId → Header → List ℕ → ℕ → List ℕ → List ℕ → Type 0
+  PassesMessage d body header frame at old new = PassesBody d body frame at (old ++ writes.plain_head header) new

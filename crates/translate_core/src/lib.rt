@@ -22,7 +22,7 @@ mod verdict;
 
 pub use answering::answer;
 pub use laws::an_answer_is_a_declared_failure;
-pub use message::{head_type, translate};
+pub use message::translate;
 pub use methods::{Services, served, translate_method, translate_method_quickly};
 pub use passing::pass_quickly;
 pub use route::{Route, body_struct};

@@ -5,14 +5,13 @@ ghost use Rattle.protocol_traits.specs.Room.{head_weight, room_for};
 ghost use Rattle.type_walk.specs.Positions.{start};
 ghost use Rattle.translate_core.specs.Routes.{IsKnownRoute};
 ghost use Rattle.translate_core.specs.Body.{first_cause};
-ghost use Rattle.translate_core.specs.Judged.{IsJudged, IsLeft, Grows, bytes_from, judged_frame, kept, type_of, verdict_from, with_head};
+ghost use Rattle.translate_core.specs.Judged.{IsJudged, IsLeft, Grows, bytes_from, judged_frame, kept, verdict_from, with_head};
 
 use crate::body::{body, first_cause};
 use crate::route::{Route, Told, told_of};
 use crate::verdict::{Cause, HeadInfo, Verdict};
 use gate_io::Out;
-use protocol_traits::{Bar, Fault, Head, WireRead, WireWrite};
-use thrift_value::MessageType;
+use protocol_traits::{Bar, Head, WireRead, WireWrite};
 use type_tables::Schema;
 use type_walk::{Undeclared, Walk, Walking};
 
@@ -54,22 +53,6 @@ pub fn translate<'f, R: WireRead<'f>, W: WireWrite>(
     let verdict = verdict_by(schema, told, &mut reader, &mut writer, barred, out);
     keep(&verdict, start, out);
     verdict
-}
-
-/// The type that a frame's header tells, or the fault that stands in the header.
-pub fn head_type<'f, R: WireRead<'f>>(
-    frame: &'f [u8],
-    room: &'f mut [u8],
-) -> Result<MessageType, Fault>
-    requires room { length frame.now ≤ length room.old }
-    requires size { length frame.now < 2 ^ 31 }
-    ensures { result ≡ type_of (R.reads_head (R.begun frame.now)) }
-{
-    let mut reader = R::over(frame, room);
-    match reader.head() {
-        Ok(head) => Ok(head.mtype),
-        Err(fault) => Err(fault),
-    }
 }
 
 /// Writes the header, unless its name is barred.

@@ -1,11 +1,9 @@
 //! A message for one that serves a single service: the name before the method's tells whom it is for, and is left out.
 //!
 //! After Apache Thrift's TMultiplexedProtocol and its TMultiplexedProcessor.
-ghost use Rattle.std.specs.Prelude.{◌≡◌, ℕ, ◌+◌, ◌≤◌, ◌^◌, ◌<◌, List, ◌++◌, [], length, Option, None, IfSome, IfOk, IfErr};
+ghost use Rattle.std.specs.Prelude.{◌≡◌, ℕ, ◌+◌, ◌≤◌, ◌^◌, ◌<◌, List, ◌++◌, [], length, Option, None, IfSome};
 ghost use Rattle.protocol_traits.specs.Heads.{header_of};
 ghost use Rattle.protocol_traits.specs.Room.{head_weight, room_for};
-ghost use Rattle.protocol_traits.specs.Steps.{IsFree};
-ghost use Rattle.type_walk.specs.Positions.{start};
 ghost use Rattle.translate_core.specs.declared.verdict.Verdict.TheVariants.{Passed};
 ghost use Rattle.translate_core.specs.Routes.{IsKnownRoute};
 ghost use Rattle.translate_core.specs.Body.{first_cause};
@@ -15,7 +13,7 @@ ghost use Rattle.translate_core.specs.Methods.{judged_method, method_header, nam
 use crate::answering::spellable;
 use crate::body::first_cause;
 use crate::message::{keep, verdict_by};
-use crate::passing::append_body;
+use crate::passing::{append_message, holds_name};
 use crate::route::{Route, told_of};
 use crate::verdict::{HeadInfo, Verdict};
 use gate_io::Out;
@@ -151,7 +149,7 @@ pub fn translate_method_quickly<'f, R: WireRead<'f> + FormRead, W: FormWrite>(
     ensures room { out.new.room ≡ out.old.room }
     ensures short { length out.new.bytes ≤ length out.old.bytes + room_for (length frame.now) }
 {
-    match pass_method_quickly::<R, W>(schema, route, frame, out) {
+    match pass_method_quickly::<R, W>(schema, route, frame, room, out) {
         Some(info) => Verdict::Passed(info),
         None => translate_method::<R, W>(schema, route, frame, room, out),
     }
@@ -163,9 +161,11 @@ fn pass_method_quickly<R: FormRead, W: FormWrite>(
     schema: &Schema,
     route: Route,
     frame: &[u8],
+    room: &mut [u8],
     out: &mut Out,
 ) -> Option<HeadInfo>
     requires known { IsKnownRoute schema.now route }
+    requires room { length frame.now ≤ length room.old }
     requires size { length frame.now < 2 ^ 31 }
     requires nameless { W.name_bar [] ≡ None }
     requires fits { length out.old.bytes + room_for (length frame.now) ≤ out.old.room }
@@ -174,36 +174,14 @@ fn pass_method_quickly<R: FormRead, W: FormWrite>(
     ensures short { length out.new.bytes ≤ length out.old.bytes + room_for (length frame.now) }
     ensures passes { IfSome result (λ info. IsJudged (Passed info) out.old.bytes out.new.bytes (judged_method R.ReadRules W.WireWrite schema.now route frame.now)) }
 {
-    let start = out.bytes().len();
-    let (head, at) = R::front(frame)?;
+    let (head, at) = R::front(frame, room)?;
     let told = told_of(schema, route, &head);
-    match append_method::<W>(head, out) {
-        Ok(()) => {
-            if append_body::<R, W>(schema, told.body, frame, at, out) {
-                return Some(told.info);
-            }
-            out.cut(start);
-            None
-        }
-        Err(_) => None,
+    if !holds_name::<W>(head.name) {
+        return None;
     }
-}
-
-/// Appends a header with the method's name alone, unless its whole name is barred.
-fn append_method<W: FormWrite>(head: Head<'_>, out: &mut Out) -> Result<(), Bar>
-    requires sized { length head.name.now < 2 ^ 31 }
-    requires nameless { W.name_bar [] ≡ None }
-    requires room { length out.old.bytes + head_weight (length head.name.now) ≤ out.old.room }
-    ensures free { IsFree result (W.name_bar head.entry.name.now) }
-    ensures out { IfOk result (λ _. out.new ≡ record out.old { bytes = out.old.bytes ++ W.plain_head (method_header W.name_bar (header_of head.entry)) }) }
-    ensures left { IfErr result (λ _. out.new ≡ out.old) }
-    ensures short { length out.new.bytes ≤ length out.old.bytes + head_weight (length head.entry.name.now) }
-{
-    match W::takes_name(head.name) {
-        Ok(()) => {
-            W::front(&method_head::<W>(&head), out);
-            Ok(())
-        }
-        Err(bar) => Err(bar),
+    let alone = method_head::<W>(&head);
+    if append_message::<R, W>(schema, told.body, &alone, frame, at, out) {
+        return Some(told.info);
     }
+    None
 }

@@ -1,15 +1,13 @@
 //! The quick way into the output.
-ghost use Rattle.std.specs.Prelude.{◌≡◌, ◌+◌, ◌*◌, ◌≤◌, ◌<◌, ◌^◌, ◌++◌, length, true, false, None, IfErr, IfOk, IfSome};
+ghost use Rattle.std.specs.Prelude.{◌≡◌, ◌+◌, ◌*◌, ◌≤◌, ◌<◌, ◌^◌, [], length, take, true, false, None, IfSome};
 ghost use Rattle.protocol_traits.specs.declared.forms.Opening.{Opening};
 ghost use Rattle.protocol_traits.specs.Forms.{IsPast};
 ghost use Rattle.protocol_traits.specs.Heads.{header_of};
-ghost use Rattle.protocol_traits.specs.Room.{head_weight, room_for};
-ghost use Rattle.protocol_traits.specs.Steps.{IsFree};
-ghost use Rattle.type_walk.specs.Positions.{start};
+ghost use Rattle.protocol_traits.specs.Room.{room_for};
 ghost use Rattle.translate_core.specs.declared.verdict.Verdict.TheVariants.{Passed};
 ghost use Rattle.translate_core.specs.Routes.{IsKnownRoute};
 ghost use Rattle.translate_core.specs.Judged.{IsJudged, judged_frame};
-ghost use Rattle.translate_core.specs.Quick.{Grows, HasRoom, Informs, PassesBody, TakesBody, TookBody};
+ghost use Rattle.translate_core.specs.Quick.{Grows, HasRoom, Informs, PassesBody, PassesMessage, TakesBody, TookBody};
 
 use crate::known::{Declared, Known, Nothing, Undeclared};
 use crate::leaves::{AROUND, Reach};
@@ -17,19 +15,23 @@ use crate::quick::take_fields;
 use crate::route::{Route, told_of};
 use crate::verdict::HeadInfo;
 use gate_io::Out;
-use protocol_traits::{Bar, FormRead, FormWrite, Head, Opening};
+use protocol_traits::{FormRead, FormWrite, Head, Opening};
 use type_tables::{Schema, StructId, Ty};
 
 /// Appends a message's translation, and tells what its header says; or leaves the output as it was, which says nothing of
 /// the frame.
+///
+/// `room` is at least as long as the frame. A name that doesn't lie in the frame as it is meant is laid there.
 #[inline(always)]
 pub fn pass_quickly<R: FormRead, W: FormWrite>(
     schema: &Schema,
     route: Route,
     frame: &[u8],
+    room: &mut [u8],
     out: &mut Out,
 ) -> Option<HeadInfo>
     requires known { IsKnownRoute schema.now route }
+    requires room { length frame.now ≤ length room.old }
     requires size { length frame.now < 2 ^ 31 }
     requires fits { length out.old.bytes + room_for (length frame.now) ≤ out.old.room }
     ensures left { result ≡ None → out.new ≡ out.old }
@@ -37,46 +39,45 @@ pub fn pass_quickly<R: FormRead, W: FormWrite>(
     ensures short { length out.new.bytes ≤ length out.old.bytes + room_for (length frame.now) }
     ensures passes { IfSome result (λ info. IsJudged (Passed info) out.old.bytes out.new.bytes (judged_frame R.ReadRules W.WireWrite schema.now route frame.now)) }
 {
-    let start = out.bytes().len();
-    let (head, at) = R::front(frame)?;
+    let (head, at) = R::front(frame, room)?;
     let told = told_of(schema, route, &head);
-    match append_front::<W>(head, out) {
-        Ok(()) => {
-            if append_body::<R, W>(schema, told.body, frame, at, out) {
-                return Some(told.info);
-            }
-            out.cut(start);
-            None
-        }
-        Err(_) => None,
+    if !holds_name::<W>(head.name) {
+        return None;
     }
+    if append_message::<R, W>(schema, told.body, &head, frame, at, out) {
+        return Some(told.info);
+    }
+    None
 }
 
-/// Appends a header, unless its name is barred.
+/// Whether the writer's protocol can hold a name.
 #[inline(always)]
-fn append_front<W: FormWrite>(head: Head<'_>, out: &mut Out) -> Result<(), Bar>
-    requires sized { length head.name.now < 2 ^ 31 }
-    requires room { length out.old.bytes + head_weight (length head.name.now) ≤ out.old.room }
-    ensures free { IsFree result (W.name_bar head.entry.name.now) }
-    ensures out { IfOk result (λ _. out.new ≡ record out.old { bytes = out.old.bytes ++ W.plain_head (header_of head.entry) }) }
-    ensures left { IfErr result (λ _. out.new ≡ out.old) }
-    ensures short { length out.new.bytes ≤ length out.old.bytes + head_weight (length head.entry.name.now) }
+pub(crate) fn holds_name<W: FormWrite>(name: &[u8]) -> bool
+    ensures { result ≡ true → W.name_bar name.now ≡ None }
 {
-    match W::takes_name(head.name) {
-        Ok(()) => {
-            W::front(&head, out);
-            Ok(())
-        }
-        Err(bar) => Err(bar),
+    match W::takes_name(name) {
+        Ok(()) => true,
+        Err(_) => false,
     }
 }
 
-/// Appends the body that begins at a place, and says that the message is whole; or leaves the output as it was, which
-/// says nothing of the frame.
+/// The most bytes that any protocol spells a message in that came in a frame of so many bytes.
 #[inline(always)]
-pub(crate) fn append_body<R: FormRead, W: FormWrite>(
+fn room_for(len: usize) -> usize
+    requires { len < 2 ^ 31 }
+    ensures { result ≡ room_for len }
+{
+    24 * len + 256
+}
+
+/// Appends a header and the body that begins at a place, and says that the message is whole; or leaves the output as it
+/// was, which says nothing of the frame. Both are laid into one tail of the output: to lend it and to cut it costs more
+/// than a header.
+#[inline(always)]
+pub(crate) fn append_message<R: FormRead, W: FormWrite>(
     schema: &Schema,
     body: Option<StructId>,
+    head: &Head<'_>,
     frame: &[u8],
     at: usize,
     out: &mut Out,
@@ -84,15 +85,17 @@ pub(crate) fn append_body<R: FormRead, W: FormWrite>(
     requires known { IfSome body (λ s. s.0 < length schema.now.structs) }
     requires size { length frame.now < 2 ^ 31 }
     requires place { at ≤ length frame.now }
-    requires room { length out.old.bytes + (24 * length frame.now + AROUND) ≤ out.old.room + 24 * at }
+    requires name { length head.now.name.now ≤ at }
+    requires taken { W.name_bar head.now.name.now ≡ None }
+    requires fits { length out.old.bytes + room_for (length frame.now) ≤ out.old.room }
     ensures left { result ≡ false → out.new ≡ out.old }
     ensures room { out.new.room ≡ out.old.room }
-    ensures short { length out.new.bytes + 24 * at ≤ length out.old.bytes + 24 * length frame.now }
-    ensures passes { result ≡ true → PassesBody R.ReadRules W.WireWrite schema.now body frame.now at out.old.bytes out.new.bytes }
+    ensures short { length out.new.bytes ≤ length out.old.bytes + room_for (length frame.now) }
+    ensures passes { result ≡ true → PassesMessage R.ReadRules W.WireWrite schema.now body (header_of head.now) frame.now at out.old.bytes out.new.bytes }
 {
     let before = out.bytes().len();
-    let cells = out.tail(24 * (frame.len() - at) + AROUND);
-    match take_body::<R, W>(schema, body, frame, at, cells) {
+    let cells = out.tail(room_for(frame.len()));
+    match take_message::<R, W>(schema, body, head, frame, at, cells) {
         Some(written) => {
             out.cut(before + written);
             true
@@ -104,11 +107,12 @@ pub(crate) fn append_body<R: FormRead, W: FormWrite>(
     }
 }
 
-/// Takes a whole body into cells, and answers how many it took.
+/// Lays a header and the body that begins at a place into the front of cells, and answers how many it took.
 #[inline(always)]
-fn take_body<R: FormRead, W: FormWrite>(
+fn take_message<R: FormRead, W: FormWrite>(
     schema: &Schema,
     body: Option<StructId>,
+    head: &Head<'_>,
     frame: &[u8],
     at: usize,
     cells: &mut [u8],
@@ -116,12 +120,36 @@ fn take_body<R: FormRead, W: FormWrite>(
     requires known { IfSome body (λ s. s.0 < length schema.now.structs) }
     requires size { length frame.now < 2 ^ 31 }
     requires place { at ≤ length frame.now }
-    requires room { HasRoom AROUND frame.now at cells.old 0 }
+    requires name { length head.now.name.now ≤ at }
+    requires taken { W.name_bar head.now.name.now ≡ None }
+    requires room { room_for (length frame.now) ≤ length cells.old }
     ensures kept { length cells.new ≡ length cells.old }
-    ensures short { IfSome result (λ n. n + 24 * at ≤ 24 * length frame.now) }
-    ensures takes { IfSome result (λ n. TakesBody R.ReadRules W.WireWrite schema.now body frame.now at cells.old cells.new (length frame.now) n) }
+    ensures short { IfSome result (λ n. n ≤ room_for (length frame.now)) }
+    ensures passes { IfSome result (λ n. PassesMessage R.ReadRules W.WireWrite schema.now body (header_of head.now) frame.now at [] (take n cells.new)) }
 {
-    let reach = take_typed::<R, W>(schema, body, frame, at, cells)?;
+    let to = W::front(cells, 0, head);
+    take_body::<R, W>(schema, body, frame, at, cells, to)
+}
+
+/// Takes a whole body into cells from a place on, and answers the place behind it.
+#[inline(always)]
+fn take_body<R: FormRead, W: FormWrite>(
+    schema: &Schema,
+    body: Option<StructId>,
+    frame: &[u8],
+    at: usize,
+    cells: &mut [u8],
+    to: usize,
+) -> Option<usize>
+    requires known { IfSome body (λ s. s.0 < length schema.now.structs) }
+    requires size { length frame.now < 2 ^ 31 }
+    requires place { at ≤ length frame.now }
+    requires room { HasRoom AROUND frame.now at cells.old to }
+    ensures kept { length cells.new ≡ length cells.old }
+    ensures short { IfSome result (λ n. n + 24 * at ≤ to + 24 * length frame.now) }
+    ensures passes { IfSome result (λ n. PassesBody R.ReadRules W.WireWrite schema.now body frame.now at (take to cells.old) (take n cells.new)) }
+{
+    let reach = take_typed::<R, W>(schema, body, frame, at, cells, to)?;
     if reach.read < frame.len() {
         return None;
     }
@@ -152,25 +180,26 @@ fn take_typed<R: FormRead, W: FormWrite>(
     frame: &[u8],
     at: usize,
     cells: &mut [u8],
+    to: usize,
 ) -> Option<Reach>
     requires known { IfSome body (λ s. s.0 < length schema.now.structs) }
     requires size { length frame.now < 2 ^ 31 }
     requires place { at ≤ length frame.now }
-    requires room { HasRoom AROUND frame.now at cells.old 0 }
+    requires room { HasRoom AROUND frame.now at cells.old to }
     ensures kept { length cells.new ≡ length cells.old }
     ensures past { IfSome result (λ x. IsPast at frame.now x.read) }
-    ensures grows { IfSome result (λ x. Grows at 0 x.read x.written) }
-    ensures takes { IfSome result (λ x. TakesBody R.ReadRules W.WireWrite schema.now body frame.now at cells.old cells.new x.read x.written) }
+    ensures grows { IfSome result (λ x. Grows at to x.read x.written) }
+    ensures takes { IfSome result (λ x. TakesBody R.ReadRules W.WireWrite schema.now body frame.now at cells.old to cells.new x.read x.written) }
 {
     if is_blind::<R, W>() {
-        return take_known::<R, W, Nothing>(Nothing, schema, frame, at, cells);
+        return take_known::<R, W, Nothing>(Nothing, schema, frame, at, cells, to);
     }
     match body {
         Some(declared) => {
             let known = Declared(Ty::Struct(declared));
-            take_known::<R, W, Declared>(known, schema, frame, at, cells)
+            take_known::<R, W, Declared>(known, schema, frame, at, cells, to)
         }
-        None => take_known::<R, W, Undeclared>(Undeclared, schema, frame, at, cells),
+        None => take_known::<R, W, Undeclared>(Undeclared, schema, frame, at, cells, to),
     }
 }
 
@@ -182,18 +211,19 @@ fn take_known<R: FormRead, W: FormWrite, K: Known>(
     frame: &[u8],
     at: usize,
     cells: &mut [u8],
+    to: usize,
 ) -> Option<Reach>
     requires known { K.sound known schema.now }
     requires informed { Informs K.tells R.hinted W.hinted W.marked }
     requires size { length frame.now < 2 ^ 31 }
     requires place { at ≤ length frame.now }
-    requires room { HasRoom AROUND frame.now at cells.old 0 }
+    requires room { HasRoom AROUND frame.now at cells.old to }
     ensures kept { length cells.new ≡ length cells.old }
     ensures past { IfSome result (λ x. IsPast at frame.now x.read) }
-    ensures grows { IfSome result (λ x. Grows at 0 x.read x.written) }
-    ensures takes { TookBody R.ReadRules W.WireWrite (K.means known) schema.now frame.now at cells.old cells.new result }
+    ensures grows { IfSome result (λ x. Grows at to x.read x.written) }
+    ensures takes { TookBody R.ReadRules W.WireWrite (K.means known) schema.now frame.now at cells.old to cells.new result }
 {
-    let mut written = 0;
+    let mut written = to;
     let read = take_fields::<R, W, K>(
         known,
         schema,

@@ -78,7 +78,8 @@ pub fn take_fields<R: FormRead, W: FormWrite, K: Known>(
     }
 }
 
-/// Takes a field whose lead was read. The end of the struct is none.
+/// Takes a field whose lead was read. The end of the struct is none. Each arm asks whether it took its field: asked once behind
+/// the match, it would be a test a field that the compiler doesn't lead the arms past.
 #[cycle(body)]
 #[inline(always)]
 fn take_field<R: FormRead, W: FormWrite, K: Known>(
@@ -107,39 +108,39 @@ fn take_field<R: FormRead, W: FormWrite, K: Known>(
     ensures takes { TookLead R.ReadRules W.WireWrite (K.means known) schema.now depth frame.now at opening last lead id behind cells.old to cells.new result }
 {
     match lead {
-        Lead::Bool => take_flag::<R, W>(frame, at, cells, to, opening, last, id, behind),
-        Lead::I8 => take_leaf_field::<R, W, I8Leaf>(
+        Lead::Bool => Some(take_flag::<R, W>(frame, at, cells, to, opening, last, id, behind)?),
+        Lead::I8 => Some(take_leaf_field::<R, W, I8Leaf>(
             frame, at, cells, to, opening, last, id, behind,
-        ),
-        Lead::I16 => take_leaf_field::<R, W, I16Leaf>(
+        )?),
+        Lead::I16 => Some(take_leaf_field::<R, W, I16Leaf>(
             frame, at, cells, to, opening, last, id, behind,
-        ),
-        Lead::I32 => take_leaf_field::<R, W, I32Leaf>(
+        )?),
+        Lead::I32 => Some(take_leaf_field::<R, W, I32Leaf>(
             frame, at, cells, to, opening, last, id, behind,
-        ),
-        Lead::I64 => take_leaf_field::<R, W, I64Leaf>(
+        )?),
+        Lead::I64 => Some(take_leaf_field::<R, W, I64Leaf>(
             frame, at, cells, to, opening, last, id, behind,
-        ),
-        Lead::Double => take_leaf_field::<R, W, DoubleLeaf>(
+        )?),
+        Lead::Double => Some(take_leaf_field::<R, W, DoubleLeaf>(
             frame, at, cells, to, opening, last, id, behind,
-        ),
-        Lead::Uuid => take_leaf_field::<R, W, UuidLeaf>(
+        )?),
+        Lead::Uuid => Some(take_leaf_field::<R, W, UuidLeaf>(
             frame, at, cells, to, opening, last, id, behind,
-        ),
-        Lead::Str => take_text_field::<R, W, K>(
+        )?),
+        Lead::Str => Some(take_text_field::<R, W, K>(
             known, schema, frame, at, cells, to, opening, last, id, behind,
-        ),
-        Lead::Struct => take_struct_field::<R, W, K>(
+        )?),
+        Lead::Struct => Some(take_struct_field::<R, W, K>(
             known, schema, frame, at, cells, to, opening, last, id, behind, depth,
-        ),
-        Lead::Map => take_map_field::<R, W, K>(
+        )?),
+        Lead::Map => Some(take_map_field::<R, W, K>(
             known, schema, frame, at, cells, to, opening, last, id, behind, depth,
-        ),
+        )?),
         _ => {
             let container = sequence_of(lead)?;
-            take_list_field::<R, W, K>(
+            Some(take_list_field::<R, W, K>(
                 known, schema, frame, at, cells, to, opening, last, id, container, behind, depth,
-            )
+            )?)
         }
     }
 }

@@ -1,36 +1,19 @@
-use Rattle.std.proofs.Common.{◌≡◌, ◌+◌, ◌-◌, ◌≤ℤ◌, pos, negsuc, false, refl, sym, ap, ◌∙◌, drop, arith, rules, length-take, FitsSigned}
+use Rattle.std.proofs.Common.{◌≡◌, false, ap, arith, rules, FitsSigned}
 use Rattle.std.specs.Prelude.{slice_index}
-use Rattle.std.specs.Int.{w32, w64}
-use Rattle.std.proofs.lemmas.Bool.Decides.{nat_tests}
+use Rattle.std.specs.Int.{w32}
 use Rattle.std.proofs.lemmas.Int.{to_z-of_z}
-use Rattle.protocol_traits.specs.declared.fault.Reason.TheVariants as reasons
 use Rattle.json_text.specs.Scan.{is_white}
-use Rattle.json_protocol.specs.Head.{type_of}
-use Rattle.json_protocol.specs.ReadForms.{head_found, back_found}
-use Rattle.json_protocol.proofs.PlaceWords.{int_found, int_solid}
+use Rattle.json_protocol.specs.ReadForms.{head_found}
 use Rattle.json_protocol.proofs.head.front_of.Goals as goal
 
 pub returns : goal.returns
 returns c =
     let frame = c.args.frame.now in
     let start = c.in_ok-start.start in
-    let stop = c.in_ok-stop.stop in
-    let kind = c.in_ok-kind in
-    let seq = c.in_ok-seq in
-    let number = c.in_ok-number.number in
-    let low : pos 1 ≤ℤ kind.kind = grind (arith, nat_tests, c.if-kind-lt1.false) in
-    let high : kind.kind ≤ℤ pos 4 = grind (arith, nat_tests, c.if-kind-gt4.false) in
-    let least : negsuc 2147483647 ≤ℤ seq.seq = grind (arith, nat_tests, c.if-seq-ltminus2147483648.false) in
-    let most : seq.seq ≤ℤ pos 2147483647 = grind (arith, nat_tests, c.if-seq-gt2147483647.false) in
-    let wide : FitsSigned w64 seq.seq = search rules in
-    let fits : FitsSigned w32 seq.seq = record { sfits = grind (arith, nat_tests, least, most) } in
-    let quote : is_white (slice_index frame start) ≡ false = ap is_white c.in_ok-stop.ensures.begins in
-    let typed = int_found frame c.in_ok-code.code kind.«end» kind.kind (pos 1) (pos 4) reasons.BadType kind.ensures.inside kind.ensures.found low high in
-    let numbered = int_found frame number seq.«end» seq.seq (negsuc 2147483647) (pos 2147483647) reasons.BadNumber seq.ensures.inside seq.ensures.found least most in
-    let whole : FitsSigned w64 kind.kind = search rules in
-    let is : c.type_of.result ≡ type_of kind.kind = c.type_of.ensures ∙ ap type_of (to_z-of_z w64 kind.kind whole) in
-    let back = back_found frame (stop + 1) c.in_ok-code.code kind.«end» number seq.«end» c.in_ok-behind.behind kind.kind seq.seq c.type_of.result is c.in_ok-code.ensures (int_solid frame c.in_ok-code.code kind.ensures.begins) typed
-    c.in_ok-number.ensures (int_solid frame number seq.ensures.begins) numbered c.in_ok-behind.ensures in
-    rw (to_z-of_z w64 seq.seq wide, to_z-of_z w32 seq.seq fits)
-    (head_found frame start stop c.in_ok-behind.behind _ _ seq.seq (c.in_ok-start.ensures.found quote) c.in_ok-stop.ensures.inside.0 c.in_ok-stop.ensures.found back
-    (omega (arith, length-take (stop - (start + 1)) (drop (start + 1) frame))) (omega (arith, c.in_ok-code.ensures.1, typed.1.0, c.in_ok-number.ensures.1, numbered.1.0, c.in_ok-behind.ensures.1)) c.in_ok-behind.ensures.2)
+    let name = c.in_ok-name in
+    let back = c.in_ok-mtype in
+    let quote : is_white (slice_index frame start) ≡ false = ap is_white name.ensures.begins in
+    let fits : FitsSigned w32 back.seq = search rules in
+    rw (to_z-of_z w32 back.seq fits)
+    (head_found frame start name.stop back.behind name.name.now back.mtype back.seq (c.in_ok-start.ensures.found quote) (omega (arith, name.ensures.shorter)) name.ensures.found back.ensures.found
+    (omega (arith, name.ensures.shorter)) back.ensures.within.0 back.ensures.within.1)

@@ -66,60 +66,60 @@ take_fields-fields-preserved g t c =
           (inv.takes ty up outer means deep) (taken ty means up outer deep (λ hint. steps up hint c.in_default-lead.not-Bad)));
     }
 
-pub take_field-returns-in-Bool-clause-takes : goal.take_field-returns-in-Bool-clause-takes
-take_field-returns-in-Bool-clause-takes g t c =
-    let takes = rw (to_z-of_z w16 c.args.last c.ranges.last, to_z-of_z w16 c.args.id c.ranges.id) at c.take_flag.ensures.takes in
-    rw c.in-Bool.is (if_some _ _ c.take_flag.result (λ (x : Reach) whole ty means. whole c.args.schema.now ty c.args.depth) takes)
+pub take_field-returns-in_ok-take_flag-in-Bool-clause-takes : goal.take_field-returns-in_ok-take_flag-in-Bool-clause-takes
+take_field-returns-in_ok-take_flag-in-Bool-clause-takes g t c ty means =
+    let takes = rw (to_z-of_z w16 c.args.last c.ranges.last, to_z-of_z w16 c.args.id c.ranges.id) at c.in_ok-take_flag-in-Bool.ensures.takes in
+    rw c.in-Bool.is (takes c.args.schema.now ty c.args.depth)
 
-pub take_field-returns-in-I8-clause-takes : goal.take_field-returns-in-I8-clause-takes
-take_field-returns-in-I8-clause-takes g t c =
-    let takes = rw (to_z-of_z w16 c.args.last c.ranges.last, to_z-of_z w16 c.args.id c.ranges.id) at c.take_leaf_field.ensures.takes in
-    rw c.in-I8.is (if_some _ _ c.take_leaf_field.result (λ (x : Reach) whole ty means. whole c.args.schema.now ty c.args.depth) takes)
+pub take_field-returns-in_ok-take_leaf_field-in-I8-clause-takes : goal.take_field-returns-in_ok-take_leaf_field-in-I8-clause-takes
+take_field-returns-in_ok-take_leaf_field-in-I8-clause-takes g t c ty means =
+    let takes = rw (to_z-of_z w16 c.args.last c.ranges.last, to_z-of_z w16 c.args.id c.ranges.id) at c.in_ok-take_leaf_field-in-I8.ensures.takes in
+    rw c.in-I8.is (takes c.args.schema.now ty c.args.depth)
 
-pub take_field-returns-in-I16-clause-takes : goal.take_field-returns-in-I16-clause-takes
-take_field-returns-in-I16-clause-takes g t c =
-    let takes = rw (to_z-of_z w16 c.args.last c.ranges.last, to_z-of_z w16 c.args.id c.ranges.id) at c.take_leaf_field-in-I16.ensures.takes in
-    rw c.in-I16.is (if_some _ _ c.take_leaf_field-in-I16.result (λ (x : Reach) whole ty means. whole c.args.schema.now ty c.args.depth) takes)
+pub take_field-returns-in_ok-take_leaf_field-in-I16-clause-takes : goal.take_field-returns-in_ok-take_leaf_field-in-I16-clause-takes
+take_field-returns-in_ok-take_leaf_field-in-I16-clause-takes g t c ty means =
+    let takes = rw (to_z-of_z w16 c.args.last c.ranges.last, to_z-of_z w16 c.args.id c.ranges.id) at c.in_ok-take_leaf_field-in-I16.ensures.takes in
+    rw c.in-I16.is (takes c.args.schema.now ty c.args.depth)
 
-pub take_field-returns-in-I32-clause-takes : goal.take_field-returns-in-I32-clause-takes
-take_field-returns-in-I32-clause-takes g t c =
-    let takes = rw (to_z-of_z w16 c.args.last c.ranges.last, to_z-of_z w16 c.args.id c.ranges.id) at c.take_leaf_field-in-I32.ensures.takes in
-    rw c.in-I32.is (if_some _ _ c.take_leaf_field-in-I32.result (λ (x : Reach) whole ty means. whole c.args.schema.now ty c.args.depth) takes)
+pub take_field-returns-in_ok-take_leaf_field-in-I32-clause-takes : goal.take_field-returns-in_ok-take_leaf_field-in-I32-clause-takes
+take_field-returns-in_ok-take_leaf_field-in-I32-clause-takes g t c ty means =
+    let takes = rw (to_z-of_z w16 c.args.last c.ranges.last, to_z-of_z w16 c.args.id c.ranges.id) at c.in_ok-take_leaf_field-in-I32.ensures.takes in
+    rw c.in-I32.is (takes c.args.schema.now ty c.args.depth)
 
-pub take_field-returns-in-I64-clause-takes : goal.take_field-returns-in-I64-clause-takes
-take_field-returns-in-I64-clause-takes g t c =
-    let takes = rw (to_z-of_z w16 c.args.last c.ranges.last, to_z-of_z w16 c.args.id c.ranges.id) at c.take_leaf_field-in-I64.ensures.takes in
-    rw c.in-I64.is (if_some _ _ c.take_leaf_field-in-I64.result (λ (x : Reach) whole ty means. whole c.args.schema.now ty c.args.depth) takes)
+pub take_field-returns-in_ok-take_leaf_field-in-I64-clause-takes : goal.take_field-returns-in_ok-take_leaf_field-in-I64-clause-takes
+take_field-returns-in_ok-take_leaf_field-in-I64-clause-takes g t c ty means =
+    let takes = rw (to_z-of_z w16 c.args.last c.ranges.last, to_z-of_z w16 c.args.id c.ranges.id) at c.in_ok-take_leaf_field-in-I64.ensures.takes in
+    rw c.in-I64.is (takes c.args.schema.now ty c.args.depth)
 
-pub take_field-returns-in-Double-clause-takes : goal.take_field-returns-in-Double-clause-takes
-take_field-returns-in-Double-clause-takes g t c =
-    let takes = rw (to_z-of_z w16 c.args.last c.ranges.last, to_z-of_z w16 c.args.id c.ranges.id) at c.take_leaf_field-in-Double.ensures.takes in
-    rw c.in-Double.is (if_some _ _ c.take_leaf_field-in-Double.result (λ (x : Reach) whole ty means. whole c.args.schema.now ty c.args.depth) takes)
+pub take_field-returns-in_ok-take_leaf_field-in-Double-clause-takes : goal.take_field-returns-in_ok-take_leaf_field-in-Double-clause-takes
+take_field-returns-in_ok-take_leaf_field-in-Double-clause-takes g t c ty means =
+    let takes = rw (to_z-of_z w16 c.args.last c.ranges.last, to_z-of_z w16 c.args.id c.ranges.id) at c.in_ok-take_leaf_field-in-Double.ensures.takes in
+    rw c.in-Double.is (takes c.args.schema.now ty c.args.depth)
 
-pub take_field-returns-in-Uuid-clause-takes : goal.take_field-returns-in-Uuid-clause-takes
-take_field-returns-in-Uuid-clause-takes g t c =
-    let takes = rw (to_z-of_z w16 c.args.last c.ranges.last, to_z-of_z w16 c.args.id c.ranges.id) at c.take_leaf_field-in-Uuid.ensures.takes in
-    rw c.in-Uuid.is (if_some _ _ c.take_leaf_field-in-Uuid.result (λ (x : Reach) whole ty means. whole c.args.schema.now ty c.args.depth) takes)
+pub take_field-returns-in_ok-take_leaf_field-in-Uuid-clause-takes : goal.take_field-returns-in_ok-take_leaf_field-in-Uuid-clause-takes
+take_field-returns-in_ok-take_leaf_field-in-Uuid-clause-takes g t c ty means =
+    let takes = rw (to_z-of_z w16 c.args.last c.ranges.last, to_z-of_z w16 c.args.id c.ranges.id) at c.in_ok-take_leaf_field-in-Uuid.ensures.takes in
+    rw c.in-Uuid.is (takes c.args.schema.now ty c.args.depth)
 
-pub take_field-returns-in-Str-clause-takes : goal.take_field-returns-in-Str-clause-takes
-take_field-returns-in-Str-clause-takes g t c =
-    let takes = rw (to_z-of_z w16 c.args.last c.ranges.last, to_z-of_z w16 c.args.id c.ranges.id) at c.take_text_field.ensures.takes in
-    rw c.in-Str.is (if_some _ _ c.take_text_field.result (λ (x : Reach) whole ty means. whole ty c.args.depth means) takes)
+pub take_field-returns-in_ok-take_text_field-in-Str-clause-takes : goal.take_field-returns-in_ok-take_text_field-in-Str-clause-takes
+take_field-returns-in_ok-take_text_field-in-Str-clause-takes g t c ty means =
+    let takes = rw (to_z-of_z w16 c.args.last c.ranges.last, to_z-of_z w16 c.args.id c.ranges.id) at c.in_ok-take_text_field-in-Str.ensures.takes in
+    rw c.in-Str.is (takes ty c.args.depth means)
 
-pub take_field-returns-in-Struct-clause-takes : goal.take_field-returns-in-Struct-clause-takes
-take_field-returns-in-Struct-clause-takes g t c =
-    let takes = rw (to_z-of_z w16 c.args.last c.ranges.last, to_z-of_z w16 c.args.id c.ranges.id) at c.take_struct_field.ensures.takes in
-    rw c.in-Struct.is takes
+pub take_field-returns-in_ok-take_struct_field-in-Struct-clause-takes : goal.take_field-returns-in_ok-take_struct_field-in-Struct-clause-takes
+take_field-returns-in_ok-take_struct_field-in-Struct-clause-takes g t c ty means =
+    let takes = rw (to_z-of_z w16 c.args.last c.ranges.last, to_z-of_z w16 c.args.id c.ranges.id) at c.in_ok-take_struct_field-in-Struct.ensures.takes in
+    rw c.in-Struct.is (takes ty means)
 
-pub take_field-returns-in-Map-clause-takes : goal.take_field-returns-in-Map-clause-takes
-take_field-returns-in-Map-clause-takes g t c =
-    let takes = rw (to_z-of_z w16 c.args.last c.ranges.last, to_z-of_z w16 c.args.id c.ranges.id) at c.take_map_field.ensures.takes in
-    rw c.in-Map.is takes
+pub take_field-returns-in_ok-take_map_field-in-Map-clause-takes : goal.take_field-returns-in_ok-take_map_field-in-Map-clause-takes
+take_field-returns-in_ok-take_map_field-in-Map-clause-takes g t c ty means =
+    let takes = rw (to_z-of_z w16 c.args.last c.ranges.last, to_z-of_z w16 c.args.id c.ranges.id) at c.in_ok-take_map_field-in-Map.ensures.takes in
+    rw c.in-Map.is (takes ty means)
 
-pub take_field-returns-in_ok-container-in_default-clause-takes : goal.take_field-returns-in_ok-container-in_default-clause-takes
-take_field-returns-in_ok-container-in_default-clause-takes g t c =
-    let takes = rw (to_z-of_z w16 c.args.last c.ranges.last, to_z-of_z w16 c.args.id c.ranges.id) at c.take_list_field.ensures.takes in
-    rw (c.in_ok-container-in_default.ensures.item c.args.id) takes
+pub take_field-returns-in_ok-take_list_field-in_default-clause-takes : goal.take_field-returns-in_ok-take_list_field-in_default-clause-takes
+take_field-returns-in_ok-take_list_field-in_default-clause-takes g t c ty means =
+    let takes = rw (to_z-of_z w16 c.args.last c.ranges.last, to_z-of_z w16 c.args.id c.ranges.id) at c.in_ok-take_list_field-in_default.ensures.takes in
+    rw (c.in_ok-container-in_default.ensures.item c.args.id) (takes ty means)
 
 pub take_struct_field-returns-clause-takes : goal.take_struct_field-returns-clause-takes
 take_struct_field-returns-clause-takes g t c =

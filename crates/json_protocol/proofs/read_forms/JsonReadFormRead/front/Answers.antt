@@ -7,7 +7,7 @@ pub returns-clause-reads : goal.returns-clause-reads
 returns-clause-reads c = front_read c.args.frame.now (header_of c.in_ok-head.head) c.in_ok-head.behind c.in_ok-head.ensures
 
 pub returns-clause-sized : goal.returns-clause-sized
-returns-clause-sized c = let h = c.in_ok-head.ensures in omega (arith, h.short, h.within, c.requires)
+returns-clause-sized c = let h = c.in_ok-head.ensures in omega (arith, h.short, h.within, c.requires.size)
 
 pub returns-clause-place : goal.returns-clause-place
 returns-clause-place c = let h = c.in_ok-head.ensures in (h.short, omega (arith, h.within))
