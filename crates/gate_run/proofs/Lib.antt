@@ -7,6 +7,7 @@ pub mod Outcome
 pub mod Posting
 pub mod Progress
 pub mod Routed
+pub mod Sending
 pub mod Served
 pub mod Started
 pub mod Starts

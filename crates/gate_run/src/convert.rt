@@ -1,5 +1,7 @@
 //! A frame that is converted: its message in the other protocol, in a frame or on a line of its own.
-ghost use Rattle.std.specs.Prelude.{◌≡◌, ◌+◌, ◌^◌, ◌<◌, ◌≤◌, ◌++◌, Option, List, ℕ, length};
+ghost use Rattle.std.specs.Prelude.{◌≡◌, ◌+◌, ◌^◌, ◌<◌, ◌≤◌, ◌++◌, Option, List, ℕ, true, false, length};
+ghost use Rattle.translate_core.specs.declared.verdict.HeadInfo.{HeadInfo};
+ghost use Rattle.translate_core.specs.declared.verdict.Verdict.TheVariants.{Passed};
 ghost use Rattle.gate_run.specs.Handling.{translated, sent_of};
 ghost use Rattle.gate_run.specs.Rooms.{framed_room};
 ghost use Rattle.gate_run.specs.Terms.{judged_by};
@@ -29,6 +31,9 @@ pub fn convert_frame(
     ensures room { out.new.room ≡ out.old.room }
     ensures written { result ≡ Treatment.WriteFault → ⊥ }
 {
+    if pass_sent(task, from, to, frame, room, out) {
+        return Treatment::Passed;
+    }
     match translate_sent(task, from, to, frame, room, out) {
         Verdict::Passed(_) => Treatment::Passed,
         Verdict::Refused(_, cause) => Treatment::Refused(cause),
@@ -36,7 +41,38 @@ pub fn convert_frame(
     }
 }
 
-// Appends what is to be sent of a frame, with its length or an LF, or nothing where it doesn't pass.
+// Appends what is to be sent of a frame that the quick way passes, with its length or an LF, and moves no verdict. False: the
+// output is as it was, which says nothing of the frame.
+fn pass_sent(
+    task: &Task<'_>,
+    from: Proto,
+    to: Proto,
+    frame: &[u8],
+    room: &mut [u8],
+    out: &mut Out,
+) -> bool
+    requires room { length frame.now ≤ length room.old }
+    requires size { length frame.now < 2 ^ 31 }
+    requires fits { length out.old.bytes + framed_room (length frame.now) ≤ out.old.room }
+    requires small { out.old.room < 2 ^ 31 }
+    ensures left { result ≡ false → out.new ≡ out.old }
+    ensures room { out.new.room ≡ out.old.room }
+    ensures passed { result ≡ true → (info : HeadInfo) × ((judged_by task.now from to frame.now).verdict ≡ Passed info) }
+    ensures appended { result ≡ true → out.new.bytes ≡ out.old.bytes ++ sent_of task.now.output (judged_by task.now from to frame.now) }
+{
+    let transport = task.output();
+    let begun = begin(transport, out);
+    if task.passes(from, to, frame, room, out) {
+        let end = out.bytes().len();
+        prove!(end < 1 << 31);
+        close(transport, out, begun);
+        return true;
+    }
+    out.cut(begun);
+    false
+}
+
+// Appends what is to be sent of a frame, event by event, with its length or an LF, or nothing where it doesn't pass.
 fn translate_sent(
     task: &Task<'_>,
     from: Proto,

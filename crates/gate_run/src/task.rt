@@ -1,7 +1,9 @@
 //! What is done with the messages of a stream, and by which declarations.
-ghost use Rattle.std.specs.Prelude.{◌≡◌, ◌+◌, ◌*◌, ◌^◌, ◌<◌, ◌≤◌, IfOk, IfSome, length};
+ghost use Rattle.std.specs.Prelude.{◌≡◌, ◌+◌, ◌*◌, ◌^◌, ◌<◌, ◌≤◌, IfOk, IfSome, true, false, length};
 ghost use Rattle.gate_base.specs.Causes.{Rose};
 ghost use Rattle.translate_core.specs.Judged.{IsJudged};
+ghost use Rattle.translate_core.specs.declared.verdict.HeadInfo.{HeadInfo};
+ghost use Rattle.translate_core.specs.declared.verdict.Verdict.TheVariants.{Passed};
 ghost use Rattle.message_show.specs.Shown.{IsShown};
 ghost use Rattle.conform_check.specs.Checking.{IsChecked};
 ghost use Rattle.gate_run.specs.Rooms.{translated_room};
@@ -13,7 +15,7 @@ use gate_base::OutOfMemory;
 use gate_io::{Out, Sink};
 use line_transport::Transport;
 use message_show::{Shown, show};
-use protocol_pairs::translate;
+use protocol_pairs::{passes, translate_by_events};
 use protocol_traits::Proto;
 use std::alloc::Global;
 use std::marker::Model;
@@ -105,7 +107,29 @@ impl<'s> Task<'s> {
         self.doing
     }
 
-    /// Translates a frame to the end of `out`, or leaves `out` as it was.
+    /// Whether a frame's translation was appended by the quick way. False: `out` is as it was, which says nothing of the
+    /// frame.
+    pub fn passes(
+        &self,
+        from: Proto,
+        to: Proto,
+        frame: &[u8],
+        room: &mut [u8],
+        out: &mut Out,
+    ) -> bool
+        requires room { length frame.now ≤ length room.old }
+        requires size { length frame.now < 2 ^ 31 }
+        requires fits { length out.old.bytes + translated_room (length frame.now) ≤ out.old.room }
+        ensures left { result ≡ false → out.new ≡ out.old }
+        ensures room { out.new.room ≡ out.old.room }
+        ensures short { length out.new.bytes ≤ length out.old.bytes + translated_room (length frame.now) }
+        ensures passes { result ≡ true → (info : HeadInfo) × IsJudged (Passed info) out.old.bytes out.new.bytes (judged_by self.now from to frame.now) }
+    {
+        let route = Route::ByName(self.service);
+        passes(self.schema, route, from, to, frame, room, out)
+    }
+
+    /// Translates a frame that the quick way didn't pass to the end of `out`, or leaves `out` as it was.
     pub fn translate(
         &self,
         from: Proto,
@@ -122,7 +146,7 @@ impl<'s> Task<'s> {
         ensures short { length out.new.bytes ≤ length out.old.bytes + translated_room (length frame.now) }
     {
         let route = Route::ByName(self.service);
-        translate(self.schema, route, from, to, frame, room, out)
+        translate_by_events(self.schema, route, from, to, frame, room, out)
     }
 
     /// Writes the line of a frame, or nothing where it is no message.

@@ -1,17 +1,15 @@
 -- The verdict on a frame of one protocol for another, by what is declared and by the route.
-use Rattle.std.specs.Prelude.{ℕ, List, None, Result}
+use Rattle.std.specs.Prelude.{ℕ, List, None}
 use Rattle.protocol_traits.specs.declared.proto.Proto.{Proto}
 use Rattle.protocol_traits.specs.declared.proto.Proto.TheVariants as protocols
 use Rattle.protocol_traits.specs.Follow.{depth_after}
-use Rattle.thrift_value.specs.declared.kind.MessageType.{MessageType}
-use Rattle.protocol_traits.specs.declared.fault.Fault.{Fault}
 use Rattle.type_tables.specs.Declarations.{Declarations}
 use Rattle.translate_core.specs.declared.route.Route.{Route}
 use Rattle.translate_core.specs.declared.verdict.Cause.{Cause}
 use Rattle.translate_core.specs.Positions.{typed}
 use Rattle.translate_core.specs.Routes.{start_of, info_of}
 use Rattle.translate_core.specs.Body.{Source, TargetRules, source_of, target_of}
-use Rattle.translate_core.specs.Judged.{Judged, judge, type_of}
+use Rattle.translate_core.specs.Judged.{Judged, judge}
 use Rattle.translate_core.specs.Answers.{answer_of}
 use Rattle.binary_protocol.specs.Reading as binary_reading
 use Rattle.binary_protocol.specs.Plain as binary_plain
@@ -55,9 +53,6 @@ module _ {S : Type 0} (source : Source S) where
   answered_to protocols.Compact frame cause = answer_of source compact_target frame cause
   answered_to protocols.Json frame cause = answer_of source json_target frame cause
 
-  abbrev pub typed_as : List ℕ → Result MessageType Fault
-  typed_as frame = type_of (source.reads_head (source.begun frame))
-
 -- the verdict on a frame of one protocol for another, and the bytes that are written
 unfoldable pub judged : Declarations → Route → Proto → Proto → List ℕ → Judged
 judged d route protocols.Binary to frame = judged_to binary_source d route to frame
@@ -69,9 +64,3 @@ unfoldable pub answered : Proto → Proto → List ℕ → Cause → List ℕ
 answered protocols.Binary to frame cause = answered_to binary_source to frame cause
 answered protocols.Compact to frame cause = answered_to compact_source to frame cause
 answered protocols.Json to frame cause = answered_to json_source to frame cause
-
--- the type in a frame's header, or the fault that stands in the header
-unfoldable pub headed : Proto → List ℕ → Result MessageType Fault
-headed protocols.Binary frame = typed_as binary_source frame
-headed protocols.Compact frame = typed_as compact_source frame
-headed protocols.Json frame = typed_as json_source frame

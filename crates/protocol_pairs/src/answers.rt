@@ -1,32 +1,15 @@
-//! What is said of one frame beside its translation: the type in its header, and the answer to it.
+//! The answer to a frame that is refused.
 ghost use Rattle.std.specs.Prelude.{◌≡◌, ◌+◌, ◌≤◌, ◌^◌, ◌<◌, ◌++◌, length};
 ghost use Rattle.protocol_traits.specs.Room.{room_for};
 ghost use Rattle.translate_core.specs.Body.{source_in};
-ghost use Rattle.protocol_pairs.specs.Pairs.{answered, answered_to, headed};
+ghost use Rattle.protocol_pairs.specs.Pairs.{answered, answered_to};
 
 use binary_protocol::{BinaryRead, BinaryWrite};
 use compact_protocol::{CompactRead, CompactWrite};
 use gate_io::Out;
 use json_protocol::{JsonRead, JsonWrite};
-use protocol_traits::{Fault, Proto, WireRead};
-use thrift_value::MessageType;
+use protocol_traits::{Proto, WireRead};
 use translate_core::Cause;
-
-/// The type that a frame's header tells, or the fault that stands in the header.
-///
-/// `room` has at least as many bytes as the frame.
-#[tactic(auto, unfolding(crate::specs::Pairs::headed))]
-pub fn head_type(from: Proto, frame: &[u8], room: &mut [u8]) -> Result<MessageType, Fault>
-    requires room { length frame.now ≤ length room.old }
-    requires size { length frame.now < 2 ^ 31 }
-    ensures { result ≡ headed from frame.now }
-{
-    match from {
-        Proto::Binary => translate_core::head_type::<BinaryRead>(frame, room),
-        Proto::Compact => translate_core::head_type::<CompactRead>(frame, room),
-        Proto::Json => translate_core::head_type::<JsonRead>(frame, room),
-    }
-}
 
 /// Appends the answer to a frame that is refused for this cause, in the protocol `to`: an Exception message with the
 /// frame's sequence number. Nothing is appended where the frame's header isn't whole.

@@ -6,8 +6,9 @@
 
 mod answers;
 mod methods;
+mod outcome;
 mod pairs;
 
-pub use answers::{answer, head_type};
+pub use answers::answer;
 pub use methods::{served, translate_method};
-pub use pairs::translate;
+pub use pairs::{passes, translate, translate_by_events};

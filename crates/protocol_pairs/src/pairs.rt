@@ -1,12 +1,14 @@
 //! One frame from one protocol to another.
-ghost use Rattle.std.specs.Prelude.{◌≡◌, ◌+◌, ◌≤◌, ◌^◌, ◌<◌, None, IfSome, length};
+ghost use Rattle.std.specs.Prelude.{◌≡◌, ◌+◌, ◌≤◌, ◌^◌, ◌<◌, true, false, length};
 ghost use Rattle.protocol_traits.specs.Room.{room_for};
 ghost use Rattle.translate_core.specs.Body.{source_in};
 ghost use Rattle.translate_core.specs.Judged.{IsJudged, IsLeft};
 ghost use Rattle.translate_core.specs.Routes.{IsKnownRoute};
+ghost use Rattle.translate_core.specs.declared.verdict.HeadInfo.{HeadInfo};
 ghost use Rattle.translate_core.specs.declared.verdict.Verdict.TheVariants.{Passed};
 ghost use Rattle.protocol_pairs.specs.Pairs.{judged, judged_to};
 
+use crate::outcome::Outcome;
 use binary_protocol::{BinaryRead, BinaryWrite};
 use compact_protocol::{CompactRead, CompactWrite};
 use gate_io::Out;
@@ -37,67 +39,102 @@ pub fn translate(
     ensures room { out.new.room ≡ out.old.room }
     ensures short { length out.new.bytes ≤ length out.old.bytes + room_for (length frame.now) }
 {
-    match pass(schema, route, from, to, frame, out) {
+    match pass::<Option<HeadInfo>>(schema, route, from, to, frame, room, out) {
         Some(info) => Verdict::Passed(info),
         None => translate_by_events(schema, route, from, to, frame, room, out),
     }
 }
 
-/// Appends a message's translation by the quick way, and tells what its header says; or leaves the output as it was, which
-/// says nothing of the frame. What nearly all messages come to is handed on from here alone: a verdict is large.
-#[inline(always)]
-#[tactic(auto, unfolding(crate::specs::Pairs::judged))]
-fn pass(
+/// Whether a frame's translation was appended by the quick way, for whoever doesn't ask what its header says: that is large,
+/// and here it is neither made nor moved. False: the output is as it was, which says nothing of the frame, and
+/// `translate_by_events` tells its verdict.
+///
+/// `room` has at least as many bytes as the frame, and `out` room for 24 bytes for each of the frame's and 256 more. What
+/// the route names is of this schema.
+pub fn passes(
     schema: &Schema,
     route: Route,
     from: Proto,
     to: Proto,
     frame: &[u8],
+    room: &mut [u8],
     out: &mut Out,
-) -> Option<HeadInfo>
+) -> bool
     requires known { IsKnownRoute schema.now route }
+    requires room { length frame.now ≤ length room.old }
     requires size { length frame.now < 2 ^ 31 }
     requires fits { length out.old.bytes + room_for (length frame.now) ≤ out.old.room }
-    ensures left { result ≡ None → out.new ≡ out.old }
+    ensures left { result ≡ false → out.new ≡ out.old }
     ensures room { out.new.room ≡ out.old.room }
     ensures short { length out.new.bytes ≤ length out.old.bytes + room_for (length frame.now) }
-    ensures passes { IfSome result (λ info. IsJudged (Passed info) out.old.bytes out.new.bytes (judged schema.now route from to frame.now)) }
+    ensures passes { result ≡ true → (info : HeadInfo) × IsJudged (Passed info) out.old.bytes out.new.bytes (judged schema.now route from to frame.now) }
+{
+    pass::<bool>(schema, route, from, to, frame, room, out)
+}
+
+/// Appends a message's translation by the quick way; or leaves the output as it was, which says nothing of the frame. What
+/// nearly all messages come to is handed on from here alone: a verdict is large.
+#[inline(always)]
+#[tactic(auto, unfolding(crate::specs::Pairs::judged))]
+fn pass<O: Outcome>(
+    schema: &Schema,
+    route: Route,
+    from: Proto,
+    to: Proto,
+    frame: &[u8],
+    room: &mut [u8],
+    out: &mut Out,
+) -> O
+    requires known { IsKnownRoute schema.now route }
+    requires room { length frame.now ≤ length room.old }
+    requires size { length frame.now < 2 ^ 31 }
+    requires fits { length out.old.bytes + room_for (length frame.now) ≤ out.old.room }
+    ensures left { O.fails result → out.new ≡ out.old }
+    ensures room { out.new.room ≡ out.old.room }
+    ensures short { length out.new.bytes ≤ length out.old.bytes + room_for (length frame.now) }
+    ensures passes { O.passes result out.old.bytes out.new.bytes (judged schema.now route from to frame.now) }
 {
     match from {
-        Proto::Binary => pass_to::<BinaryRead>(schema, route, to, frame, out),
-        Proto::Compact => pass_to::<CompactRead>(schema, route, to, frame, out),
-        Proto::Json => pass_to::<JsonRead>(schema, route, to, frame, out),
+        Proto::Binary => pass_to::<BinaryRead, O>(schema, route, to, frame, room, out),
+        Proto::Compact => pass_to::<CompactRead, O>(schema, route, to, frame, room, out),
+        Proto::Json => pass_to::<JsonRead, O>(schema, route, to, frame, room, out),
     }
 }
 
 /// The same for the reader of the frame's protocol.
 #[inline(always)]
-fn pass_to<R: FormRead>(
+fn pass_to<R: FormRead, O: Outcome>(
     schema: &Schema,
     route: Route,
     to: Proto,
     frame: &[u8],
+    room: &mut [u8],
     out: &mut Out,
-) -> Option<HeadInfo>
+) -> O
     requires known { IsKnownRoute schema.now route }
+    requires room { length frame.now ≤ length room.old }
     requires size { length frame.now < 2 ^ 31 }
     requires fits { length out.old.bytes + room_for (length frame.now) ≤ out.old.room }
-    ensures left { result ≡ None → out.new ≡ out.old }
+    ensures left { O.fails result → out.new ≡ out.old }
     ensures room { out.new.room ≡ out.old.room }
     ensures short { length out.new.bytes ≤ length out.old.bytes + room_for (length frame.now) }
-    ensures passes { IfSome result (λ info. IsJudged (Passed info) out.old.bytes out.new.bytes (judged_to (source_in R.ReadRules) schema.now route to frame.now)) }
+    ensures passes { O.passes result out.old.bytes out.new.bytes (judged_to (source_in R.ReadRules) schema.now route to frame.now) }
 {
     match to {
-        Proto::Binary => pass_quickly::<R, BinaryWrite>(schema, route, frame, out),
-        Proto::Compact => pass_quickly::<R, CompactWrite>(schema, route, frame, out),
-        Proto::Json => pass_quickly::<R, JsonWrite>(schema, route, frame, out),
+        Proto::Binary => O::of(pass_quickly::<R, BinaryWrite>(schema, route, frame, room, out)),
+        Proto::Compact => O::of(pass_quickly::<R, CompactWrite>(schema, route, frame, room, out)),
+        Proto::Json => O::of(pass_quickly::<R, JsonWrite>(schema, route, frame, room, out)),
     }
 }
 
-/// Translates a frame event by event.
+/// Translates a frame to the end of `out` event by event, or leaves `out` as it was: `translate` for a frame that the quick
+/// way didn't pass.
+///
+/// `room` has at least as many bytes as the frame, and `out` room for 24 bytes for each of the frame's and 256 more. What
+/// the route names is of this schema.
 #[inline(never)]
 #[tactic(auto, unfolding(crate::specs::Pairs::judged))]
-fn translate_by_events(
+pub fn translate_by_events(
     schema: &Schema,
     route: Route,
     from: Proto,

@@ -1,8 +1,7 @@
 -- What becomes of a frame of the client, by the verdict on it.
-use Rattle.std.specs.Prelude.{ℕ, List, [], Option, Some, None, Bool, true, false, Result, Ok, Err, not, if◌then◌else◌}
+use Rattle.std.specs.Prelude.{ℕ, List, [], Option, Some, None, Bool, true, not, if◌then◌else◌}
 use Rattle.thrift_value.specs.declared.kind.MessageType.{MessageType}
 use Rattle.thrift_value.specs.declared.kind.MessageType.TheVariants as types
-use Rattle.protocol_traits.specs.declared.fault.Fault.{Fault}
 use Rattle.type_tables.specs.declared.declared.MethodInfo.{MethodInfo}
 use Rattle.translate_core.specs.declared.verdict.Cause.{Cause}
 use Rattle.translate_core.specs.declared.verdict.Verdict.{Verdict}
@@ -35,14 +34,6 @@ refused method cause types.Call = if is_answered method then client.Refused caus
 refused method cause types.Oneway = client.Dropped cause
 refused method cause types.Reply = client.Halts halt.WrongWay
 refused method cause types.Exception = client.Halts halt.WrongWay
-
--- the header alone tells a message that no client sends
-abbrev pub tells_answer : Result MessageType Fault → Bool
-tells_answer (Ok types.Call) = false
-tells_answer (Ok types.Oneway) = false
-tells_answer (Ok types.Reply) = true
-tells_answer (Ok types.Exception) = true
-tells_answer (Err fault) = false
 
 abbrev pub of_client : Verdict → ClientJudged
 of_client (verdicts.Passed info) = passed_on info.method info.mtype

@@ -1,8 +1,7 @@
 -- What becomes of a frame of the upstream, by the verdict on it.
-use Rattle.std.specs.Prelude.{ℕ, List, [], length, Option, Some, None, Bool, true, false, Result, Ok, Err, nat_lt, if◌then◌else◌}
+use Rattle.std.specs.Prelude.{ℕ, List, [], length, Option, Some, None, nat_lt, if◌then◌else◌}
 use Rattle.thrift_value.specs.declared.kind.MessageType.{MessageType}
 use Rattle.thrift_value.specs.declared.kind.MessageType.TheVariants as types
-use Rattle.protocol_traits.specs.declared.fault.Fault.{Fault}
 use Rattle.type_tables.specs.declared.declared.StructId.{StructId}
 use Rattle.type_tables.specs.Declarations.{Declarations}
 use Rattle.protocol_traits.specs.declared.proto.Proto.{Proto}
@@ -27,14 +26,6 @@ of_type types.Call cause = upstream.Halts halt.WrongWay
 of_type types.Oneway cause = upstream.Halts halt.WrongWay
 of_type types.Reply cause = upstream.Answers cause
 of_type types.Exception cause = upstream.Answers cause
-
--- the header alone tells a message that no upstream sends
-abbrev pub tells_call : Result MessageType Fault → Bool
-tells_call (Ok types.Call) = true
-tells_call (Ok types.Oneway) = true
-tells_call (Ok types.Reply) = false
-tells_call (Ok types.Exception) = false
-tells_call (Err fault) = false
 
 abbrev pub of_upstream : Verdict → UpstreamJudged
 of_upstream (Passed info) = of_type info.mtype None

@@ -2,11 +2,11 @@
 ghost use Rattle.std.specs.Prelude.{◌≡◌, ◌+◌, ◌^◌, ◌<◌, ◌≤◌, ◌++◌, length, take, drop, IfSome};
 ghost use Rattle.protocol_pairs.specs.Pairs.{judged};
 ghost use Rattle.protocol_traits.specs.Room.{room_for};
-ghost use Rattle.session_judge.specs.Client.{is_answered, call_of, passed_on, refused, tells_answer, of_client, onward, output_of};
+ghost use Rattle.session_judge.specs.Client.{is_answered, call_of, passed_on, refused, of_client, onward, output_of};
 
 use gate_io::Out;
-use protocol_pairs::{head_type, translate};
-use protocol_traits::{Fault, Proto};
+use protocol_pairs::translate;
+use protocol_traits::Proto;
 use session_core::{Call, ClientJudged, Halt};
 use thrift_value::MessageType;
 use translate_core::{Cause, Route, Verdict};
@@ -14,43 +14,9 @@ use type_tables::{MethodInfo, Schema, ServiceId};
 
 /// Judges a frame of the client, and appends what goes to the upstream where it is passed.
 ///
-/// The header alone tells a reply or an exception, which no client sends: its body is not looked at.
+/// A reply or an exception, which no client sends, is gone through like a call, and what was written of it is let go: it ends
+/// the session, and calls, which come by the million, have their header read once.
 pub fn judge_client(
-    schema: &Schema,
-    service: Option<ServiceId>,
-    from: Proto,
-    to: Proto,
-    frame: &[u8],
-    room: &mut [u8],
-    out: &mut Out,
-) -> ClientJudged
-    requires service { IfSome service (λ s. s.0 < length schema.now.services) }
-    requires room { length frame.now ≤ length room.old }
-    requires size { length frame.now < 2 ^ 31 }
-    requires fits { length out.old.bytes + room_for (length frame.now) ≤ out.old.room }
-    ensures verdict { result ≡ of_client (judged schema.now (Route.ByName service) from to frame.now).verdict }
-    ensures out { out.new ≡ record out.old { bytes = out.old.bytes ++ output_of (judged schema.now (Route.ByName service) from to frame.now) } }
-    ensures within { length out.new.bytes ≤ out.new.room }
-{
-    if tells_answer(head_type(from, frame, room)) {
-        return ClientJudged::Halts(Halt::WrongWay);
-    }
-    judge_asked(schema, service, from, to, frame, room, out)
-}
-
-/// Whether the header tells a message that no client sends.
-fn tells_answer(head: Result<MessageType, Fault>) -> bool
-    ensures { result ≡ tells_answer head }
-{
-    match head {
-        Ok(MessageType::Reply) | Ok(MessageType::Exception) => true,
-        Ok(MessageType::Call) | Ok(MessageType::Oneway) => false,
-        Err(_) => false,
-    }
-}
-
-/// Judges a frame of the client whose header may be a call's: its body is translated.
-fn judge_asked(
     schema: &Schema,
     service: Option<ServiceId>,
     from: Proto,

@@ -3,11 +3,11 @@ ghost use Rattle.std.specs.Prelude.{◌≡◌, ◌+◌, ◌^◌, ◌<◌, ◌≤
 ghost use Rattle.translate_core.specs.Routes.{IsKnownRoute};
 ghost use Rattle.protocol_pairs.specs.Pairs.{judged, answered};
 ghost use Rattle.protocol_traits.specs.Room.{room_for};
-ghost use Rattle.session_judge.specs.Upstream.{expected, tells_call, of_type, of_upstream, back, reply_bytes};
+ghost use Rattle.session_judge.specs.Upstream.{expected, of_type, of_upstream, back, reply_bytes};
 
 use gate_io::Out;
-use protocol_pairs::{answer, head_type, translate};
-use protocol_traits::{Fault, Proto};
+use protocol_pairs::{answer, translate};
+use protocol_traits::Proto;
 use session_core::{Halt, UpstreamJudged};
 use thrift_value::MessageType;
 use translate_core::{Cause, Route, Verdict};
@@ -15,42 +15,8 @@ use type_tables::{Schema, StructId};
 
 /// Judges a frame of the upstream as the reply of this struct, and appends what goes to the client.
 ///
-/// The header alone tells a call, which no upstream sends: its body is not looked at.
+/// A call, which no upstream sends, is gone through like a reply, and what was written of it is let go.
 pub fn judge_reply(
-    schema: &Schema,
-    reply: Option<StructId>,
-    from: Proto,
-    to: Proto,
-    frame: &[u8],
-    room: &mut [u8],
-    out: &mut Out,
-) -> UpstreamJudged
-    requires room { length frame.now ≤ length room.old }
-    requires size { length frame.now < 2 ^ 31 }
-    requires fits { length out.old.bytes + room_for (length frame.now) ≤ out.old.room }
-    ensures verdict { result ≡ of_upstream (judged schema.now (Route.Answer (expected schema.now reply)) from to frame.now).verdict }
-    ensures out { out.new ≡ record out.old { bytes = out.old.bytes ++ reply_bytes schema.now reply from to frame.now } }
-    ensures within { length out.new.bytes ≤ out.new.room }
-{
-    if tells_call(head_type(from, frame, room)) {
-        return UpstreamJudged::Halts(Halt::WrongWay);
-    }
-    judge_answer(schema, reply, from, to, frame, room, out)
-}
-
-/// Whether the header tells a message that no upstream sends.
-fn tells_call(head: Result<MessageType, Fault>) -> bool
-    ensures { result ≡ tells_call head }
-{
-    match head {
-        Ok(MessageType::Call) | Ok(MessageType::Oneway) => true,
-        Ok(MessageType::Reply) | Ok(MessageType::Exception) => false,
-        Err(_) => false,
-    }
-}
-
-/// Judges a frame of the upstream whose header may be a reply's: its body is translated.
-fn judge_answer(
     schema: &Schema,
     reply: Option<StructId>,
     from: Proto,

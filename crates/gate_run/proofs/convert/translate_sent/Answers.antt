@@ -1,13 +1,8 @@
-use Rattle.std.proofs.Common.{◌+◌, ◌≤◌, arith, ap, ◌∙◌, length, length-append}
+use Rattle.std.proofs.Common.{arith, ap, ◌∙◌, length, length-append}
 use Rattle.gate_io.specs.Buffer.{Buffer}
-use Rattle.line_transport.specs.Buffers.{lead, trail}
-use Rattle.line_transport.specs.declared.transport.Transport.{Transport}
-use Rattle.line_transport.specs.declared.transport.Transport.TheVariants.{Frames, Lines}
+use Rattle.line_transport.specs.Buffers.{lead}
+use Rattle.gate_run.proofs.Sending.{at_most_four}
 use Rattle.gate_run.proofs.convert.translate_sent.Goals as goal
-
-at_most_four : (t : Transport) → length (lead t) + length (trail t) ≤ 4
-at_most_four Frames = omega arith
-at_most_four Lines = omega arith
 
 pub close-requires-clause-room : goal.close-requires-clause-room
 close-requires-clause-room c =
