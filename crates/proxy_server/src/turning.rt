@@ -116,7 +116,9 @@ fn most_read(due_to_other: &[u8]) -> usize
     }
 }
 
-/// Reads a side, in a smaller piece while something is due to the other.
+/// Reads a side, in a smaller piece while something is due to the other. A side that isn't ready is asked about before all
+/// else: in most rounds neither is.
+#[inline(always)]
 fn read_behind<H: Hub, J: Judge, N: Notes>(
     session: &mut Session<J>,
     hub: &mut H,
@@ -141,7 +143,11 @@ fn read_behind<H: Hub, J: Judge, N: Notes>(
     ensures few { IfOk result (λ n. n ≤ 1) }
     ensures piece { length piece.new ≡ length piece.old }
 {
-    let most = most_read(session.due(other(side)));
+    let due = session.due(other(side));
+    if waits.read(side) {
+        return Ok(0);
+    }
+    let most = most_read(due);
     read(session, hub, k, side, waits, &mut piece[..most], notes)
 }
 
