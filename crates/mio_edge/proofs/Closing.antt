@@ -10,7 +10,7 @@ use Rattle.gate_hub.specs.Meaning.{Link}
 use Rattle.mio_edge.specs.Wire.{Wire, Moves, Stays}
 use Rattle.mio_edge.specs.Moving.{PortTells, PortTellsBy, IsUnsent, HasSent}
 use Rattle.mio_edge.specs.Sessions.{Links, TellsAt, PortsTell, AtEach, PortsAre, IsUnsentAt}
-use Rattle.mio_edge.specs.Tables.{World, place_of, TellsPlace, Tells}
+use Rattle.mio_edge.specs.Tables.{World, place_of, TellsPlace, Tells, IsClosedAt}
 use Rattle.mio_edge.specs.Closing.{IsSettled, IsSettledAt, AreSettled, AreFlushed, HoldsFlushed, KeepsSent, KeepAllSent, WindsUp, WindsAt, WoundOn, Winds, HoldsSettled, OthersStay, WindsBeside, WindsBesideIfAny, PutsAt, winds_on}
 use Rattle.mio_edge.specs.declared.port.Port.{Port}
 use Rattle.mio_edge.specs.declared.session.Session.{Session}
@@ -260,3 +260,7 @@ flushed_none {S} slab place none = λ session is. absurd (no_value session (sym 
   where
     no_value : (s : Session S) → None ≡ Some s → ⊥
     no_value s e = absurd (cc)
+
+-- one that is open isn't closed
+pub not_shut : {S : Type 0} (slab : Slab (Session S)) (place : ℕ) (a : Session S) → get slab place ≡ Some a → a.is_open ≡ true → IsClosedAt slab place → ⊥
+not_shut {S} slab place a was is_open (x, is, shut) = true≢false (sym is_open ∙ (ap (λ (s : Session S). s.is_open) (some_same (get slab place) a x was is) ∙ shut))

@@ -12,8 +12,10 @@ use Rattle.gate_hub.specs.declared.hub.LinkGot.{LinkGot}
 use Rattle.gate_hub.specs.declared.hub.LinkPut.{LinkPut}
 use Rattle.mio_edge.specs.Wire.{Wire, Moves, Stays}
 use Rattle.mio_edge.specs.Moving.{PortTellsBy, PortTells, CanRead, CanWrite, IsUnsent}
-use Rattle.mio_edge.specs.Sessions.{Links, TellsAt, PortsTell, SessionTells, TellsUnsent, IsAwaited, IsUnsentAt, AtPort, IsStill, AtEach, PortsAre, Calms, Flushes, new_links}
+use Rattle.mio_edge.specs.Sessions.{Links, TellsAt, PortsTell, SessionTells, TellsUnsent, IsAwaited, IsUnsentAt, AtPort, IsStill, AtEach, PortsAre, Calms, Flushes, count_read, count_written, new_links}
+use Rattle.mio_edge.proofs.Entries.{some_same}
 use Rattle.mio_edge.specs.declared.port.Port.{Port}
+use Rattle.mio_edge.specs.declared.port.Receiving.TheVariants as receiving
 use Rattle.mio_edge.specs.declared.session.Session.{Session}
 
 pub decide : (i j : ℕ) → (i ≡ j) ⊎ (i ≢ j)
@@ -427,3 +429,25 @@ session_nowhere {S} tells a port Step none moves links told =
     named : (p : ℕ) → (p ≡ port) ⊎ (p ≢ port) → (links' : Links) → AtPort port Step links links' → IsAwaited (slice_get a.ports.items p) (links' p) → a.is_queued ≡ true
     named p (inl e) links' step w = absurd (subst (λ (o : Option (Port S)). IsAwaited o (links' p)) (ap (slice_get a.ports.items) e ∙ none) w)
     named p (inr off) links' step w = told.awaited p (subst (λ l. IsAwaited (slice_get a.ports.items p) l) (step.others p off) w)
+
+-- ---- a session that moved all that it may
+
+pub not_here : {X : Type 0} {o : Option X} (x : X) → o ≡ None → o ≡ Some x → ⊥
+not_here {X} {o} x none some = by (sym none ∙ some)
+  where
+    by : None ≡ Some x → ⊥
+    by e = absurd (cc)
+
+pub still_open : {S : Type 0} {o : Option (Port S)} (a x : Port S) → o ≡ Some a → o ≡ Some x → a.receiving ≡ receiving.Ended → x.receiving ≢ receiving.Ended → ⊥
+still_open {S} {o} a x first second ended unread = unread (ap (λ (p : Port S). p.receiving) (some_same o x a second first) ∙ ended)
+
+pub none_read : (answer : LinkGot) → ((n : ℕ) → answer ≢ got.Bytes n) → count_read answer ≡ 0
+none_read (got.Bytes n) never = absurd (never n refl)
+none_read got.NotReady never = refl
+none_read got.End never = refl
+none_read got.Failed never = refl
+
+pub none_written : (answer : LinkPut) → ((n : ℕ) → answer ≢ put.Took n) → count_written answer ≡ 0
+none_written (put.Took n) never = absurd (never n refl)
+none_written put.NotReady never = refl
+none_written put.Failed never = refl

@@ -40,16 +40,6 @@ event_turn_on Is tells (Some (event.Opened k)) a b c keeps first second = tt
 event_turn_on Is tells (Some event.Stopped) a b c keeps first second = tt
 event_turn_on Is tells (Some event.Failed) a b c keeps first second = tt
 
--- no session is named
-pub no_turn : {W S : Type 0} (Is : Type 0) (tells : S → Wire → Type 0) (e : HubNext) (a b : Sockets W S) → e ≡ event.Failed → EventTurn Is tells (Some e) a b
-no_turn {W} {S} Is tells e a b is = subst (λ (x : HubNext). EventTurn Is tells (Some x) a b) (sym is) tt
-
-pub no_turn_stopped : {W S : Type 0} (Is : Type 0) (tells : S → Wire → Type 0) (e : HubNext) (a b : Sockets W S) → e ≡ event.Stopped → EventTurn Is tells (Some e) a b
-no_turn_stopped {W} {S} Is tells e a b is = subst (λ (x : HubNext). EventTurn Is tells (Some x) a b) (sym is) tt
-
-pub no_turn_opened : {W S : Type 0} (Is : Type 0) (tells : S → Wire → Type 0) (e : HubNext) (k : ℕ) (a b : Sockets W S) → e ≡ event.Opened k → EventTurn Is tells (Some e) a b
-no_turn_opened {W} {S} Is tells e k a b is = subst (λ (x : HubNext). EventTurn Is tells (Some x) a b) (sym is) tt
-
 -- the sessions of a listener have moved up
 pub sockets_turned : {W S : Type 0} (Is : Type 0) (tells : S → Wire → Type 0) (named : Option ℕ) (a b : Sockets W S) (l l' : Listening S) → a.listening ≡ Some l → b.listening ≡ Some l' → TurnsIfTold tells named l.table l'.table → SocketsTurnIfTold Is tells named a b
 sockets_turned {W} {S} Is tells named a b l l' was now turn world told = record {

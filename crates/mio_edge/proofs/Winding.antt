@@ -1,5 +1,5 @@
 -- What becomes of the closed sessions of the sockets.
-use Rattle.std.proofs.Common.{◌≡◌, ℕ, Option, None, Some, sym, ◌∙◌, subst}
+use Rattle.std.proofs.Common.{◌≡◌, ℕ, Option, None, Some, sym, subst}
 use Rattle.mio_edge.specs.Wire.{Wire}
 use Rattle.mio_edge.specs.Tables.{World, TableTells}
 use Rattle.mio_edge.specs.Worlds.{ListeningTells, SocketsTell}
@@ -39,13 +39,3 @@ sockets_told Is tells a b l l' was now winds world told = sockets_moved tells a 
 
 pub sockets_close : {W S : Type 0} (Is : Type 0) (tells : S → Wire → Type 0) (k : ℕ) (a b : Sockets W S) (l l' : Listening S) → a.listening ≡ Some l → b.listening ≡ Some l' → TableCloses tells k l.table l'.table → SocketsClose Is tells k a b
 sockets_close Is tells k a b l l' was now closes world links told is = (l', now, closes world links (told_table Is tells a l world was told).1 is)
-
--- where no server listens no session is open
-pub none_close : {W S : Type 0} (Is : Type 0) (tells : S → Wire → Type 0) (k : ℕ) (a b : Sockets W S) → a.listening ≡ None → SocketsClose Is tells k a b
-none_close {W} {S} Is tells k a b none world links told is = absurd (by (subst (λ (o : Option (Listening S)). ListeningTells tells o world) none told.sessions))
-  where
-    by : ((j : ℕ) → world j ≡ None) → ⊥
-    by closed = no_links (sym (closed k) ∙ is)
-      where
-        no_links : None ≡ Some links → ⊥
-        no_links e = absurd (cc)

@@ -2,11 +2,14 @@
 use Rattle.std.specs.Prelude.{◌≡◌, ◌≢◌, ◌⊎◌, ⊤, ℕ, List, [], true, false, Option, None, Some}
 use Rattle.std.specs.List.{slice_get}
 use Rattle.gate_hub.specs.Meaning.{Link, new_link, unasked}
+use Rattle.gate_hub.specs.declared.hub.LinkGot.{LinkGot}
 use Rattle.gate_hub.specs.declared.hub.LinkGot.TheVariants as got
+use Rattle.gate_hub.specs.declared.hub.LinkPut.{LinkPut}
 use Rattle.gate_hub.specs.declared.hub.LinkPut.TheVariants as put
 use Rattle.mio_edge.specs.Wire.{Wire, Stays}
 use Rattle.mio_edge.specs.Moving.{PortTells, CanRead, CanWrite, IsUnsent, IsCalm}
 use Rattle.mio_edge.specs.declared.port.Port.{Port}
+use Rattle.mio_edge.specs.declared.port.Receiving.TheVariants as receiving
 use Rattle.mio_edge.specs.declared.session.Session.{Session}
 
 -- the links of a session, by their ports
@@ -98,3 +101,23 @@ MayWait session = session.allowance ≡ 0 → session.is_queued ≡ true
 -- and where it is to be sent, it may take bytes
 abbrev pub MayWrite : {S : Type 0} → Session S → Type 0
 MayWrite session = MayWait session × ((session.is_queued ≡ true) ⊎ (session.is_written ≡ true))
+
+-- a session that moved all that it may in its turn answers that it isn't ready, unless the port's end was read
+abbrev pub WaitsToRead : {S : Type 0} → Session S → ℕ → LinkGot → Type 0
+WaitsToRead {S} session port answer =
+    (x : Port S) → session.allowance ≡ 0 → slice_get session.ports.items port ≡ Some x → x.receiving ≢ receiving.Ended → answer ≡ got.NotReady
+
+abbrev pub WaitsToWrite : {S : Type 0} → Session S → ℕ → LinkPut → Type 0
+WaitsToWrite {S} session port answer = (x : Port S) → session.allowance ≡ 0 → slice_get session.ports.items port ≡ Some x → answer ≡ put.NotReady
+
+-- how many bytes a call moved
+abbrev pub count_read : LinkGot → ℕ
+count_read (got.Bytes n) = n
+count_read got.NotReady = 0
+count_read got.End = 0
+count_read got.Failed = 0
+
+abbrev pub count_written : LinkPut → ℕ
+count_written (put.Took n) = n
+count_written put.NotReady = 0
+count_written put.Failed = 0

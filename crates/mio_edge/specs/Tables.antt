@@ -154,4 +154,4 @@ pub record NotesAt {S : Type 0} (tells : S → Wire → Type 0) (news : Readines
 
 -- what is reported at a token: place and port are in it
 abbrev pub NotesToken : {S : Type 0} → (S → Wire → Type 0) → ℕ → Readiness → Table S → Table S → Type 0
-NotesToken tells token news a b = 0 < a.width → NotesAt tells news (token / a.width) (token % a.width) a b
+NotesToken tells token news a b = 0 < a.settings.width → NotesAt tells news (token / a.settings.width) (token % a.settings.width) a b

@@ -7,6 +7,7 @@ ghost use Rattle.gate_hub.specs.Meaning.{IsOpen};
 ghost use Rattle.gate_hub.specs.declared.hub.Began.TheVariants as began;
 ghost use Rattle.gate_hub.specs.declared.hub.HubNext.TheVariants as event;
 ghost use Rattle.mio_edge.specs.Counting.{FaultRose, WaitRose, counts_in};
+ghost use Rattle.mio_edge.specs.Fixed.{SocketsSame};
 ghost use Rattle.mio_edge.specs.Numbers.{AllAnnounced, Numbers};
 ghost use Rattle.mio_edge.specs.Telling.{HubTells, HubLeads, port_number};
 ghost use Rattle.mio_edge.specs.Turning.{EventTurn, SocketsJoin};
@@ -158,6 +159,7 @@ impl<W: Network> Hub for MioHub<W> {
         ensures stopped { result ≡ event.Stopped → AllAnnounced self.new.sockets.accept self.new.sockets.announced ⊎ W.is_shared }
         ensures winds { SocketsWind W.Stream.tells self.old.sockets self.new.sockets }
         ensures turn { EventTurn W.is_telling W.Stream.tells (Some result) self.old.sockets self.new.sockets }
+        ensures same { SocketsSame self.old.sockets self.new.sockets }
     {
         self.sockets.next()
     }
@@ -171,6 +173,7 @@ impl<W: Network> Hub for MioHub<W> {
         ensures wait { result ≡ LinkGot.NotReady → Rose ((counts_in self.old).waits k side) ((counts_in self.new).waits k side) }
         ensures winds { SocketsWindIfTold W.is_telling W.Stream.tells self.old.sockets self.new.sockets }
         ensures joins { SocketsJoin self.old.sockets self.new.sockets }
+        ensures same { SocketsSame self.old.sockets self.new.sockets }
     {
         let got = self.sockets.read(k, port_of(side), into);
         self.count_got(side, got);
@@ -186,6 +189,7 @@ impl<W: Network> Hub for MioHub<W> {
         ensures wait { result ≡ LinkPut.NotReady → Rose ((counts_in self.old).waits k side) ((counts_in self.new).waits k side) }
         ensures winds { SocketsWindIfTold W.is_telling W.Stream.tells self.old.sockets self.new.sockets }
         ensures joins { SocketsJoin self.old.sockets self.new.sockets }
+        ensures same { SocketsSame self.old.sockets self.new.sockets }
     {
         let put = self.sockets.write(k, port_of(side), from);
         self.count_put(side, put);
@@ -198,6 +202,7 @@ impl<W: Network> Hub for MioHub<W> {
         ensures sends { SocketsClose W.is_telling W.Stream.tells k self.old.sockets self.new.sockets }
         ensures winds { SocketsWind W.Stream.tells self.old.sockets self.new.sockets }
         ensures joins { SocketsJoin self.old.sockets self.new.sockets }
+        ensures same { SocketsSame self.old.sockets self.new.sockets }
     {
         self.sockets.close(k);
     }

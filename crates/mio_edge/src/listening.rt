@@ -1,6 +1,7 @@
 //! The sessions of a server that listens, and its wait for what comes of them.
 ghost use Rattle.std.specs.Prelude.{◌≡◌, ◌≢◌, ◌<◌, ◌-◌, ◌^◌, [], ℕ, None, true, false};
 ghost use Rattle.mio_edge.specs.Closing.{Winds, OthersStay};
+ghost use Rattle.mio_edge.specs.Fixed.{fixed_of};
 ghost use Rattle.mio_edge.specs.Order.{SameTurns, TurnsIfTold};
 ghost use Rattle.mio_edge.specs.Wire.{Stays, new_wire};
 ghost use Rattle.mio_edge.specs.Numbers.{Passes};
@@ -79,6 +80,7 @@ impl<S: Stream> Listening<S> {
     ) -> Listening<S>
         ensures connecting { result.connecting ≡ connecting }
         ensures table { result.table ≡ table }
+        ensures targets { result.targets ≡ targets }
     {
         Listening {
             is_accepting: true,
@@ -95,6 +97,7 @@ impl<S: Stream> Listening<S> {
     pub(crate) fn stop_accepting<W: Network<Stream = S>>(&mut self, network: &mut W)
         ensures table { self.new.table ≡ self.old.table }
         ensures connecting { self.new.connecting ≡ self.old.connecting }
+        ensures same { fixed_of self.new ≡ fixed_of self.old }
     {
         if self.is_accepting {
             self.is_accepting = false;
@@ -122,6 +125,7 @@ impl<S: Stream> Listening<S> {
         ensures connecting { self.new.connecting ≡ self.old.connecting }
         ensures winds { Winds S.tells self.old.table.sessions self.new.table.sessions }
         ensures turns { IfNotHere result (SameTurns self.old.table self.new.table) }
+        ensures same { fixed_of self.new ≡ fixed_of self.old }
     {
         if self.accepting != Accepting::Ready || self.accepts_left == 0 {
             return Admitted::Nothing;
@@ -156,6 +160,7 @@ impl<S: Stream> Listening<S> {
         ensures connecting { self.new.connecting ≡ self.old.connecting }
         ensures winds { Winds S.tells self.old.table.sessions self.new.table.sessions }
         ensures turns { IfNotHere result (SameTurns self.old.table self.new.table) }
+        ensures same { fixed_of self.new ≡ fixed_of self.old }
     {
         if self.admit(network, number, client) {
             return Admitted::Here(number);
@@ -171,6 +176,7 @@ impl<S: Stream> Listening<S> {
         ensures connecting { self.new.connecting ≡ self.old.connecting }
         ensures winds { Winds S.tells self.old.table.sessions self.new.table.sessions }
         ensures turns { result ≡ false → SameTurns self.old.table self.new.table }
+        ensures same { fixed_of self.new ≡ fixed_of self.old }
     {
         let Some(place) = self.table.begin(number) else {
             return false;
@@ -194,6 +200,7 @@ impl<S: Stream> Listening<S> {
         ensures connecting { self.new.connecting ≡ self.old.connecting }
         ensures others { OthersStay place self.old.table.sessions self.new.table.sessions }
         ensures turns { SameTurns self.old.table self.new.table }
+        ensures same { fixed_of self.new ≡ fixed_of self.old }
     {
         if self.connecting == Connecting::OnDemand {
             self.table.defer(place);
@@ -222,6 +229,7 @@ impl<S: Stream> Listening<S> {
         ensures connecting { self.new.connecting ≡ self.old.connecting }
         ensures others { OthersStay place self.old.table.sessions self.new.table.sessions }
         ensures turns { SameTurns self.old.table self.new.table }
+        ensures same { fixed_of self.new ≡ fixed_of self.old }
     {
         let token = self.table.token(place, port);
         network.watch(&mut stream, token) && self.table.attach(place, port, stream, sending)
@@ -235,6 +243,7 @@ impl<S: Stream> Listening<S> {
         ensures connecting { self.new.connecting ≡ self.old.connecting }
         ensures others { OthersStay place self.old.table.sessions self.new.table.sessions }
         ensures turns { SameTurns self.old.table self.new.table }
+        ensures same { fixed_of self.new ≡ fixed_of self.old }
     {
         for at in 0..self.targets.len() {
             self.connect(network, place, at.saturating_add(1));
@@ -254,6 +263,7 @@ impl<S: Stream> Listening<S> {
         ensures connecting { self.new.connecting ≡ self.old.connecting }
         ensures others { OthersStay place self.old.table.sessions self.new.table.sessions }
         ensures turns { SameTurns self.old.table self.new.table }
+        ensures same { fixed_of self.new ≡ fixed_of self.old }
     {
         let Some(target) = self.targets.get(port.wrapping_sub(1)) else {
             return false;
@@ -274,6 +284,7 @@ impl<S: Stream> Listening<S> {
     )
         ensures at_once { self.old.connecting ≡ Connecting.AtOnce → self.new ≡ self.old }
         ensures turns { SameTurns self.old.table self.new.table }
+        ensures same { fixed_of self.new ≡ fixed_of self.old }
     {
         if self.connecting == Connecting::AtOnce {
             return;
@@ -292,6 +303,7 @@ impl<S: Stream> Listening<S> {
         ensures connecting { self.new.connecting ≡ self.old.connecting }
         ensures winds { Winds S.tells self.old.table.sessions self.new.table.sessions }
         ensures turn { TurnsIfTold S.tells None self.old.table self.new.table }
+        ensures same { fixed_of self.new ≡ fixed_of self.old }
     {
         self.table.send();
         if self.table.has_ready() {
@@ -309,6 +321,7 @@ impl<S: Stream> Listening<S> {
         ensures connecting { self.new.connecting ≡ self.old.connecting }
         ensures winds { Winds S.tells self.old.table.sessions self.new.table.sessions }
         ensures turn { TurnsIfTold S.tells None self.old.table self.new.table }
+        ensures same { fixed_of self.new ≡ fixed_of self.old }
     {
         let timeout = self.timeout(network.handing());
         let waited = network.wait(timeout, &mut self.table);
@@ -321,6 +334,7 @@ impl<S: Stream> Listening<S> {
     fn wake(&mut self, waited: Waited)
         ensures table { self.new.table ≡ self.old.table }
         ensures connecting { self.new.connecting ≡ self.old.connecting }
+        ensures same { fixed_of self.new ≡ fixed_of self.old }
     {
         if self.accepting == Accepting::Short || waited == Waited::Connection {
             self.accepting = Accepting::Ready;
@@ -333,6 +347,7 @@ impl<S: Stream> Listening<S> {
     fn spend_patience(&mut self, waited: Waited)
         ensures table { self.new.table ≡ self.old.table }
         ensures connecting { self.new.connecting ≡ self.old.connecting }
+        ensures same { fixed_of self.new ≡ fixed_of self.old }
     {
         if self.is_accepting || !self.table.is_done() {
             return;

@@ -206,11 +206,14 @@ impl<S: Stream> Port<S> {
         self.sending == Sending::Lost || self.stream.is_none()
     }
 
-    /// Whether the peer's end was read: it is answered from then on.
-    pub(crate) fn has_ended(&self) -> bool
-        ensures { result ≡ false → IsOver self.now → ⊥ }
+    /// Whether a read waits for the next turn of a session that may move so many bytes still. Once the peer's end was
+    /// read it is answered without waiting.
+    pub(crate) fn waits_for_turn(&self, allowance: usize) -> bool
+        ensures spent { result ≡ true → allowance ≡ 0 }
+        ensures over { result ≡ true → IsOver self.now → ⊥ }
+        ensures ended { result ≡ false → allowance ≡ 0 → self.now.receiving ≡ Receiving.Ended }
     {
-        self.receiving == Receiving::Ended
+        allowance == 0 && self.receiving != Receiving::Ended
     }
 
     /// Hands out what was received. Where nothing is held, all that came and has room is read.

@@ -1,12 +1,12 @@
 //! A session: its ports, and how much it may still move before the others have their turn.
-ghost use Rattle.std.specs.Prelude.{◌≡◌, ◌⊎◌, ◌<◌, ◌==◌, ℕ, length, true, false, Some};
+ghost use Rattle.std.specs.Prelude.{◌≡◌, ◌⊎◌, ◌<◌, ◌-◌, ◌==◌, ℕ, length, true, false, Some};
 ghost use Rattle.std.specs.List.{slice_get};
 ghost use Rattle.gate_hub.specs.Hubs.{GotWithin, TookWithin, LinkReads, LinkWrites};
 ghost use Rattle.mio_edge.specs.Closing.{AreFlushed, AreSettled, KeepAllSent, WindsUp};
 ghost use Rattle.mio_edge.specs.Wire.{Moves, Stays, new_wire};
 ghost use Rattle.mio_edge.specs.Moving.{IsBegun, is_news, noted};
 ghost use Rattle.mio_edge.specs.Sessions.{SessionTells, PortsTell, AtPort, IsStill, IsUnsentAt, new_links};
-ghost use Rattle.mio_edge.specs.Sessions.{PortsAre, Calms, Flushes, TellsUnsent, MayWait, MayWrite};
+ghost use Rattle.mio_edge.specs.Sessions.{PortsAre, Calms, Flushes, TellsUnsent, MayWait, MayWrite, WaitsToRead, WaitsToWrite, count_read, count_written};
 ghost use Rattle.mio_edge.specs.Order.{Grows};
 ghost use Rattle.mio_edge.specs.Turns.{HasRoom, Pushes};
 ghost use Rattle.mio_edge.specs.declared.port.Port.{Port};
@@ -38,6 +38,7 @@ impl<S: Stream> Session<S> {
         ensures number { result.number ≡ number }
         ensures closed { result.is_open ≡ false }
         ensures ports { result.ports ≡ ports }
+        ensures allowance { result.allowance ≡ allowance }
         ensures idle { (result.is_queued ≡ false) × (result.is_written ≡ false) }
     {
         Session {
@@ -55,6 +56,7 @@ impl<S: Stream> Session<S> {
         requires { IsBegun sending }
         ensures begins { SessionTells S.tells self.old new_links → S.tells stream new_wire → SessionTells S.tells self.new new_links }
         ensures still { IsStill self.old self.new }
+        ensures same { self.new.allowance ≡ self.old.allowance }
     {
         match self.ports.get_mut(port) {
             Some(port) => {
@@ -69,6 +71,7 @@ impl<S: Stream> Session<S> {
     pub(crate) fn defer(&mut self)
         ensures keeps { Stays (SessionTells S.tells self.old) (SessionTells S.tells self.new) }
         ensures still { IsStill self.old self.new }
+        ensures same { self.new.allowance ≡ self.old.allowance }
     {
         defer_all(&mut self.ports);
     }
@@ -85,6 +88,7 @@ impl<S: Stream> Session<S> {
     pub(crate) fn give_up(&mut self, port: usize)
         ensures keeps { Stays (SessionTells S.tells self.old) (SessionTells S.tells self.new) }
         ensures still { IsStill self.old self.new }
+        ensures same { self.new.allowance ≡ self.old.allowance }
     {
         if let Some(port) = self.ports.get_mut(port) {
             port.give_up();
@@ -98,6 +102,7 @@ impl<S: Stream> Session<S> {
         ensures keeps { Stays (PortsTell S.tells self.old.ports.items) (PortsTell S.tells self.new.ports.items) }
         ensures calm { result ≡ false → Stays (SessionTells S.tells self.old) (SessionTells S.tells self.new) }
         ensures still { IsStill self.old self.new }
+        ensures same { self.new.allowance ≡ self.old.allowance }
     {
         match self.ports.get_mut(port) {
             Some(port) => port.report(news),
@@ -137,6 +142,7 @@ impl<S: Stream> Session<S> {
     /// Begins a turn of the session, in which it may read and write so many bytes.
     pub(crate) fn begin_turn(&mut self, allowance: usize)
         ensures ports { self.new.ports ≡ self.old.ports }
+        ensures allowance { self.new.allowance ≡ allowance }
         ensures still { IsStill self.old self.new }
     {
         self.allowance = allowance;
@@ -155,11 +161,13 @@ impl<S: Stream> Session<S> {
         ensures within { GotWithin into.new result }
         ensures leads { MayWait self.old → Moves (SessionTells S.tells self.old) (SessionTells S.tells self.new) (AtPort port (LinkReads into.new result)) }
         ensures still { IsStill self.old self.new }
+        ensures waits { WaitsToRead self.old port result }
+        ensures spends { self.new.allowance ≡ self.old.allowance - count_read result }
     {
         let Some(port) = self.ports.get_mut(port) else {
             return LinkGot::Failed;
         };
-        if self.allowance == 0 && !port.has_ended() {
+        if port.waits_for_turn(self.allowance) {
             return LinkGot::NotReady;
         }
         let got = port.read(into);
@@ -175,6 +183,8 @@ impl<S: Stream> Session<S> {
         ensures within { TookWithin from.now result }
         ensures leads { MayWrite self.old → Moves (SessionTells S.tells self.old) (SessionTells S.tells self.new) (AtPort port (LinkWrites from.now result)) }
         ensures still { IsStill self.old self.new }
+        ensures waits { WaitsToWrite self.old port result }
+        ensures spends { self.new.allowance ≡ self.old.allowance - count_written result }
     {
         let Some(port) = self.ports.get_mut(port) else {
             return LinkPut::Failed;
@@ -207,6 +217,7 @@ impl<S: Stream> Session<S> {
         ensures keeps { Stays (TellsUnsent S.tells self.old) (SessionTells S.tells self.new) }
         ensures ports { Stays (PortsTell S.tells self.old.ports.items) (PortsTell S.tells self.new.ports.items) }
         ensures still { IsStill self.old self.new }
+        ensures same { self.new.allowance ≡ self.old.allowance }
     {
         send_all(&mut self.ports)
     }
@@ -218,6 +229,7 @@ impl<S: Stream> Session<S> {
         ensures gone { result ≡ Rest.Gone → AreSettled self.new.ports.items }
         ensures sent { AreFlushed self.new.ports.items }
         ensures still { IsStill self.old self.new }
+        ensures same { self.new.allowance ≡ self.old.allowance }
     {
         wind_up_all(&mut self.ports)
     }

@@ -6,6 +6,7 @@ ghost use Rattle.gate_hub.specs.declared.hub.Began.TheVariants as began;
 ghost use Rattle.gate_hub.specs.declared.hub.HubNext.TheVariants as event;
 ghost use Rattle.gate_hub.specs.Hubs.{LinkReads, LinkWrites};
 ghost use Rattle.mio_edge.specs.Admitting.{IfHere, IfNotHere};
+ghost use Rattle.mio_edge.specs.Fixed.{SocketsSame};
 ghost use Rattle.mio_edge.specs.Numbers.{AllAnnounced, Numbers, NumbersIfAny, Passes};
 ghost use Rattle.mio_edge.specs.Tables.{AtSession, Shuts, NamesIfAny, empty_world};
 ghost use Rattle.mio_edge.specs.Turning.{EventTurn, SocketsJoin, SocketsTurnIfTold};
@@ -179,7 +180,7 @@ impl<W: Network> Sockets<W> {
     /// nothing came of them. Where the network is one of several at an address it is the same once no more are handed
     /// to it, and it is told at once where another has ended before its time. `Failed`: the count of `start` and `next` rose; the
     /// system refused to wait, or the last number was given.
-    #[tactic(auto, using(crate::proofs::Winding::sockets_same, crate::proofs::Winding::sockets_on, crate::proofs::Turning::sockets_turn_same, crate::proofs::Turning::sockets_join_same))]
+    #[tactic(auto, using(crate::proofs::Winding::sockets_same, crate::proofs::Winding::sockets_on, crate::specs::Fixed::fixed_same, crate::specs::Fixed::fixed_on, crate::proofs::Turning::sockets_turn_same, crate::proofs::Turning::sockets_join_same))]
     pub fn next(&mut self) -> HubNext
         ensures moves { SocketsMove W.is_telling W.Stream.tells (EventMoves result) self.old self.new }
         ensures over { result ≡ event.Stopped → self.old.has_stopped ≡ false → NoneOpen W.is_telling W.Stream.tells self.old }
@@ -192,6 +193,7 @@ impl<W: Network> Sockets<W> {
         ensures cause { result ≡ event.Failed → Rose self.old.faults self.new.faults }
         ensures winds { SocketsWind W.Stream.tells self.old self.new }
         ensures turn { EventTurn W.is_telling W.Stream.tells (Some result) self.old self.new }
+        ensures same { SocketsSame self.old self.new }
     {
         if self.has_ended() {
             return HubNext::Stopped;
@@ -209,7 +211,7 @@ impl<W: Network> Sockets<W> {
     /// `NotReady`: nothing came, it is the others' turn, or the port isn't connected yet; `next` names
     /// k when it may be read again. `End`: the peer will send no more. `Failed`: the connection failed or never came to
     /// be, or there is no such port.
-    #[tactic(auto, using(crate::proofs::Winding::sockets_same, crate::proofs::Winding::sockets_on, crate::proofs::Turning::sockets_turn_same, crate::proofs::Turning::sockets_join_same))]
+    #[tactic(auto, using(crate::proofs::Winding::sockets_same, crate::proofs::Winding::sockets_on, crate::specs::Fixed::fixed_same, crate::specs::Fixed::fixed_on, crate::proofs::Turning::sockets_turn_same, crate::proofs::Turning::sockets_join_same))]
     pub fn read(&mut self, k: u64, port: usize, into: &mut [u8]) -> LinkGot
         requires { 0 < length into.old }
         ensures within { GotWithin into.new result }
@@ -220,6 +222,7 @@ impl<W: Network> Sockets<W> {
         ensures faults { self.new.faults ≡ self.old.faults }
         ensures winds { SocketsWindIfTold W.is_telling W.Stream.tells self.old self.new }
         ensures joins { SocketsJoin self.old self.new }
+        ensures same { SocketsSame self.old self.new }
     {
         match &mut self.listening {
             Some(listening) => listening.table.read(k, port, into),
@@ -233,7 +236,7 @@ impl<W: Network> Sockets<W> {
     /// `NotReady`: the buffer and the socket are full, or it is the others' turn; `next` names k
     /// when it may be written again. `Failed`: the connection failed, maybe at an earlier send, or
     /// never came to be, or there is no such port.
-    #[tactic(auto, using(crate::proofs::Winding::sockets_same, crate::proofs::Winding::sockets_on, crate::proofs::Turning::sockets_turn_same, crate::proofs::Turning::sockets_join_same))]
+    #[tactic(auto, using(crate::proofs::Winding::sockets_same, crate::proofs::Winding::sockets_on, crate::specs::Fixed::fixed_same, crate::specs::Fixed::fixed_on, crate::proofs::Turning::sockets_turn_same, crate::proofs::Turning::sockets_join_same))]
     pub fn write(&mut self, k: u64, port: usize, from: &[u8]) -> LinkPut
         requires { 0 < length from.now }
         ensures within { TookWithin from.now result }
@@ -244,6 +247,7 @@ impl<W: Network> Sockets<W> {
         ensures faults { self.new.faults ≡ self.old.faults }
         ensures winds { SocketsWindIfTold W.is_telling W.Stream.tells self.old self.new }
         ensures joins { SocketsJoin self.old self.new }
+        ensures same { SocketsSame self.old self.new }
     {
         match &mut self.listening {
             Some(listening) => {
@@ -255,7 +259,7 @@ impl<W: Network> Sockets<W> {
     }
 
     /// Closes session k. What was written to it is sent still, and its peers see the end behind it.
-    #[tactic(auto, using(crate::proofs::Winding::sockets_same, crate::proofs::Winding::sockets_on, crate::proofs::Turning::sockets_turn_same, crate::proofs::Turning::sockets_join_same))]
+    #[tactic(auto, using(crate::proofs::Winding::sockets_same, crate::proofs::Winding::sockets_on, crate::specs::Fixed::fixed_same, crate::specs::Fixed::fixed_on, crate::proofs::Turning::sockets_turn_same, crate::proofs::Turning::sockets_join_same))]
     pub fn close(&mut self, k: u64)
         ensures leads { SocketsMoveAt W.is_telling W.Stream.tells k (Shuts k) self.old self.new }
         ensures stopped { self.new.has_stopped ≡ self.old.has_stopped }
@@ -265,6 +269,7 @@ impl<W: Network> Sockets<W> {
         ensures sends { SocketsClose W.is_telling W.Stream.tells k self.old self.new }
         ensures winds { SocketsWind W.Stream.tells self.old self.new }
         ensures joins { SocketsJoin self.old self.new }
+        ensures same { SocketsSame self.old self.new }
     {
         // The place is given away before the peer sees the end: one that connects again then finds it.
         if let Some(listening) = &mut self.listening {
@@ -274,7 +279,7 @@ impl<W: Network> Sockets<W> {
     }
 
     // A step towards the next event: none where there is to be another.
-    #[tactic(auto, using(crate::proofs::Winding::sockets_same, crate::proofs::Winding::sockets_on, crate::proofs::Turning::sockets_turn_same, crate::proofs::Turning::sockets_join_same))]
+    #[tactic(auto, using(crate::proofs::Winding::sockets_same, crate::proofs::Winding::sockets_on, crate::specs::Fixed::fixed_same, crate::specs::Fixed::fixed_on, crate::proofs::Turning::sockets_turn_same, crate::proofs::Turning::sockets_join_same))]
     fn advance(&mut self) -> Option<HubNext>
         ensures moves { SocketsMove W.is_telling W.Stream.tells (EventMovesIfAny result) self.old self.new }
         ensures over { result ≡ Some event.Stopped → NoneOpen W.is_telling W.Stream.tells self.old }
@@ -285,6 +290,7 @@ impl<W: Network> Sockets<W> {
         ensures cause { result ≡ Some event.Failed → Rose self.old.faults self.new.faults }
         ensures winds { SocketsWind W.Stream.tells self.old self.new }
         ensures turn { EventTurn W.is_telling W.Stream.tells result self.old self.new }
+        ensures same { SocketsSame self.old self.new }
     {
         self.send_where_many();
         if self.network.is_left() {
@@ -300,7 +306,7 @@ impl<W: Network> Sockets<W> {
     }
 
     // A step where connections may be accepted.
-    #[tactic(auto, using(crate::proofs::Winding::sockets_same, crate::proofs::Winding::sockets_on, crate::proofs::Turning::sockets_turn_same, crate::proofs::Turning::sockets_join_same))]
+    #[tactic(auto, using(crate::proofs::Winding::sockets_same, crate::proofs::Winding::sockets_on, crate::specs::Fixed::fixed_same, crate::specs::Fixed::fixed_on, crate::proofs::Turning::sockets_turn_same, crate::proofs::Turning::sockets_join_same))]
     fn go_on(&mut self) -> Option<HubNext>
         requires { self.old.announced < 2 ^ 64 - 1 }
         ensures moves { SocketsMove W.is_telling W.Stream.tells (EventMovesIfAny result) self.old self.new }
@@ -311,6 +317,7 @@ impl<W: Network> Sockets<W> {
         ensures cause { result ≡ Some event.Failed → Rose self.old.faults self.new.faults }
         ensures winds { SocketsWind W.Stream.tells self.old self.new }
         ensures turn { EventTurn W.is_telling W.Stream.tells result self.old self.new }
+        ensures same { SocketsSame self.old self.new }
     {
         match self.accept_next() {
             Admitted::Here(number) => Some(self.opened(number)),
@@ -323,7 +330,7 @@ impl<W: Network> Sockets<W> {
     }
 
     // A step once no more connections are accepted.
-    #[tactic(auto, using(crate::proofs::Winding::sockets_same, crate::proofs::Winding::sockets_on, crate::proofs::Turning::sockets_turn_same, crate::proofs::Turning::sockets_join_same))]
+    #[tactic(auto, using(crate::proofs::Winding::sockets_same, crate::proofs::Winding::sockets_on, crate::specs::Fixed::fixed_same, crate::specs::Fixed::fixed_on, crate::proofs::Turning::sockets_turn_same, crate::proofs::Turning::sockets_join_same))]
     fn finish(&mut self) -> Option<HubNext>
         requires { AllAnnounced self.old.accept self.old.announced ⊎ W.is_shared }
         ensures moves { SocketsMove W.is_telling W.Stream.tells (EventMovesIfAny result) self.old self.new }
@@ -335,6 +342,7 @@ impl<W: Network> Sockets<W> {
         ensures cause { result ≡ Some event.Failed → Rose self.old.faults self.new.faults }
         ensures winds { SocketsWind W.Stream.tells self.old self.new }
         ensures turn { EventTurn W.is_telling W.Stream.tells result self.old self.new }
+        ensures same { SocketsSame self.old self.new }
     {
         if self.is_over() {
             return Some(self.stops());
@@ -343,7 +351,7 @@ impl<W: Network> Sockets<W> {
     }
 
     // No event follows.
-    #[tactic(auto, using(crate::proofs::Winding::sockets_same, crate::proofs::Winding::sockets_on, crate::proofs::Turning::sockets_turn_same, crate::proofs::Turning::sockets_join_same))]
+    #[tactic(auto, using(crate::proofs::Winding::sockets_same, crate::proofs::Winding::sockets_on, crate::specs::Fixed::fixed_same, crate::specs::Fixed::fixed_on, crate::proofs::Turning::sockets_turn_same, crate::proofs::Turning::sockets_join_same))]
     fn stops(&mut self) -> HubNext
         requires { AllAnnounced self.old.accept self.old.announced ⊎ W.is_shared }
         ensures keeps { SocketsStay W.is_telling W.Stream.tells self.old self.new }
@@ -353,6 +361,7 @@ impl<W: Network> Sockets<W> {
         ensures accept { self.new.accept ≡ self.old.accept }
         ensures faults { self.new.faults ≡ self.old.faults }
         ensures winds { SocketsWind W.Stream.tells self.old self.new }
+        ensures same { SocketsSame self.old self.new }
     {
         self.has_stopped = true;
         HubNext::Stopped
@@ -390,7 +399,7 @@ impl<W: Network> Sockets<W> {
     }
 
     // Lets the listener go, and says whether all is over.
-    #[tactic(auto, using(crate::proofs::Winding::sockets_same, crate::proofs::Winding::sockets_on, crate::proofs::Turning::sockets_turn_same, crate::proofs::Turning::sockets_join_same))]
+    #[tactic(auto, using(crate::proofs::Winding::sockets_same, crate::proofs::Winding::sockets_on, crate::specs::Fixed::fixed_same, crate::specs::Fixed::fixed_on, crate::proofs::Turning::sockets_turn_same, crate::proofs::Turning::sockets_join_same))]
     fn is_over(&mut self) -> bool
         ensures keeps { SocketsStay W.is_telling W.Stream.tells self.old self.new }
         ensures over { result ≡ true → NoneOpen W.is_telling W.Stream.tells self.old }
@@ -399,6 +408,7 @@ impl<W: Network> Sockets<W> {
         ensures faults { self.new.faults ≡ self.old.faults }
         ensures winds { SocketsWind W.Stream.tells self.old self.new }
         ensures turn { SocketsTurnIfTold W.is_telling W.Stream.tells None self.old self.new }
+        ensures same { SocketsSame self.old self.new }
     {
         match &mut self.listening {
             Some(listening) => {
@@ -410,7 +420,7 @@ impl<W: Network> Sockets<W> {
     }
 
     // Sends what the sessions wrote, where these are many.
-    #[tactic(auto, using(crate::proofs::Winding::sockets_same, crate::proofs::Winding::sockets_on, crate::proofs::Turning::sockets_turn_same, crate::proofs::Turning::sockets_join_same))]
+    #[tactic(auto, using(crate::proofs::Winding::sockets_same, crate::proofs::Winding::sockets_on, crate::specs::Fixed::fixed_same, crate::specs::Fixed::fixed_on, crate::proofs::Turning::sockets_turn_same, crate::proofs::Turning::sockets_join_same))]
     fn send_where_many(&mut self)
         ensures keeps { SocketsStay W.is_telling W.Stream.tells self.old self.new }
         ensures announced { self.new.announced ≡ self.old.announced }
@@ -418,6 +428,7 @@ impl<W: Network> Sockets<W> {
         ensures faults { self.new.faults ≡ self.old.faults }
         ensures winds { SocketsWind W.Stream.tells self.old self.new }
         ensures turn { SocketsTurnIfTold W.is_telling W.Stream.tells None self.old self.new }
+        ensures same { SocketsSame self.old self.new }
     {
         if let Some(listening) = &mut self.listening {
             listening.table.send_where_many();
@@ -425,7 +436,7 @@ impl<W: Network> Sockets<W> {
     }
 
     // Accepts the next connection, if there is one.
-    #[tactic(auto, using(crate::proofs::Winding::sockets_same, crate::proofs::Winding::sockets_on, crate::proofs::Turning::sockets_turn_same, crate::proofs::Turning::sockets_join_same))]
+    #[tactic(auto, using(crate::proofs::Winding::sockets_same, crate::proofs::Winding::sockets_on, crate::specs::Fixed::fixed_same, crate::specs::Fixed::fixed_on, crate::proofs::Turning::sockets_turn_same, crate::proofs::Turning::sockets_join_same))]
     fn accept_next(&mut self) -> Admitted
         requires { self.old.announced < 2 ^ 64 - 1 }
         ensures opens { IfHere result (λ k. OpensAs W.is_telling W.Stream.tells k self.old self.new) }
@@ -437,6 +448,7 @@ impl<W: Network> Sockets<W> {
         ensures faults { self.new.faults ≡ self.old.faults }
         ensures winds { SocketsWind W.Stream.tells self.old self.new }
         ensures turn { IfNotHere result (SocketsTurnIfTold W.is_telling W.Stream.tells None self.old self.new) }
+        ensures same { SocketsSame self.old self.new }
     {
         match &mut self.listening {
             Some(listening) => listening.accept(&mut self.network, self.announced),
@@ -445,7 +457,7 @@ impl<W: Network> Sockets<W> {
     }
 
     // The same where that session was announced, as each is.
-    #[tactic(auto, using(crate::proofs::Winding::sockets_same, crate::proofs::Winding::sockets_on))]
+    #[tactic(auto, using(crate::proofs::Winding::sockets_same, crate::proofs::Winding::sockets_on, crate::specs::Fixed::fixed_same, crate::specs::Fixed::fixed_on))]
     fn next_announced(&mut self) -> Option<u64>
         ensures names { SocketsMove W.is_telling W.Stream.tells (NamesIfAny result) self.old self.new }
         ensures below { IfSome result (λ number. number < self.old.announced) }
@@ -454,6 +466,7 @@ impl<W: Network> Sockets<W> {
         ensures faults { self.new.faults ≡ self.old.faults }
         ensures winds { SocketsWind W.Stream.tells self.old self.new }
         ensures turn { SocketsTurnIfTold W.is_telling W.Stream.tells result self.old self.new }
+        ensures same { SocketsSame self.old self.new }
     {
         let Some(number) = self.next_named() else {
             return None;
@@ -466,7 +479,7 @@ impl<W: Network> Sockets<W> {
     }
 
     // The number of the session that is to have a turn next.
-    #[tactic(auto, using(crate::proofs::Winding::sockets_same, crate::proofs::Winding::sockets_on, crate::proofs::Turning::sockets_turn_same, crate::proofs::Turning::sockets_join_same))]
+    #[tactic(auto, using(crate::proofs::Winding::sockets_same, crate::proofs::Winding::sockets_on, crate::specs::Fixed::fixed_same, crate::specs::Fixed::fixed_on, crate::proofs::Turning::sockets_turn_same, crate::proofs::Turning::sockets_join_same))]
     fn next_named(&mut self) -> Option<u64>
         ensures names { SocketsMove W.is_telling W.Stream.tells (NamesIfAny result) self.old self.new }
         ensures announced { self.new.announced ≡ self.old.announced }
@@ -474,6 +487,7 @@ impl<W: Network> Sockets<W> {
         ensures faults { self.new.faults ≡ self.old.faults }
         ensures winds { SocketsWind W.Stream.tells self.old self.new }
         ensures turn { SocketsTurnIfTold W.is_telling W.Stream.tells result self.old self.new }
+        ensures same { SocketsSame self.old self.new }
     {
         match &mut self.listening {
             Some(listening) => listening.table.next_ready(),
@@ -482,7 +496,7 @@ impl<W: Network> Sockets<W> {
     }
 
     // Sends what was written and waits, where no session is to have a turn. It says whether that failed.
-    #[tactic(auto, using(crate::proofs::Winding::sockets_same, crate::proofs::Winding::sockets_on, crate::proofs::Turning::sockets_turn_same, crate::proofs::Turning::sockets_join_same))]
+    #[tactic(auto, using(crate::proofs::Winding::sockets_same, crate::proofs::Winding::sockets_on, crate::specs::Fixed::fixed_same, crate::specs::Fixed::fixed_on, crate::proofs::Turning::sockets_turn_same, crate::proofs::Turning::sockets_join_same))]
     fn rest(&mut self) -> bool
         ensures keeps { SocketsStay W.is_telling W.Stream.tells self.old self.new }
         ensures announced { self.new.announced ≡ self.old.announced }
@@ -490,6 +504,7 @@ impl<W: Network> Sockets<W> {
         ensures faults { self.new.faults ≡ self.old.faults }
         ensures winds { SocketsWind W.Stream.tells self.old self.new }
         ensures turn { SocketsTurnIfTold W.is_telling W.Stream.tells None self.old self.new }
+        ensures same { SocketsSame self.old self.new }
     {
         match &mut self.listening {
             Some(listening) => listening.rest(&mut self.network),
@@ -508,7 +523,7 @@ impl<W: Network> Sockets<W> {
     }
 
     // The next number is another's.
-    #[tactic(auto, using(crate::proofs::Winding::sockets_same, crate::proofs::Winding::sockets_on, crate::proofs::Turning::sockets_turn_same, crate::proofs::Turning::sockets_join_same))]
+    #[tactic(auto, using(crate::proofs::Winding::sockets_same, crate::proofs::Winding::sockets_on, crate::specs::Fixed::fixed_same, crate::specs::Fixed::fixed_on, crate::proofs::Turning::sockets_turn_same, crate::proofs::Turning::sockets_join_same))]
     fn pass_over(&mut self)
         requires { self.old.announced < 2 ^ 64 - 1 }
         ensures keeps { SocketsStay W.is_telling W.Stream.tells self.old self.new }
@@ -517,12 +532,13 @@ impl<W: Network> Sockets<W> {
         ensures faults { self.new.faults ≡ self.old.faults }
         ensures winds { SocketsWind W.Stream.tells self.old self.new }
         ensures turn { SocketsTurnIfTold W.is_telling W.Stream.tells None self.old self.new }
+        ensures same { SocketsSame self.old self.new }
     {
         self.announced += 1;
     }
 
     // A session that is to have a turn: none after a wait.
-    #[tactic(auto, using(crate::proofs::Winding::sockets_same, crate::proofs::Winding::sockets_on, crate::proofs::Turning::sockets_turn_same, crate::proofs::Turning::sockets_join_same))]
+    #[tactic(auto, using(crate::proofs::Winding::sockets_same, crate::proofs::Winding::sockets_on, crate::specs::Fixed::fixed_same, crate::specs::Fixed::fixed_on, crate::proofs::Turning::sockets_turn_same, crate::proofs::Turning::sockets_join_same))]
     fn ready(&mut self) -> Option<HubNext>
         ensures moves { SocketsMove W.is_telling W.Stream.tells (EventMovesIfAny result) self.old self.new }
         ensures numbers { NumbersIfAny W.is_shared result self.old.announced self.new.announced }
@@ -533,6 +549,7 @@ impl<W: Network> Sockets<W> {
         ensures cause { result ≡ Some event.Failed → Rose self.old.faults self.new.faults }
         ensures winds { SocketsWind W.Stream.tells self.old self.new }
         ensures turn { EventTurn W.is_telling W.Stream.tells result self.old self.new }
+        ensures same { SocketsSame self.old self.new }
     {
         if let Some(number) = self.next_announced() {
             return Some(HubNext::Ready(number));
@@ -544,7 +561,7 @@ impl<W: Network> Sockets<W> {
     }
 
     // Fails, and counts that.
-    #[tactic(auto, using(crate::proofs::Winding::sockets_same, crate::proofs::Winding::sockets_on, crate::proofs::Turning::sockets_turn_same, crate::proofs::Turning::sockets_join_same))]
+    #[tactic(auto, using(crate::proofs::Winding::sockets_same, crate::proofs::Winding::sockets_on, crate::specs::Fixed::fixed_same, crate::specs::Fixed::fixed_on, crate::proofs::Turning::sockets_turn_same, crate::proofs::Turning::sockets_join_same))]
     fn fails(&mut self) -> HubNext
         ensures keeps { SocketsStay W.is_telling W.Stream.tells self.old self.new }
         ensures result { result ≡ event.Failed }
@@ -553,6 +570,7 @@ impl<W: Network> Sockets<W> {
         ensures later { self.old.faults ≤ self.new.faults }
         ensures cause { Rose self.old.faults self.new.faults }
         ensures winds { SocketsWind W.Stream.tells self.old self.new }
+        ensures same { SocketsSame self.old self.new }
     {
         self.count_fault();
         HubNext::Failed

@@ -5,7 +5,9 @@ ghost use Rattle.gate_hub.specs.Hubs.{GotWithin, TookWithin, LinkReads, LinkWrit
 ghost use Rattle.slab.specs.Slab.{get};
 ghost use Rattle.mio_edge.specs.Closing.{Winds, WindsBesideIfAny, OthersStay, PutsAt, TableCloses, ClosesEntry, HoldsFlushed, HoldsSettled, winds_nowhere, winds_on};
 ghost use Rattle.mio_edge.specs.Order.{Grows, JoinsBehind, MovesOn, SameTurns, TurnsIfTold};
+ghost use Rattle.mio_edge.specs.Fixed.{settings_on, settings_same};
 ghost use Rattle.mio_edge.specs.Lines.{moves_still, moves_on_further};
+ghost use Rattle.mio_edge.specs.Steps.{TakesTurns};
 ghost use Rattle.mio_edge.specs.Wire.{Moves, Stays, new_wire};
 ghost use Rattle.mio_edge.specs.Tables.{World, TableTells, IsNew, IsPrepared, IsClosedAt, AtSession, Shuts, MovesAt, RisesFrom, SpareTells, place_of, empty_world};
 ghost use Rattle.mio_edge.specs.Tables.{IfPrepared, TableAnnounces};
@@ -47,6 +49,15 @@ struct Entry {
     place: usize,
 }
 
+// What stays as it was when the table was opened.
+#[derive(Clone, Copy)]
+struct Settings {
+    /// The number of ports of a session.
+    width: usize,
+    /// The bytes that a session may move in a turn.
+    quantum: usize,
+}
+
 /// The sessions, open ones and closed ones whose end isn't over.
 ///
 /// All its memory is taken in `open`. A session that was closed keeps its place until what was
@@ -54,8 +65,7 @@ struct Entry {
 /// a new connection.
 #[derive(Drop)]
 pub(crate) struct Table<S: Stream> {
-    /// The number of ports of a session.
-    width: usize,
+    settings: Settings,
     sessions: Slab<Session<S>>,
     /// The ports, with their buffers, of the places that are free.
     spare: Vec<Vec<Port<S>>>,
@@ -71,14 +81,13 @@ pub(crate) struct Table<S: Stream> {
     written: Queue,
     /// The place of the session that was named last.
     turning: usize,
-    /// The bytes that a session may move in a turn.
-    quantum: usize,
 }
 
 impl<S: Stream> Table<S> {
     /// An empty table of so many places, for sessions of so many ports.
     pub(crate) fn open(alloc: Global, places: usize, width: usize) -> Result<Table<S>, OutOfMemory>
-        ensures { IfOk result (λ table. TableTells S.tells table empty_world) }
+        ensures empty { IfOk result (λ table. TableTells S.tells table empty_world) }
+        ensures width { IfOk result (λ table. table.settings.width ≡ width) }
     {
         let quantum = if places <= FEW_PLACES {
             LARGE_BUFFERS
@@ -94,7 +103,7 @@ impl<S: Stream> Table<S> {
         let closed = Vec::with_capacity(alloc, places)?;
         let spare = open_places(alloc, places, width, quantum)?;
         Ok(Table {
-            width,
+            settings: Settings { width, quantum },
             sessions,
             spare,
             entries,
@@ -103,7 +112,6 @@ impl<S: Stream> Table<S> {
             behind,
             written,
             turning: 0,
-            quantum,
         })
     }
 
@@ -148,12 +156,13 @@ impl<S: Stream> Table<S> {
         ensures prepared { (world : World) → TableTells S.tells self.old world → IfPrepared S.tells number result self.new }
         ensures winds { WindsBesideIfAny S.tells result self.old.sessions self.new.sessions }
         ensures turns { SameTurns self.old self.new }
+        ensures same { self.new.settings ≡ self.old.settings }
     {
         self.make_place();
         let Some(ports) = self.spare.pop() else {
             return None;
         };
-        self.insert(Session::over(number, ports, self.quantum))
+        self.insert(Session::over(number, ports, self.settings.quantum))
     }
 
     // Frees a place where there is none.
@@ -162,6 +171,7 @@ impl<S: Stream> Table<S> {
         ensures keeps { Stays (TableTells S.tells self.old) (TableTells S.tells self.new) }
         ensures winds { Winds S.tells self.old.sessions self.new.sessions }
         ensures turns { SameTurns self.old self.new }
+        ensures same { self.new.settings ≡ self.old.settings }
     {
         if self.spare.is_empty() {
             self.give_up_one();
@@ -174,13 +184,14 @@ impl<S: Stream> Table<S> {
         ensures prepared { IsNew S.tells session → (world : World) → HasVacancy S.tells self.old world → IfPrepared S.tells session.number result self.new }
         ensures puts { PutsAt result self.old.sessions self.new.sessions }
         ensures turns { SameTurns self.old self.new }
+        ensures same { self.new.settings ≡ self.old.settings }
     {
         self.sessions.insert(session).ok()
     }
 
     /// Where what comes of a port of the session at a place is reported.
     pub(crate) fn token(&self, place: usize, port: usize) -> usize {
-        self.width.wrapping_mul(place).wrapping_add(port)
+        self.settings.width.wrapping_mul(place).wrapping_add(port)
     }
 
     /// Gives a port of the session at a place its connection. It says whether there is such a port.
@@ -192,6 +203,7 @@ impl<S: Stream> Table<S> {
         ensures prepared { (k : ℕ) → S.tells stream new_wire → IsPrepared S.tells self.old place k → IsPrepared S.tells self.new place k }
         ensures others { OthersStay place self.old.sessions self.new.sessions }
         ensures turns { SameTurns self.old self.new }
+        ensures same { self.new.settings ≡ self.old.settings }
     {
         match self.sessions.get_mut(place) {
             Some(session) => session.attach(port, stream, sending),
@@ -207,6 +219,7 @@ impl<S: Stream> Table<S> {
         ensures keeps { Stays (TableTells S.tells self.old) (TableTells S.tells self.new) }
         ensures others { OthersStay place self.old.sessions self.new.sessions }
         ensures turns { SameTurns self.old self.new }
+        ensures same { self.new.settings ≡ self.old.settings }
     {
         if let Some(session) = self.sessions.get_mut(place) {
             session.defer();
@@ -228,6 +241,7 @@ impl<S: Stream> Table<S> {
     pub(crate) fn give_up(&mut self, place: usize, port: usize)
         ensures keeps { Stays (TableTells S.tells self.old) (TableTells S.tells self.new) }
         ensures turns { SameTurns self.old self.new }
+        ensures same { self.new.settings ≡ self.old.settings }
     {
         if let Some(session) = self.sessions.get_mut(place) {
             session.give_up(port);
@@ -240,6 +254,7 @@ impl<S: Stream> Table<S> {
         ensures opens { result ≡ true → IsPrepared S.tells self.old place number → TableAnnounces S.tells number self.old self.new }
         ensures kept { result ≡ false → self.new ≡ self.old }
         ensures others { OthersStay place self.old.sessions self.new.sessions }
+        ensures same { self.new.settings ≡ self.old.settings }
     {
         if self.entries.len() >= self.entries.capacity() {
             return false;
@@ -258,6 +273,7 @@ impl<S: Stream> Table<S> {
         ensures order { (world : World) → TableTells S.tells self.old world → self.new.ready.places.items ≡ turns_of self.old }
         ensures sessions { self.new.sessions ≡ self.old.sessions }
         ensures entries { self.new.entries ≡ self.old.entries }
+        ensures same { self.new.settings ≡ self.old.settings }
     {
         for _ in 0..self.behind.len() {
             let Some(place) = self.behind.pop() else {
@@ -281,6 +297,8 @@ impl<S: Stream> Table<S> {
         ensures names { Moves (TableTells S.tells self.old) (TableTells S.tells self.new) (NamesIfAny result) }
         ensures winds { Winds S.tells self.old.sessions self.new.sessions }
         ensures turn { TurnsIfTold S.tells result self.old self.new }
+        ensures steps { TakesTurns self.old self.new }
+        ensures same { self.new.settings ≡ self.old.settings }
     {
         for _ in 0..self.ready.len() {
             if let Some(number) = self.turn_first() {
@@ -297,6 +315,8 @@ impl<S: Stream> Table<S> {
         ensures names { Moves (TableTells S.tells self.old) (TableTells S.tells self.new) (NamesIfAny result) }
         ensures winds { Winds S.tells self.old.sessions self.new.sessions }
         ensures turn { TurnsIfTold S.tells result self.old self.new }
+        ensures steps { TakesTurns self.old self.new }
+        ensures same { self.new.settings ≡ self.old.settings }
     {
         let Some(place) = self.ready.pop() else {
             return None;
@@ -309,7 +329,7 @@ impl<S: Stream> Table<S> {
             self.wind_up(place);
             return None;
         }
-        session.begin_turn(self.quantum);
+        session.begin_turn(self.settings.quantum);
         self.turning = place;
         let number = session.number;
         if !session.has_unsent() {
@@ -328,6 +348,7 @@ impl<S: Stream> Table<S> {
         ensures keeps { Stays (TableTells S.tells self.old) (TableTells S.tells self.new) }
         ensures winds { Winds S.tells self.old.sessions self.new.sessions }
         ensures turn { MovesOn [] self.old self.new }
+        ensures same { self.new.settings ≡ self.old.settings }
     {
         if self.written.len() >= MOST_WRITTEN {
             self.send();
@@ -341,6 +362,7 @@ impl<S: Stream> Table<S> {
         ensures sent { self.new.written.places.items ≡ [] }
         ensures winds { Winds S.tells self.old.sessions self.new.sessions }
         ensures turn { MovesOn [] self.old self.new }
+        ensures same { self.new.settings ≡ self.old.settings }
     {
         for _ in 0..self.written.len() {
             self.send_first();
@@ -354,6 +376,7 @@ impl<S: Stream> Table<S> {
         ensures taken { self.new.written.places.items ≡ drop 1 self.old.written.places.items }
         ensures winds { Winds S.tells self.old.sessions self.new.sessions }
         ensures turn { MovesOn [] self.old self.new }
+        ensures same { self.new.settings ≡ self.old.settings }
     {
         let Some(place) = self.written.pop() else {
             return;
@@ -375,6 +398,7 @@ impl<S: Stream> Table<S> {
         ensures leads { MovesAt number (TableTells S.tells self.old) (TableTells S.tells self.new) (AtSession number port (LinkReads into.new result)) }
         ensures winds { (world : World) → TableTells S.tells self.old world → Winds S.tells self.old.sessions self.new.sessions }
         ensures joins { JoinsBehind self.old self.new }
+        ensures same { self.new.settings ≡ self.old.settings }
     {
         let Some(place) = self.find(number) else {
             return LinkGot::Failed;
@@ -397,6 +421,7 @@ impl<S: Stream> Table<S> {
         ensures leads { MovesAt number (TableTells S.tells self.old) (TableTells S.tells self.new) (AtSession number port (LinkWrites from.now result)) }
         ensures winds { (world : World) → TableTells S.tells self.old world → Winds S.tells self.old.sessions self.new.sessions }
         ensures joins { JoinsBehind self.old self.new }
+        ensures same { self.new.settings ≡ self.old.settings }
     {
         let Some(place) = self.find(number) else {
             return LinkPut::Failed;
@@ -422,6 +447,7 @@ impl<S: Stream> Table<S> {
         ensures sends { TableCloses S.tells number self.old self.new }
         ensures winds { Winds S.tells self.old.sessions self.new.sessions }
         ensures joins { JoinsBehind self.old self.new }
+        ensures same { self.new.settings ≡ self.old.settings }
     {
         if let Some(at) = self.search(number) {
             let place = self.shut(at);
@@ -439,6 +465,7 @@ impl<S: Stream> Table<S> {
         ensures winds { Winds S.tells self.old.sessions self.new.sessions }
         ensures ready { self.new.ready ≡ self.old.ready }
         ensures behind { self.new.behind ≡ self.old.behind }
+        ensures same { self.new.settings ≡ self.old.settings }
     {
         let place = self.entries.remove(at).place;
         let Some(session) = self.sessions.get_mut(place) else {
@@ -460,6 +487,7 @@ impl<S: Stream> Table<S> {
         ensures sent { HoldsFlushed self.new.sessions place }
         ensures behind { Grows self.old.behind self.new.behind }
         ensures entries { self.new.entries ≡ self.old.entries }
+        ensures same { self.new.settings ≡ self.old.settings }
     {
         let Some(session) = self.sessions.get_mut(place) else {
             return;
@@ -481,6 +509,7 @@ impl<S: Stream> Table<S> {
         ensures flushed { HoldsFlushed self.old.sessions place → HoldsFlushed self.new.sessions place }
         ensures behind { Grows self.old.behind self.new.behind }
         ensures entries { self.new.entries ≡ self.old.entries }
+        ensures same { self.new.settings ≡ self.old.settings }
     {
         if let Some(session) = self.sessions.get_mut(place) {
             session.stand_in(&mut self.behind, place);
@@ -496,6 +525,7 @@ impl<S: Stream> Table<S> {
         ensures free { get self.new.sessions place ≡ None }
         ensures winds { HoldsSettled self.old.sessions place → Winds S.tells self.old.sessions self.new.sessions }
         ensures turns { SameTurns self.old self.new }
+        ensures same { self.new.settings ≡ self.old.settings }
     {
         forget(&mut self.closed, place);
         if let Some(session) = self.sessions.try_remove(place) {
@@ -512,6 +542,7 @@ impl<S: Stream> Table<S> {
         ensures keeps { Stays (TableTells S.tells self.old) (TableTells S.tells self.new) }
         ensures winds { Winds S.tells self.old.sessions self.new.sessions }
         ensures turns { SameTurns self.old self.new }
+        ensures same { self.new.settings ≡ self.old.settings }
     {
         if let Some(place) = self.find_sent() {
             self.release(place);
@@ -562,18 +593,18 @@ impl<S: Stream> Table<S> {
 }
 
 impl<S: Stream> Reports for Table<S> {
-    ghost goes = { λ a b. Stays (TableTells S.tells a) (TableTells S.tells b) × Winds S.tells a.sessions b.sessions × MovesOn [] a b };
+    ghost goes = { λ a b. Stays (TableTells S.tells a) (TableTells S.tells b) × Winds S.tells a.sessions b.sessions × MovesOn [] a b × (b.settings ≡ a.settings) };
 
     ghost notes = { λ token news a b. NotesToken S.tells token news a b };
 
     /// Takes note of what was reported at a token, and lets its session have a turn if that is news.
     #[tactic(auto, using(crate::specs::Closing::winds_nowhere, crate::specs::Lines::moves_nowhere, crate::specs::Lines::grows_same))]
     fn report(&mut self, token: usize, news: Readiness) {
-        if self.width == 0 {
+        if self.settings.width == 0 {
             return;
         }
-        let place = token / self.width;
-        let port = token % self.width;
+        let place = token / self.settings.width;
+        let port = token % self.settings.width;
         let Some(session) = self.sessions.get_mut(place) else {
             return;
         };
@@ -582,9 +613,9 @@ impl<S: Stream> Reports for Table<S> {
         }
     }
 
-    ghost stays = { λ a. ((λ world told. told), winds_nowhere S.tells a.sessions, moves_still a) };
+    ghost stays = { λ a. ((λ world told. told), winds_nowhere S.tells a.sessions, moves_still a, settings_same a.settings) };
 
-    ghost follows = { λ a b c first second. ((λ world told. second.0 world (first.0 world told)), winds_on S.tells a.sessions b.sessions c.sessions first.1 second.1, moves_on_further [] [] a b c first.2 second.2) };
+    ghost follows = { λ a b c first second. ((λ world told. second.0 world (first.0 world told)), winds_on S.tells a.sessions b.sessions c.sessions first.1 second.1, moves_on_further [] [] a b c first.2 second.2, settings_on a.settings b.settings c.settings first.3 second.3) };
 }
 
 // Takes a place out of a list.

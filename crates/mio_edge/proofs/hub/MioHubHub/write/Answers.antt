@@ -4,6 +4,7 @@ use Rattle.mio_edge.proofs.Telling.{call_leads_over, writes_follow}
 use Rattle.std.proofs.Common.{length, sym, subst}
 use Rattle.mio_edge.specs.Winding.{SocketsWind}
 use Rattle.mio_edge.specs.Turning.{SocketsJoin}
+use Rattle.mio_edge.specs.Fixed.{SocketsSame}
 use Rattle.mio_edge.proofs.hub.MioHubHub.write.Goals as goal
 
 pub returns-clause-leads : goal.returns-clause-leads
@@ -15,3 +16,6 @@ returns-clause-winds g c = λ world told. subst (λ sockets. SocketsWind g.W.Str
 
 pub returns-clause-joins : goal.returns-clause-joins
 returns-clause-joins g c = subst (λ sockets. SocketsJoin c.args.self.now.sockets sockets) (sym c.count_put.ensures.sockets) c.write-put.ensures.joins
+
+pub returns-clause-same : goal.returns-clause-same
+returns-clause-same g c = subst (λ sockets. SocketsSame c.args.self.now.sockets sockets) (sym c.count_put.ensures.sockets) c.write-put.ensures.same

@@ -5,6 +5,8 @@ use Rattle.mio_edge.specs.Closing.{WindsBesideIfAny}
 use Rattle.mio_edge.proofs.Closing.{beside_winds, beside_stays}
 use Rattle.mio_edge.specs.Lines.{same_turns_on}
 use Rattle.mio_edge.specs.Order.{SameTurns}
+use Rattle.std.proofs.Common.{refl, ◌∙◌}
+use Rattle.mio_edge.specs.Fixed.{fixed_kept}
 use Rattle.mio_edge.proofs.listening.Listening.admit.Goals as goal
 
 pub returns-then-not-link-clause-kept : goal.returns-then-not-link-clause-kept
@@ -73,3 +75,27 @@ returns-clause-turns g c = λ refused.
     let d = c.link.new.self.table in
     let f = c.release-2.new.self in
     same_turns_on a d f (same_turns_on a b d c.begin.ensures.turns c.link.ensures.turns) (subst (λ table. SameTurns table f) (c.announce.ensures.kept c.if-announce.false) c.release-2.ensures.turns)
+
+pub returns-in_default-clause-same : goal.returns-in_default-clause-same
+returns-in_default-clause-same g c = fixed_kept c.args.self.now (record c.args.self.now { table = c.begin.new.self }) refl refl c.begin.ensures.same
+
+pub returns-then-not-link-clause-same : goal.returns-then-not-link-clause-same
+returns-then-not-link-clause-same g c =
+    let a = c.args.self.now in
+    let d = c.link.new.self in
+    fixed_kept d (record d { table = c.release.new.self }) refl refl c.release.ensures.same
+    ∙ (c.link.ensures.same ∙ fixed_kept a (record a { table = c.begin.new.self }) refl refl c.begin.ensures.same)
+
+pub returns-then-announce-clause-same : goal.returns-then-announce-clause-same
+returns-then-announce-clause-same g c =
+    let a = c.args.self.now in
+    let d = c.link.new.self in
+    fixed_kept d (record d { table = c.announce.new.self }) refl refl c.announce.ensures.same
+    ∙ (c.link.ensures.same ∙ fixed_kept a (record a { table = c.begin.new.self }) refl refl c.begin.ensures.same)
+
+pub returns-clause-same : goal.returns-clause-same
+returns-clause-same g c =
+    let a = c.args.self.now in
+    let d = c.link.new.self in
+    fixed_kept d (record d { table = c.release-2.new.self }) refl refl (c.release-2.ensures.same ∙ c.announce.ensures.same)
+    ∙ (c.link.ensures.same ∙ fixed_kept a (record a { table = c.begin.new.self }) refl refl c.begin.ensures.same)

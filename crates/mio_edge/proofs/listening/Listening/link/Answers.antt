@@ -1,5 +1,7 @@
 use Rattle.mio_edge.proofs.Closing.{others_on}
 use Rattle.mio_edge.specs.Lines.{same_turns_on}
+use Rattle.std.proofs.Common.{refl, ◌∙◌}
+use Rattle.mio_edge.specs.Fixed.{fixed_kept}
 use Rattle.mio_edge.proofs.listening.Listening.link.Goals as goal
 
 pub returns-then-eq-clause-prepared : goal.returns-then-eq-clause-prepared
@@ -31,3 +33,9 @@ returns-then-eq-clause-turns g c = same_turns_on c.args.self.now.table c.defer.n
 
 pub returns-clause-turns : goal.returns-clause-turns
 returns-clause-turns g c = same_turns_on c.args.self.now.table c.attach-2.new.self.table c.connect_all.new.self.table c.attach-2.ensures.turns c.connect_all.ensures.turns
+
+pub returns-then-eq-clause-same : goal.returns-then-eq-clause-same
+returns-then-eq-clause-same g c = c.attach.ensures.same ∙ fixed_kept c.args.self.now (record c.args.self.now { table = c.defer.new.self }) refl refl c.defer.ensures.same
+
+pub returns-clause-same : goal.returns-clause-same
+returns-clause-same g c = c.connect_all.ensures.same ∙ c.attach-2.ensures.same

@@ -1,6 +1,8 @@
 use Rattle.std.proofs.Common.{[], None}
 use Rattle.mio_edge.specs.Closing.{winds_on}
 use Rattle.mio_edge.proofs.Order.{turn_on}
+use Rattle.std.proofs.Common.{refl, ◌∙◌}
+use Rattle.mio_edge.specs.Fixed.{fixed_kept}
 use Rattle.mio_edge.proofs.listening.Listening.rest.Goals as goal
 
 pub returns-clause-keeps : goal.returns-clause-keeps
@@ -14,3 +16,9 @@ returns-then-has_ready-clause-turn g c = λ world told. ([], c.send.ensures.turn
 
 pub returns-clause-turn : goal.returns-clause-turn
 returns-clause-turn g c = λ world told. turn_on None c.args.self.now.table c.send.new.self c.wait.new.self.table ([], c.send.ensures.turn) (c.wait.ensures.turn world (c.send.ensures.keeps world told))
+
+pub returns-then-has_ready-clause-same : goal.returns-then-has_ready-clause-same
+returns-then-has_ready-clause-same g c = fixed_kept c.args.self.now (record c.args.self.now { table = c.send.new.self }) refl refl c.send.ensures.same
+
+pub returns-clause-same : goal.returns-clause-same
+returns-clause-same g c = c.wait.ensures.same ∙ fixed_kept c.args.self.now (record c.args.self.now { table = c.send.new.self }) refl refl c.send.ensures.same

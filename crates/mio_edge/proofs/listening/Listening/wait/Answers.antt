@@ -3,6 +3,8 @@ use Rattle.mio_edge.specs.Tables.{TableTells}
 use Rattle.mio_edge.specs.Closing.{Winds}
 use Rattle.mio_edge.specs.Order.{MovesOn}
 use Rattle.mio_edge.specs.Lines.{moves_on_further, moves_on_recalled}
+use Rattle.std.proofs.Common.{refl}
+use Rattle.mio_edge.specs.Fixed.{fixed_kept}
 use Rattle.mio_edge.proofs.listening.Listening.wait.Goals as goal
 
 pub returns-clause-keeps : goal.returns-clause-keeps
@@ -19,3 +21,10 @@ returns-clause-turn g c = λ world told.
     let reported : MovesOn [] a b = subst (λ table. MovesOn [] a table) (sym c.wake.ensures.table) c.wait-waited.ensures.2 in
     let heard = subst (λ table. TableTells g.S.Stream.tells table world) (sym c.wake.ensures.table) (c.wait-waited.ensures.0 world told) in
     ([], moves_on_further [] [] a b d reported (moves_on_recalled b d (c.recall.ensures.order world heard) c.recall.ensures.entries))
+
+pub returns-clause-same : goal.returns-clause-same
+returns-clause-same g c =
+    let a = c.args.self.now in
+    let d = c.wake.new.self in
+    fixed_kept d (record d { table = c.recall.new.self }) refl refl c.recall.ensures.same
+    ∙ (c.wake.ensures.same ∙ fixed_kept a (record a { table = c.wait-waited.new.reports }) refl refl c.wait-waited.ensures.3)

@@ -2,6 +2,7 @@ use Rattle.std.proofs.Common.{Some, refl}
 use Rattle.mio_edge.proofs.Worlds.{admitted_opens, admitted_keeps}
 use Rattle.mio_edge.proofs.Winding.{sockets_moved}
 use Rattle.mio_edge.proofs.Turning.{admitted_turned}
+use Rattle.mio_edge.specs.Fixed.{fixed_there}
 use Rattle.mio_edge.proofs.sockets.Sockets.accept_next.Goals as goal
 
 pub returns-in-Some-clause-opens : goal.returns-in-Some-clause-opens
@@ -15,3 +16,8 @@ returns-in-Some-clause-winds g c = sockets_moved g.W.Stream.Stream.tells c.args.
 
 pub returns-in-Some-clause-turn : goal.returns-in-Some-clause-turn
 returns-in-Some-clause-turn g c = admitted_turned g.W.Network.is_telling g.W.Stream.Stream.tells c.args.self.now (record c.args.self.now { network = c.accept.new.network; listening = Some c.accept.new.self }) c.in-Some.listening c.accept.new.self c.accept.result c.in-Some.is refl c.accept.ensures.turns
+
+pub returns-in-Some-clause-same : goal.returns-in-Some-clause-same
+returns-in-Some-clause-same g c =
+    let l = c.accept.new.self in
+    fixed_there c.args.self.now (record c.args.self.now { network = c.accept.new.network; listening = Some l }) c.in-Some.listening l c.in-Some.is refl c.accept.ensures.same

@@ -1,5 +1,4 @@
 use Rattle.mio_edge.proofs.Numbers.{ended_same}
-use Rattle.std.proofs.Common.{refl}
 use Rattle.mio_edge.proofs.Turning.{event_turn_on}
 use Rattle.mio_edge.proofs.sockets.Sockets.finish.Goals as goal
 

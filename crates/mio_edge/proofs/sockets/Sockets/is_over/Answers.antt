@@ -3,6 +3,7 @@ use Rattle.mio_edge.specs.Closing.{Winds, winds_nowhere}
 use Rattle.mio_edge.specs.Lines.{moves_nowhere}
 use Rattle.mio_edge.proofs.Turning.{sockets_turned}
 use Rattle.mio_edge.proofs.Winding.{sockets_moved}
+use Rattle.mio_edge.specs.Fixed.{fixed_there}
 use Rattle.mio_edge.proofs.sockets.Sockets.is_over.Goals as goal
 
 pub returns-in-Some-clause-winds : goal.returns-in-Some-clause-winds
@@ -20,3 +21,8 @@ returns-in-Some-clause-turn g c =
     let same = c.stop_accepting.ensures.table in
     sockets_turned g.W.Network.is_telling g.W.Stream.Stream.tells None c.args.self.now (record c.args.self.now { network = c.stop_accepting.new.network; listening = Some after }) l after c.in-Some.is refl
     (λ world told. ([], moves_nowhere l.table after.table (ap (λ table. table.ready) same) (ap (λ table. table.behind) same) (ap (λ table. table.entries) same)))
+
+pub returns-in-Some-clause-same : goal.returns-in-Some-clause-same
+returns-in-Some-clause-same g c =
+    let l = c.stop_accepting.new.self in
+    fixed_there c.args.self.now (record c.args.self.now { network = c.stop_accepting.new.network; listening = Some l }) c.in-Some.listening l c.in-Some.is refl c.stop_accepting.ensures.same

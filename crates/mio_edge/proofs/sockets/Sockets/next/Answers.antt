@@ -1,6 +1,7 @@
 use Rattle.std.proofs.Common.{None, Some, refl, ap, ◌∙◌, subst, arith}
 use Rattle.mio_edge.specs.Numbers.{NumbersIfAny}
 use Rattle.mio_edge.specs.Worlds.{SocketsTell, EventMovesIfAny}
+use Rattle.mio_edge.specs.Fixed.{fixed_same, fixed_on}
 use Rattle.mio_edge.specs.Turning.{EventTurn}
 use Rattle.mio_edge.proofs.Turning.{sockets_turn_same, sockets_turn_on, event_turn_on}
 use Rattle.mio_edge.proofs.Numbers.{passes_same, passes_on}
@@ -17,6 +18,7 @@ loop-init g c =
       accept = refl;
       later = omega arith;
       turn = sockets_turn_same g.W.Network.is_telling g.W.Stream.Stream.tells a a refl;
+      same = fixed_same a a refl;
       winds = sockets_same g.W.Stream.Stream.tells a a refl;
       keeps = λ world told. told;
     }
@@ -31,6 +33,7 @@ loop-preserved g c =
       accept = c.advance.ensures.accept ∙ so_far.accept;
       later = omega (arith, c.advance.ensures.later, so_far.later);
       turn = sockets_turn_on g.W.Network.is_telling g.W.Stream.Stream.tells None a b d so_far.keeps so_far.turn (subst (λ o. EventTurn g.W.Network.is_telling g.W.Stream.Stream.tells o b d) c.in_default.is c.advance.ensures.turn);
+      same = fixed_on a b d so_far.same c.advance.ensures.same;
       winds = sockets_on g.W.Stream.Stream.tells a b d so_far.winds c.advance.ensures.winds;
       keeps = λ world told.
           let moved = c.advance.ensures.moves world (so_far.keeps world told) in

@@ -2,6 +2,7 @@ use Rattle.std.proofs.Common.{Some, refl}
 use Rattle.mio_edge.proofs.Worlds.{listening_names}
 use Rattle.mio_edge.proofs.Winding.{sockets_moved}
 use Rattle.mio_edge.proofs.Turning.{sockets_turned}
+use Rattle.mio_edge.specs.Fixed.{fixed_there, fixed_kept}
 use Rattle.mio_edge.proofs.sockets.Sockets.next_named.Goals as goal
 
 pub returns-in-Some-clause-names : goal.returns-in-Some-clause-names
@@ -12,3 +13,8 @@ returns-in-Some-clause-winds g c = sockets_moved g.W.Stream.Stream.tells c.args.
 
 pub returns-in-Some-clause-turn : goal.returns-in-Some-clause-turn
 returns-in-Some-clause-turn g c = sockets_turned g.W.Network.is_telling g.W.Stream.Stream.tells c.next_ready.result c.args.self.now (record c.args.self.now { listening = Some (record c.in-Some.listening { table = c.next_ready.new.self }) }) c.in-Some.listening (record c.in-Some.listening { table = c.next_ready.new.self }) c.in-Some.is refl c.next_ready.ensures.turn
+
+pub returns-in-Some-clause-same : goal.returns-in-Some-clause-same
+returns-in-Some-clause-same g c =
+    let l = record c.in-Some.listening { table = c.next_ready.new.self } in
+    fixed_there c.args.self.now (record c.args.self.now { listening = Some l }) c.in-Some.listening l c.in-Some.is refl (fixed_kept c.in-Some.listening l refl refl c.next_ready.ensures.same)

@@ -8,7 +8,7 @@ returns-clause-begins g c = λ done world told. (
   record {
     is_telling = told.is_telling;
     at_once = told.at_once;
-    sessions = (c.new.ensures.connecting ∙ told.at_once, subst (λ table. TableTells g.W.Stream.Stream.tells table empty_world) (sym c.new.ensures.table) c.in_ok-table.ensures);
+    sessions = (c.new.ensures.connecting ∙ told.at_once, subst (λ table. TableTells g.W.Stream.Stream.tells table empty_world) (sym c.new.ensures.table) c.in_ok-table.ensures.empty);
     below = λ k some. absurd (true≢false (sym some));
   },
   refl,

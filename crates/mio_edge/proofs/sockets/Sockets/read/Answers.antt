@@ -1,6 +1,7 @@
 use Rattle.std.proofs.Common.{Some, refl}
 use Rattle.mio_edge.proofs.Winding.{sockets_told}
 use Rattle.mio_edge.proofs.Turning.{sockets_joined}
+use Rattle.mio_edge.specs.Fixed.{fixed_there, fixed_kept}
 use Rattle.mio_edge.proofs.sockets.Sockets.read.Goals as goal
 
 pub returns-in-Some-clause-winds : goal.returns-in-Some-clause-winds
@@ -10,3 +11,8 @@ returns-in-Some-clause-winds g c =
 
 pub returns-in-Some-clause-joins : goal.returns-in-Some-clause-joins
 returns-in-Some-clause-joins g c = sockets_joined c.args.self.now (record c.args.self.now { listening = Some (record c.in-Some.listening { table = c.read.new.self }) }) c.in-Some.listening (record c.in-Some.listening { table = c.read.new.self }) c.in-Some.is refl c.read.ensures.joins
+
+pub returns-in-Some-clause-same : goal.returns-in-Some-clause-same
+returns-in-Some-clause-same g c =
+    let l = record c.in-Some.listening { table = c.read.new.self } in
+    fixed_there c.args.self.now (record c.args.self.now { listening = Some l }) c.in-Some.listening l c.in-Some.is refl (fixed_kept c.in-Some.listening l refl refl c.read.ensures.same)

@@ -3,6 +3,7 @@ use Rattle.mio_edge.proofs.Worlds.{listening_moved}
 use Rattle.mio_edge.proofs.Winding.{sockets_moved}
 use Rattle.std.proofs.Common.{[], None}
 use Rattle.mio_edge.proofs.Turning.{sockets_turned}
+use Rattle.mio_edge.specs.Fixed.{fixed_there, fixed_kept}
 use Rattle.mio_edge.proofs.sockets.Sockets.send_where_many.Goals as goal
 
 pub returns-in-Some-clause-keeps : goal.returns-in-Some-clause-keeps
@@ -13,3 +14,8 @@ returns-in-Some-clause-winds g c = sockets_moved g.W.Stream.Stream.tells c.args.
 
 pub returns-in-Some-clause-turn : goal.returns-in-Some-clause-turn
 returns-in-Some-clause-turn g c = sockets_turned g.W.Network.is_telling g.W.Stream.Stream.tells None c.args.self.now (record c.args.self.now { listening = Some (record c.in-Some.listening { table = c.send_where_many.new.self }) }) c.in-Some.listening (record c.in-Some.listening { table = c.send_where_many.new.self }) c.in-Some.is refl (λ world told. ([], c.send_where_many.ensures.turn))
+
+pub returns-in-Some-clause-same : goal.returns-in-Some-clause-same
+returns-in-Some-clause-same g c =
+    let l = record c.in-Some.listening { table = c.send_where_many.new.self } in
+    fixed_there c.args.self.now (record c.args.self.now { listening = Some l }) c.in-Some.listening l c.in-Some.is refl (fixed_kept c.in-Some.listening l refl refl c.send_where_many.ensures.same)

@@ -14,5 +14,6 @@ returns-in-Some g c =
       idle = still_idle t sessions c.args.place c.in-Some.session.now c.defer.new.self (sym c.in-Some.ensures.value) c.defer.ensures.still;
       keeps = still_kept t c.args.self.now c.args.place c.in-Some.session.now c.defer.new.self (sym c.in-Some.ensures.value) c.defer.ensures.still c.defer.ensures.keeps;
       turns = record { ready = refl; behind = refl; entries = refl };
+      same = refl;
       others = others_put sessions c.args.place c.in-Some.session.now c.defer.new.self (sym c.in-Some.ensures.value);
     }

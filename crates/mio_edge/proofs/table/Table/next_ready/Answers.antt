@@ -3,6 +3,7 @@ use Rattle.mio_edge.specs.Tables.{TableTells, NamesIfAny}
 use Rattle.mio_edge.specs.Turns.{TakesFirst}
 use Rattle.mio_edge.specs.Closing.{winds_nowhere, winds_on}
 use Rattle.mio_edge.specs.Order.{InTurn}
+use Rattle.mio_edge.specs.Steps.{no_step, turns_on}
 use Rattle.mio_edge.specs.Lines.{moves_still}
 use Rattle.mio_edge.proofs.Order.{turn_on}
 use Rattle.mio_edge.proofs.table.Table.next_ready.Goals as goal
@@ -12,6 +13,8 @@ returns-clause-names g c = λ world told. (world, c.loop.invariant.keeps world t
 
 pub loop-preserved : goal.loop-preserved
 loop-preserved g c = record {
+  steps = turns_on c.args.self.now c.loop.self c.turn_first.new.self c.loop.invariant.steps c.turn_first.ensures.steps;
+  same = c.turn_first.ensures.same ∙ c.loop.invariant.same;
   keeps = λ world told.
       let moved = c.turn_first.ensures.names world (c.loop.invariant.keeps world told) in
       subst (λ w. TableTells g.S.Stream.tells c.turn_first.new.self w) (subst (λ o. NamesIfAny o world moved.0) c.in_default.is moved.2) moved.1;
@@ -41,8 +44,16 @@ returns-in-Some-clause-turn g c = λ world told.
 
 pub loop-init : goal.loop-init
 loop-init g c = record {
+  steps = no_step c.args.self.now c.args.self.now refl refl;
+  same = refl;
   keeps = λ world told. told;
   front = ([], refl);
   turn = λ world told. ([], moves_still c.args.self.now);
   winds = winds_nowhere g.S.Stream.tells c.args.self.now.sessions;
 }
+
+pub returns-clause-steps : goal.returns-clause-steps
+returns-clause-steps g c = c.loop.invariant.steps
+
+pub returns-in-Some-clause-steps : goal.returns-in-Some-clause-steps
+returns-in-Some-clause-steps g c = turns_on c.args.self.now c.loop.self c.turn_first.new.self c.loop.invariant.steps c.turn_first.ensures.steps

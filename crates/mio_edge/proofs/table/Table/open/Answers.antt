@@ -2,8 +2,8 @@ use Rattle.std.proofs.Common.{arith, length}
 use Rattle.mio_edge.proofs.Standing.{empty_tells, empty_queues}
 use Rattle.mio_edge.proofs.table.Table.open.Goals as goal
 
-pub returns : goal.returns
-returns g c =
+pub returns-clause-empty : goal.returns-clause-empty
+returns-clause-empty g c =
     let slab = c.in_ok-sessions.sessions in (
       empty_tells g.S.Stream.tells slab c.in_ok-entries.entries.items c.in_ok-closed.closed.items c.in_ok-spare.spare.items c.in_ok-sessions.ensures.empty c.in_ok-entries.ensures.items c.in_ok-closed.ensures.items c.in_ok-spare.ensures.spare,
       empty_queues g.S.Stream.tells slab c.in_ok-ready.ready c.in_ok-behind.behind c.in_ok-written.written (length c.in_ok-spare.spare.items) c.in_ok-sessions.ensures.empty c.in_ok-ready.ensures.empty c.in_ok-behind.ensures.empty c.in_ok-written.ensures.empty

@@ -5,6 +5,7 @@ use Rattle.mio_edge.proofs.table.Table.recall.Goals as goal
 
 pub loop-preserved : goal.loop-preserved
 loop-preserved g c = record {
+  same = c.loop.invariant.same;
   keeps = λ world told.
       let t = g.S.Stream.tells in
       let s = c.loop.self in

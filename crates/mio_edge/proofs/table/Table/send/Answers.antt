@@ -6,6 +6,7 @@ use Rattle.mio_edge.proofs.table.Table.send.Goals as goal
 
 pub loop-preserved : goal.loop-preserved
 loop-preserved g c = record {
+  same = c.send_first.ensures.same ∙ c.loop.invariant.same;
   keeps = λ world told. c.send_first.ensures.keeps world (c.loop.invariant.keeps world told);
   turn = moves_on_further [] [] c.args.self.now c.loop.self c.send_first.new.self c.loop.invariant.turn c.send_first.ensures.turn;
   winds = winds_on g.S.Stream.tells c.args.self.now.sessions c.loop.self.sessions c.send_first.new.self.sessions c.loop.invariant.winds c.send_first.ensures.winds;
@@ -14,6 +15,7 @@ loop-preserved g c = record {
 
 pub loop-init : goal.loop-init
 loop-init g c = record {
+  same = refl;
   keeps = λ world told. told;
   turn = moves_still c.args.self.now;
   winds = winds_nowhere g.S.Stream.tells c.args.self.now.sessions;

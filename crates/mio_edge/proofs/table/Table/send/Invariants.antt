@@ -5,9 +5,10 @@ use Rattle.mio_edge.specs.Closing.{Winds}
 use Rattle.mio_edge.specs.Order.{MovesOn}
 use Rattle.mio_edge.proofs.table.Table.send.Given as goal
 
--- what was told is told still, the closed ones have gone on, and so many were sent
+-- the settings are the same, what was told is told still, the closed ones have gone on, and so many were sent
 abbrev pub invariant-loop : goal.invariant-loop
 invariant-loop g l = record {
+  same : l.self.settings ≡ l.fn.self.settings;
   keeps : Stays (TableTells g.S.Stream.tells l.fn.self) (TableTells g.S.Stream.tells l.self);
   turn : MovesOn [] l.fn.self l.self;
   winds : Winds g.S.Stream.tells l.fn.self.sessions l.self.sessions;

@@ -9,7 +9,8 @@ use Rattle.mio_edge.proofs.Standing.{not_free, put_twice, put_over, written_down
 use Rattle.mio_edge.proofs.Tables.{moved_at, still_closed, named_at, session_named}
 use Rattle.mio_edge.proofs.Turns.{queues_popped}
 use Rattle.mio_edge.specs.Closing.{winds_on}
-use Rattle.mio_edge.proofs.Closing.{winds_same, winds_open}
+use Rattle.mio_edge.proofs.Closing.{winds_same, winds_open, flushed_none, not_shut}
+use Rattle.mio_edge.specs.Steps.{one_step, no_step}
 use Rattle.mio_edge.specs.Lines.{grows_same, line_first, none_closed}
 use Rattle.mio_edge.specs.declared.queue.Queue.{Queue}
 use Rattle.mio_edge.proofs.Order.{one_closed}
@@ -198,3 +199,26 @@ returns-clause-turn g c = λ world told.
         number = (c.stand_in.new.self, put_over g.S.Stream.tells s.sessions place c.in-Some-get_mut.session.now c.stand_in.new.self (sym c.in-Some-get_mut.ensures.value), ap (λ x. x.number) c.stand_in.ensures.rest ∙ ap (λ x. x.number) c.write_down.ensures.rest);
       },
     )
+
+pub returns-in_default-clause-steps : goal.returns-in_default-clause-steps
+returns-in_default-clause-steps g c = no_step c.args.self.now _ (sym c.in_default.ensures.first) refl
+
+pub returns-in_default-get_mut-clause-steps : goal.returns-in_default-get_mut-clause-steps
+returns-in_default-get_mut-clause-steps g c = one_step c.in-Some.place c.args.self.now _ c.in-Some.ensures.first (λ shut. flushed_none c.args.self.now.sessions c.in-Some.place (sym c.in_default-get_mut.ensures.value))
+
+pub returns-then-not-session-clause-steps : goal.returns-then-not-session-clause-steps
+returns-then-not-session-clause-steps g c =
+    let place = c.in-Some.place in
+    one_step place c.args.self.now c.wind_up.new.self (c.in-Some.ensures.first ∙ ap (λ (q : Queue). place ∷ q.places.items) (sym c.wind_up.ensures.ready)) (λ shut. c.wind_up.ensures.sent)
+
+pub returns-then-not-has_unsent-clause-steps : goal.returns-then-not-has_unsent-clause-steps
+returns-then-not-has_unsent-clause-steps g c =
+    one_step c.in-Some.place c.args.self.now _ c.in-Some.ensures.first (λ shut. absurd (not_shut c.args.self.now.sessions c.in-Some.place c.in-Some-get_mut.session.now (sym c.in-Some-get_mut.ensures.value) c.if-not-session.false shut))
+
+pub returns-then-write_down-clause-steps : goal.returns-then-write_down-clause-steps
+returns-then-write_down-clause-steps g c =
+    one_step c.in-Some.place c.args.self.now _ c.in-Some.ensures.first (λ shut. absurd (not_shut c.args.self.now.sessions c.in-Some.place c.in-Some-get_mut.session.now (sym c.in-Some-get_mut.ensures.value) c.if-not-session.false shut))
+
+pub returns-clause-steps : goal.returns-clause-steps
+returns-clause-steps g c =
+    one_step c.in-Some.place c.args.self.now _ c.in-Some.ensures.first (λ shut. absurd (not_shut c.args.self.now.sessions c.in-Some.place c.in-Some-get_mut.session.now (sym c.in-Some-get_mut.ensures.value) c.if-not-session.false shut))

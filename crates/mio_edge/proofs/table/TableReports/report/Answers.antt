@@ -17,8 +17,8 @@ pub returns-then-report : goal.returns-then-report
 returns-then-report g c =
     let t = g.S.Stream.tells in
     let s = c.args.self.now in
-    let place = c.args.token / s.width in
-    let port = c.args.token % s.width in
+    let place = c.args.token / s.settings.width in
+    let port = c.args.token % s.settings.width in
     let a = c.in-Some.session.now in
     let b = c.report.new.self in
     let d = c.stand_in.new.self in
@@ -35,6 +35,7 @@ returns-then-report g c =
         )),
         winds_stays t s.sessions place a d was (ap (λ x. x.number) c.stand_in.ensures.rest ∙ still.number) (ap (λ x. x.is_open) c.stand_in.ensures.rest ∙ still.is_open) (λ links tells. subst (λ v. PortsTell t v.items links) (sym ports) (c.report.ensures.keeps links tells)),
         record { line = line_grown s.ready s.behind c.stand_in.new.queue s.behind c.stand_in.ensures.grows (grows_same s.behind s.behind refl); closed = none_closed s.entries.items; entries = refl },
+        refl,
       );
       notes = λ some. record {
         notes = notes_at t s.sessions c.args.news place port a d was (λ x at. subst (λ v. slice_get v.items port ≡ Some (noted c.args.news x)) (sym ports) (c.report.ensures.notes x at));
@@ -46,8 +47,8 @@ pub returns-else-report : goal.returns-else-report
 returns-else-report g c =
     let t = g.S.Stream.tells in
     let s = c.args.self.now in
-    let place = c.args.token / s.width in
-    let port = c.args.token % s.width in
+    let place = c.args.token / s.settings.width in
+    let port = c.args.token % s.settings.width in
     let a = c.in-Some.session.now in
     let b = c.report.new.self in
     let was = sym c.in-Some.ensures.value in record {
@@ -55,6 +56,7 @@ returns-else-report g c =
         still_kept t s place a b was c.report.ensures.still (c.report.ensures.calm c.if-report.false),
         winds_stays t s.sessions place a b was c.report.ensures.still.number c.report.ensures.still.is_open c.report.ensures.keeps,
         record { line = line_grown s.ready s.behind s.ready s.behind (grows_same s.ready s.ready refl) (grows_same s.behind s.behind refl); closed = none_closed s.entries.items; entries = refl },
+        refl,
       );
       notes = λ some. record {
         notes = notes_at t s.sessions c.args.news place port a b was c.report.ensures.notes;
@@ -68,6 +70,7 @@ returns-then-self-eq0-clause-goes g c =
       (λ world told. told),
       winds_nowhere g.S.Stream.tells s.sessions,
       record { line = line_grown s.ready s.behind s.ready s.behind (grows_same s.ready s.ready refl) (grows_same s.behind s.behind refl); closed = none_closed s.entries.items; entries = refl },
+      refl,
     )
 
 pub returns-in_default-clause-goes : goal.returns-in_default-clause-goes
@@ -76,4 +79,5 @@ returns-in_default-clause-goes g c =
       (λ world told. told),
       winds_nowhere g.S.Stream.tells s.sessions,
       record { line = line_grown s.ready s.behind s.ready s.behind (grows_same s.ready s.ready refl) (grows_same s.behind s.behind refl); closed = none_closed s.entries.items; entries = refl },
+      refl,
     )
