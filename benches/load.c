@@ -1,13 +1,16 @@
 /* Calls over connections, as fast as they are answered.
  *
- *     load PROTOCOL PORT[,PORT..] CONNECTIONS OPEN CALLS [IDLE]
+ *     load PROTOCOL PORT[,PORT..] CONNECTIONS OPEN CALLS [IDLE [RATE]]
  *
- * PROTOCOL is `binary` or `compact`, framed; `multiplexed`: framed Binary whose methods' names have the service `S` before them; or Binary without
+ * PROTOCOL is `binary`, `compact` or `json`, framed; `multiplexed`: framed Binary whose methods' names have the service `S` before them; or Binary without
  * lengths: `unframed`, one message behind another, or `http`, each the body of a POST with the fields that Apache Thrift's Python library sends.
  * Each of the CONNECTIONS keeps OPEN calls of about 60 bytes open until CALLS were answered
  * in all; IDLE more connections are opened before and send nothing. Of several ports each gets a connection in turn. The clock
  * starts once each of the CONNECTIONS had one answer, so that opening them isn't measured. Prints the calls a second, the bytes
- * of answers a second, and the median, the 99th percentile and the greatest time from a call to its answer in microseconds. */
+ * of answers a second, and the median, the 99th percentile and the greatest time from a call to its answer in microseconds.
+ *
+ * With a RATE above 0 that many calls a second are begun, whether or not others were answered: each connection in turn begins OPEN calls at once,
+ * at times that are fixed before. A call's time counts from then, also where it is sent later. Meanwhile nothing sleeps. */
 #include <arpa/inet.h>
 #include <errno.h>
 #include <netinet/tcp.h>
@@ -33,7 +36,7 @@ struct connection {
     size_t first, open;
 };
 
-static int compact, unframed, http, multiplexed, ports[MOST_PORTS], port_count;
+static int compact, json, unframed, http, multiplexed, ports[MOST_PORTS], port_count;
 static long left_to_begin, answered, total;
 static uint64_t answer_bytes;
 static uint32_t *times;
@@ -82,6 +85,14 @@ static size_t compact_call(unsigned char *to, uint32_t seq)
     return n;
 }
 
+static size_t json_call(unsigned char *to, uint32_t seq)
+{
+    int length = sprintf((char *)to + 4, "[1,\"add\",1,%u,{\"1\":{\"i32\":256},\"2\":{\"i64\":4294967296},\"3\":{\"lst\":[\"i32\",4,1,2,3,4]}}]", seq);
+    to[0] = to[1] = to[2] = 0;
+    to[3] = (unsigned char)length;
+    return 4 + (size_t)length;
+}
+
 /* A POST with this body. */
 static size_t post(unsigned char *to, const unsigned char *body, size_t size)
 {
@@ -94,7 +105,7 @@ static size_t post(unsigned char *to, const unsigned char *body, size_t size)
 static size_t put_call(unsigned char *to, uint32_t seq)
 {
     unsigned char frame[MOST_CALL];
-    size_t length = compact ? compact_call(frame, seq) : binary_call(frame, seq);
+    size_t length = json ? json_call(frame, seq) : compact ? compact_call(frame, seq) : binary_call(frame, seq);
     if (http)
         return post(to, frame + 4, length - 4);
     if (unframed)
@@ -145,15 +156,24 @@ static size_t answer_length(const unsigned char *at, size_t held)
     return length <= held ? length : 0;
 }
 
-static void begin_calls(struct connection *c, size_t open)
+static void begin_call(struct connection *c, uint64_t time)
 {
     static uint32_t seq;
-    while (c->open < open && left_to_begin > 0 && c->due + MOST_CALL < ROOM) {
-        c->begun[(c->first + c->open) % MOST_OPEN] = now();
-        c->due += put_call(c->out + c->due, ++seq);
-        c->open++;
-        left_to_begin--;
-    }
+    c->begun[(c->first + c->open) % MOST_OPEN] = time;
+    c->due += put_call(c->out + c->due, ++seq);
+    c->open++;
+    left_to_begin--;
+}
+
+static int may_begin(const struct connection *c, size_t open)
+{
+    return c->open < open && left_to_begin > 0 && c->due + MOST_CALL < ROOM;
+}
+
+static void begin_calls(struct connection *c, size_t open)
+{
+    while (may_begin(c, open))
+        begin_call(c, now());
 }
 
 static void send_due(int poll, struct connection *c)
@@ -234,6 +254,66 @@ static void warm_up(struct connection *c)
     } while (answer_length(c->in, held) == 0);
 }
 
+static void end_unanswered(void)
+{
+    fprintf(stderr, "load: no answer for ten seconds, %ld of %ld answered\n", answered, total);
+    exit(1);
+}
+
+static void take_events(int poll, int timeout, size_t open)
+{
+    struct epoll_event events[256];
+    int n = epoll_wait(poll, events, 256, timeout);
+    if (n <= 0 && timeout != 0)
+        end_unanswered();
+    for (int i = 0; i < n; i++) {
+        struct connection *c = events[i].data.ptr;
+        if (events[i].events & EPOLLIN)
+            take_answers(c);
+        begin_calls(c, open);
+        if (c->due > 0 || events[i].events & EPOLLOUT || open > 0)
+            send_due(poll, c);
+    }
+}
+
+/* As many calls at a time on each connection, and another for each that was answered. */
+static void keep_open(int poll, struct connection **all, int connections, size_t open)
+{
+    for (int i = 0; i < connections; i++) {
+        begin_calls(all[i], open);
+        send_due(poll, all[i]);
+    }
+    while (answered < total)
+        take_events(poll, 10000, open);
+}
+
+/* So many calls a second, in groups of OPEN. */
+static void keep_pace(int poll, struct connection **all, int connections, size_t open, double rate)
+{
+    uint64_t start = now(), group = 0, last = start;
+    long seen = 0;
+    while (answered < total) {
+        uint64_t time = now(), planned;
+        while (left_to_begin > 0 && (planned = start + (uint64_t)((double)(group * open) / rate * 1e9)) <= time) {
+            struct connection *c = all[group++ % (uint64_t)connections];
+            for (size_t i = 0; i < open && left_to_begin > 0; i++) {
+                if (!may_begin(c, MOST_OPEN)) {
+                    fprintf(stderr, "load: more calls wait than a connection may have open\n");
+                    exit(1);
+                }
+                begin_call(c, planned);
+            }
+            send_due(poll, c);
+        }
+        take_events(poll, 0, 0);
+        if (answered > seen)
+            last = time;
+        seen = answered;
+        if (time - last > 10000000000u)
+            end_unanswered();
+    }
+}
+
 static int by_time(const void *a, const void *b)
 {
     uint32_t x = *(const uint32_t *)a, y = *(const uint32_t *)b;
@@ -245,6 +325,7 @@ int main(int count, char **words)
     if (count < 6)
         return 2;
     compact = !strcmp(words[1], "compact");
+    json = !strcmp(words[1], "json");
     unframed = !strcmp(words[1], "unframed");
     http = !strcmp(words[1], "http");
     multiplexed = !strcmp(words[1], "multiplexed");
@@ -252,6 +333,7 @@ int main(int count, char **words)
     int connections = atoi(words[3]);
     size_t open = (size_t)atol(words[4]);
     total = left_to_begin = atol(words[5]);
+    double rate = count > 7 ? atof(words[7]) : 0;
     if (port_count == 0 || open > MOST_OPEN || connections > 4096 || total < 1)
         return 2;
     times = malloc((size_t)total * sizeof *times);
@@ -269,25 +351,10 @@ int main(int count, char **words)
     for (int i = 0; i < connections; i++)
         warm_up(all[i]);
     uint64_t start = now();
-    for (int i = 0; i < connections; i++) {
-        begin_calls(all[i], open);
-        send_due(poll, all[i]);
-    }
-    while (answered < total) {
-        struct epoll_event events[256];
-        int n = epoll_wait(poll, events, 256, 10000);
-        if (n <= 0) {
-            fprintf(stderr, "load: no answer for ten seconds, %ld of %ld answered\n", answered, total);
-            return 1;
-        }
-        for (int i = 0; i < n; i++) {
-            struct connection *c = events[i].data.ptr;
-            if (events[i].events & EPOLLIN)
-                take_answers(c);
-            begin_calls(c, open);
-            send_due(poll, c);
-        }
-    }
+    if (rate > 0)
+        keep_pace(poll, all, connections, open, rate);
+    else
+        keep_open(poll, all, connections, open);
     double seconds = (double)(now() - start) / 1e9;
     qsort(times, (size_t)total, sizeof *times, by_time);
     printf("%.0f calls/s, %.1f MB/s of answers, median %.1f us, p99 %.1f us, max %.1f us\n", (double)total / seconds,

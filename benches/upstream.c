@@ -1,6 +1,6 @@
-/* An upstream for measurements: it answers each framed Compact call with a reply of the same name and sequence number.
+/* An upstream for measurements: it answers each framed call, of Compact or of Binary, with a reply of the same name and sequence number.
  *
- *     upstream PORT [BYTES]
+ *     upstream PORT [BYTES [binary]]
  *
  * The reply's field 0 is a string of BYTES bytes, or there is no field where BYTES is 0. One thread serves all
  * connections. It ends when it is killed. */
@@ -24,6 +24,7 @@ struct peer {
     unsigned char in[ROOM], *out;
 };
 
+static int binary;
 static size_t reply_bytes;
 static unsigned char *tail;
 static size_t tail_length;
@@ -41,7 +42,13 @@ static size_t put_varint(unsigned char *to, uint32_t value)
 static void make_tail(void)
 {
     tail = malloc(reply_bytes + 16);
-    if (reply_bytes > 0) {
+    if (reply_bytes > 0 && binary) {
+        unsigned char head[] = {11, 0, 0, (unsigned char)(reply_bytes >> 24), (unsigned char)(reply_bytes >> 16), (unsigned char)(reply_bytes >> 8),
+            (unsigned char)reply_bytes};
+        memcpy(tail, head, sizeof head);
+        tail_length = sizeof head + reply_bytes;
+        memset(tail + sizeof head, 'x', reply_bytes);
+    } else if (reply_bytes > 0) {
         tail[tail_length++] = 0x08; /* a string, long form */
         tail[tail_length++] = 0;    /* of id 0 */
         tail_length += put_varint(tail + tail_length, (uint32_t)reply_bytes);
@@ -51,11 +58,18 @@ static void make_tail(void)
     tail[tail_length++] = 0;
 }
 
-/* The length of the header behind its first two bytes: sequence number and name. */
+static size_t number(const unsigned char *at)
+{
+    return (size_t)at[0] << 24 | at[1] << 16 | at[2] << 8 | at[3];
+}
+
+/* The length of the header behind its kind: of sequence number and name. */
 static size_t header_length(const unsigned char *at)
 {
     size_t n = 0, length = 0;
     int shift = 0;
+    if (binary)
+        return 8 + number(at);
     while (at[n++] & 128)
         ;
     do {
@@ -67,7 +81,7 @@ static size_t header_length(const unsigned char *at)
 
 static void answer(struct peer *p, const unsigned char *message)
 {
-    size_t head = header_length(message + 2), length = 2 + head + tail_length;
+    size_t kind = binary ? 4 : 2, head = header_length(message + kind), length = kind + head + tail_length;
     if (p->due + 4 + length > p->out_room) {
         p->out_room = 2 * (p->due + 4 + length);
         p->out = realloc(p->out, p->out_room);
@@ -77,10 +91,10 @@ static void answer(struct peer *p, const unsigned char *message)
     to[1] = (unsigned char)(length >> 16);
     to[2] = (unsigned char)(length >> 8);
     to[3] = (unsigned char)length;
-    to[4] = 0x82;
-    to[5] = (2 << 5) | 1;
-    memcpy(to + 6, message + 2, head);
-    memcpy(to + 6 + head, tail, tail_length);
+    static const unsigned char binary_reply[] = {0x80, 1, 0, 2}, compact_reply[] = {0x82, (2 << 5) | 1};
+    memcpy(to + 4, binary ? binary_reply : compact_reply, kind);
+    memcpy(to + 4 + kind, message + kind, head);
+    memcpy(to + 4 + kind + head, tail, tail_length);
     p->due += 4 + length;
 }
 
@@ -109,10 +123,10 @@ static int serve(int poll, struct peer *p)
     size_t at = 0;
     while (p->held - at >= 4) {
         const unsigned char *f = p->in + at;
-        size_t length = (size_t)f[0] << 24 | f[1] << 16 | f[2] << 8 | f[3];
+        size_t length = number(f);
         if (p->held - at - 4 < length)
             break;
-        if ((f[5] >> 5) == 1)
+        if (binary ? f[7] == 1 : f[5] >> 5 == 1)
             answer(p, f + 4);
         at += 4 + length;
     }
@@ -127,6 +141,7 @@ int main(int count, char **words)
     if (count < 2)
         return 2;
     reply_bytes = count > 2 ? (size_t)atol(words[2]) : 0;
+    binary = count > 3 && !strcmp(words[3], "binary");
     make_tail();
     int listener = socket(AF_INET, SOCK_STREAM, 0), on = 1, poll = epoll_create1(0);
     setsockopt(listener, SOL_SOCKET, SO_REUSEADDR, &on, sizeof on);

@@ -1,5 +1,8 @@
 //! The command `serve --threads N` over hubs in memory, each in a thread of its own: what each worker writes, which of them has the
 //! others end, and how the crew ends.
+ghost use Rattle.gate_memory.specs.Hub.{TellsHub, hub_counts};
+ghost use Rattle.gate_memory.specs.Laws.{hub_bytes};
+
 use crate::outside::{none, only, words_of};
 use crate::routing::is_usage;
 use crate::script::{Act, steps_of};
@@ -7,7 +10,7 @@ use crate::serving::{CALLS, REPLIES};
 use crew_exit::Exit;
 use crew_server::{Worker, serve_crew};
 use gate_base::OutOfMemory;
-use gate_hub::Side;
+use gate_hub::{Began, Hub, HubNext, LinkGot, LinkPut, Side};
 use gate_memory::{MemFiles, MemHub, MemSink};
 use gate_words::{Command, read_command};
 use std::alloc::Global;
@@ -28,12 +31,60 @@ impl Exit for Flag {
     }
 }
 
-/// A worker over a hub in memory.
-type Hand = Worker<MemHub, MemSink, Flag>;
+/// A hub in memory, which may want memory at its start.
+#[derive(Drop)]
+struct ShortHub {
+    hub: MemHub,
+    has_memory: bool,
+}
 
-/// What comes to a worker's hub, which write of its output fails, what it writes, and whether it leaves.
+impl Hub for ShortHub {
+    ghost tells = { λ h. TellsHub h.hub };
+
+    ghost counts = { λ h. hub_counts h.hub };
+
+    ghost kept = { λ _. tt };
+
+    fn start(
+        &mut self,
+        alloc: Global,
+        listen: &[u8],
+        upstream: &[u8],
+        accept: u64,
+        sessions: usize,
+    ) -> Began {
+        if !self.has_memory {
+            return Began::OutOfMemory;
+        }
+        self.hub.start(alloc, listen, upstream, accept, sessions)
+    }
+
+    fn next(&mut self) -> HubNext {
+        self.hub.next()
+    }
+
+    fn read(&mut self, k: u64, side: Side, into: &mut [u8]) -> LinkGot {
+        self.hub.read(k, side, into)
+    }
+
+    fn write(&mut self, k: u64, side: Side, from: &[u8]) -> LinkPut {
+        self.hub.write(k, side, from)
+    }
+
+    fn close(&mut self, k: u64) {
+        self.hub.close(k);
+    }
+
+    ghost bytes = { λ h m told. hub_bytes h.hub m told };
+}
+
+/// A worker over a hub in memory.
+type Hand = Worker<ShortHub, MemSink, Flag>;
+
+/// Whether a worker's hub has memory, what comes to it, which write of the worker's output fails, what it writes, and whether it leaves.
 #[derive(Clone, Copy)]
 struct Part {
+    has_memory: bool,
     acts: &'static [Act<'static>],
     failing: Option<u64>,
     lines: &'static [u8],
@@ -51,6 +102,7 @@ struct Row {
 
 /// A session that ends well.
 const WELL: Part = Part {
+    has_memory: true,
     acts: &[
         Act::Connects,
         Act::Sends(Side::Client, &CALLS),
@@ -65,6 +117,7 @@ const WELL: Part = Part {
 
 /// Two sessions, of which nothing comes, and a place for one.
 const CROWDED: Part = Part {
+    has_memory: true,
     acts: &[Act::Connects, Act::Connects],
     failing: None,
     lines: b"session 1: full\nsession 0: left open\n",
@@ -79,6 +132,7 @@ const TWO: Part = Part {
 
 /// Nothing comes.
 const NOTHING: Part = Part {
+    has_memory: true,
     acts: &[],
     failing: None,
     lines: b"",
@@ -87,6 +141,7 @@ const NOTHING: Part = Part {
 
 /// A session that is still open when six events are spent.
 const SPENT: Part = Part {
+    has_memory: true,
     acts: &[
         Act::Connects,
         Act::HasRoom(Side::Client, 9),
@@ -102,15 +157,23 @@ const SPENT: Part = Part {
 
 /// A session whose line can't be written.
 const UNWRITTEN: Part = Part {
+    has_memory: true,
     acts: &[Act::Connects, Act::Ends(Side::Client)],
     failing: Some(0),
     lines: b"",
     leaves: true,
 };
 
+/// A hub whose memory isn't found: it announces no session.
+const SHORT: Part = Part {
+    has_memory: false,
+    leaves: true,
+    ..NOTHING
+};
+
 /// Each worker serves a session; of four sessions the first worker has two; the last worker spends its events; before it the output of
-/// another fails, which has nothing to report.
-const ROWS: [Row; 4] = [
+/// another fails, which has nothing to report; one has no memory, while the others serve; and one behind which the last spends its events.
+const ROWS: [Row; 6] = [
     Row {
         line: b"serve compact json 127.0.0.1:1 127.0.0.1:2 --limit 1024 --sessions 3 --threads 3",
         parts: [WELL, WELL, WELL],
@@ -135,6 +198,18 @@ const ROWS: [Row; 4] = [
         code: 5,
         report: b"",
     },
+    Row {
+        line: b"serve compact json 127.0.0.1:1 127.0.0.1:2 --limit 1024 --sessions 3 --threads 3",
+        parts: [WELL, SHORT, CROWDED],
+        code: 9,
+        report: b"no memory\n",
+    },
+    Row {
+        line: b"serve compact json 127.0.0.1:1 127.0.0.1:2 --limit 1024 --events 6 --threads 3",
+        parts: [SHORT, NOTHING, SPENT],
+        code: 9,
+        report: b"no memory\n",
+    },
 ];
 
 /// Words that name no crew: no thread, one too many, more threads than sessions, two numbers of threads, and a command that doesn't serve.
@@ -157,7 +232,10 @@ fn output(alloc: Global, failing: Option<u64>) -> Result<MemSink, OutOfMemory> {
 
 fn hand(alloc: Global, part: &Part) -> Result<Hand, OutOfMemory> {
     let output = output(alloc, part.failing)?;
-    let hub = MemHub::new(alloc, steps_of(alloc, part.acts)?, 4096)?;
+    let hub = ShortHub {
+        hub: MemHub::new(alloc, steps_of(alloc, part.acts)?, 4096)?,
+        has_memory: part.has_memory,
+    };
     Worker::new(alloc, hub, output, Flag { has_left: false })
 }
 
