@@ -9,7 +9,7 @@ ghost use Rattle.proxy_server.specs.Serving.{SpendsBy, left_lines};
 ghost use Rattle.refusal_teller.specs.Tells.{Writes, WritesBehind};
 ghost use Rattle.session_core.specs.Session.{HoldsWithin};
 ghost use Rattle.proxy_server.specs.Matching.{IsSame};
-ghost use Rattle.proxy_server.specs.Calling.{LinkRose};
+ghost use Rattle.proxy_server.specs.Calling.{piece_length, LinkRose};
 ghost use Rattle.proxy_server.specs.Turning.{EndsAs};
 ghost use Rattle.proxy_server.specs.Steps.{AreGood, IsCarriedOn, WorkEnds, StepEnds, IsRefusedAs, served_by, seen, TurnsTelling, Steps, Attends, Admits, Refuses, Finishes, Settles, Resumes, IsPutLast, LeavesMore, WritesLeft};
 
@@ -17,6 +17,7 @@ use crate::judges::Judges;
 use crate::lines::{LINE_ROOM, put_line};
 use crate::table::{OpenSession, find, open_session};
 use crate::turn_end::Turn;
+use crate::turning::PIECE;
 use gate_hub::{Hub, HubNext, Side};
 use gate_io::{Out, Sink, Wrote, write_all};
 use refusal_teller::{RefusalLines, Teller};
@@ -100,8 +101,10 @@ fn turn_telling<J: Judge, H: Hub, O: Sink, L: RefusalLines>(
     hub: &mut H,
     output: &mut O,
     line: &mut Out,
+    piece: &mut [u8],
 ) -> (Turn, Wrote)
     requires room { L.room lines.now ≤ line.old.room }
+    requires piece { length piece.old ≡ piece_length }
     ensures turned { TurnsTelling J.rules (L.text lines.now) session.old
         (seen H.Hub O.Sink hub.old output.old hub.new output.new) session.new result.0 result.1 }
     ensures number { session.new.number ≡ session.old.number }
@@ -115,9 +118,10 @@ fn turn_telling<J: Judge, H: Hub, O: Sink, L: RefusalLines>(
         LinkRose (H.counts hub.old) (H.counts hub.new) session.old.number side }
     ensures output_later { O.faults output.old ≤ O.faults output.new }
     ensures unwritten { result.1 ≡ Wrote.Failed → Rose (O.faults output.old) (O.faults output.new) }
+    ensures piece { length piece.new ≡ piece_length }
 {
     let mut teller = Teller::over(output, line, lines, session.number());
-    let turn = session.turn(hub, &mut teller);
+    let turn = session.turn(hub, piece, &mut teller);
     (turn, teller.end())
 }
 
@@ -169,8 +173,9 @@ impl<J: Judge> Server<J> {
         ensures unwritten { (at : ℕ) → result ≡ End.Unwritten at → Rose (O.faults output.old) (O.faults output.new) }
     {
         let events = self.limits.events;
+        let mut piece = [0; PIECE];
         'serving: while self.spent < events {
-            match self.step(alloc, judges, lines, hub, output) {
+            match self.step(alloc, judges, lines, &mut piece, hub, output) {
                 Ok(()) => (),
                 Err(ending) => return ending,
             }
@@ -284,6 +289,7 @@ impl<J: Judge> Server<J> {
         &mut self,
         at: usize,
         lines: &L,
+        piece: &mut [u8],
         hub: &mut H,
         output: &mut O,
     ) -> Result<(), End>
@@ -291,6 +297,7 @@ impl<J: Judge> Server<J> {
         requires lines { L.room lines.now ≤ self.old.line.room }
         requires budget { self.old.spent ≤ self.old.limits.events }
         requires within { at < length self.old.sessions.items }
+        requires piece { length piece.old ≡ piece_length }
         ensures carried { IsCarriedOn self.old.limits self.new.limits self.old.line.room self.new.line.room self.old.spent self.new.spent }
         ensures ends { WorkEnds result self.new.spent self.old.limits.events }
         ensures goes { Settles J.rules (L.text lines.now) at self.old (seen H.Hub O.Sink hub.old output.old hub.new output.new) self.new result }
@@ -299,6 +306,7 @@ impl<J: Judge> Server<J> {
         ensures output_later { O.faults output.old ≤ O.faults output.new }
         ensures cause { result ≡ Err End.WriteFault → Rose (O.faults output.old) (O.faults output.new) }
         ensures unwritten { (k : ℕ) → result ≡ Err (End.Unwritten k) → Rose (O.faults output.old) (O.faults output.new) }
+        ensures piece { length piece.new ≡ piece_length }
     {
         let events = self.limits.events;
         'turns: while self.spent < events {
@@ -308,6 +316,7 @@ impl<J: Judge> Server<J> {
                 hub,
                 output,
                 &mut self.line,
+                piece,
             );
             match turn {
                 Turn::Settled => return after_turn(wrote, at),
@@ -326,6 +335,7 @@ impl<J: Judge> Server<J> {
         judges: &P,
         lines: &L,
         number: u64,
+        piece: &mut [u8],
         hub: &mut H,
         output: &mut O,
     ) -> Result<(), End>
@@ -333,6 +343,7 @@ impl<J: Judge> Server<J> {
         requires lines { L.room lines.now ≤ self.old.line.room }
         requires budget { self.old.spent ≤ self.old.limits.events }
         requires good { AreGood self.old.limits (P.longest judges.now) }
+        requires piece { length piece.old ≡ piece_length }
         ensures carried { IsCarriedOn self.old.limits self.new.limits self.old.line.room self.new.line.room self.old.spent self.new.spent }
         ensures ends { WorkEnds result self.new.spent self.old.limits.events }
         ensures goes { Admits J.rules (P.rules judges.now) (L.text lines.now) number self.old
@@ -342,6 +353,7 @@ impl<J: Judge> Server<J> {
         ensures output_later { O.faults output.old ≤ O.faults output.new }
         ensures cause { result ≡ Err End.WriteFault → Rose (O.faults output.old) (O.faults output.new) }
         ensures unwritten { (k : ℕ) → result ≡ Err (End.Unwritten k) → Rose (O.faults output.old) (O.faults output.new) }
+        ensures piece { length piece.new ≡ piece_length }
     {
         if self.sessions.len() >= self.limits.sessions {
             return self.refuse(number, Outcome::Full, hub, output);
@@ -350,7 +362,7 @@ impl<J: Judge> Server<J> {
             return self.refuse(number, Outcome::NoMemory, hub, output);
         };
         match self.hold(number, session) {
-            Some(at) => self.settle(at, lines, hub, output),
+            Some(at) => self.settle(at, lines, piece, hub, output),
             None => self.refuse(number, Outcome::NoMemory, hub, output),
         }
     }
@@ -373,12 +385,14 @@ impl<J: Judge> Server<J> {
         &mut self,
         lines: &L,
         number: u64,
+        piece: &mut [u8],
         hub: &mut H,
         output: &mut O,
     ) -> Result<(), End>
         requires room { LINE_ROOM ≤ self.old.line.room }
         requires lines { L.room lines.now ≤ self.old.line.room }
         requires budget { self.old.spent ≤ self.old.limits.events }
+        requires piece { length piece.old ≡ piece_length }
         ensures carried { IsCarriedOn self.old.limits self.new.limits self.old.line.room self.new.line.room self.old.spent self.new.spent }
         ensures ends { WorkEnds result self.new.spent self.old.limits.events }
         ensures goes { Resumes J.rules (L.text lines.now) number self.old (seen H.Hub O.Sink hub.old output.old hub.new output.new) self.new result }
@@ -387,9 +401,10 @@ impl<J: Judge> Server<J> {
         ensures output_later { O.faults output.old ≤ O.faults output.new }
         ensures cause { result ≡ Err End.WriteFault → Rose (O.faults output.old) (O.faults output.new) }
         ensures unwritten { (k : ℕ) → result ≡ Err (End.Unwritten k) → Rose (O.faults output.old) (O.faults output.new) }
+        ensures piece { length piece.new ≡ piece_length }
     {
         match find(self.sessions.as_slice(), number) {
-            Some(at) => self.settle(at, lines, hub, output),
+            Some(at) => self.settle(at, lines, piece, hub, output),
             None => Ok(()),
         }
     }
@@ -400,6 +415,7 @@ impl<J: Judge> Server<J> {
         alloc: Global,
         judges: &P,
         lines: &L,
+        piece: &mut [u8],
         hub: &mut H,
         output: &mut O,
     ) -> Result<(), End>
@@ -408,6 +424,7 @@ impl<J: Judge> Server<J> {
         requires budget { self.old.spent < self.old.limits.events }
         requires range { self.old.limits.events < 2 ^ 64 }
         requires good { AreGood self.old.limits (P.longest judges.now) }
+        requires piece { length piece.old ≡ piece_length }
         ensures carried { IsCarriedOn self.old.limits self.new.limits self.old.line.room self.new.line.room self.old.spent self.new.spent }
         ensures ends { StepEnds result self.old.spent self.new.spent self.old.limits.events }
         ensures goes { Steps J.rules (P.rules judges.now) (L.text lines.now) self.old
@@ -418,17 +435,18 @@ impl<J: Judge> Server<J> {
         ensures hub_cause { result ≡ Err End.HubFault → Rose (H.counts hub.old).faults (H.counts hub.new).faults }
         ensures cause { result ≡ Err End.WriteFault → Rose (O.faults output.old) (O.faults output.new) }
         ensures unwritten { (k : ℕ) → result ≡ Err (End.Unwritten k) → Rose (O.faults output.old) (O.faults output.new) }
+        ensures piece { length piece.new ≡ piece_length }
     {
         match hub.next() {
             HubNext::Stopped => Err(End::Stopped),
             HubNext::Failed => Err(End::HubFault),
             HubNext::Opened(number) => {
                 self.spent += 1;
-                self.admit(alloc, judges, lines, number, hub, output)
+                self.admit(alloc, judges, lines, number, piece, hub, output)
             }
             HubNext::Ready(number) => {
                 self.spent += 1;
-                self.resume(lines, number, hub, output)
+                self.resume(lines, number, piece, hub, output)
             }
         }
     }

@@ -7,12 +7,12 @@ ghost use Rattle.proxy_server.specs.Matching.{Matches, IsSame};
 ghost use Rattle.proxy_server.specs.Turning.{EndsAs, TurnGoes};
 ghost use Rattle.proxy_server.specs.Serving.{Entry, IsRising};
 ghost use Rattle.proxy_server.specs.Steps.{AreGood};
-ghost use Rattle.proxy_server.specs.Calling.{LinkRose};
+ghost use Rattle.proxy_server.specs.Calling.{piece_length, LinkRose};
 
 use crate::judges::Judges;
 use crate::server::Limits;
 use crate::turn_end::Turn;
-use crate::turning::turn;
+use crate::turning::turn_with;
 use gate_base::OutOfMemory;
 use gate_hub::{Hub, Side};
 use session_core::{Judge, Notes, Outcome, Session};
@@ -47,8 +47,9 @@ impl<J: Judge> OpenSession<J> {
         self.number
     }
 
-    /// One turn of the session.
-    pub fn turn<H: Hub, N: Notes>(&mut self, hub: &mut H, notes: &mut N) -> Turn
+    /// One turn of the session, with a piece for what is read.
+    pub fn turn<H: Hub, N: Notes>(&mut self, hub: &mut H, piece: &mut [u8], notes: &mut N) -> Turn
+        requires { length piece.old ≡ piece_length }
         ensures turned { TurnGoes J.rules self.old.number (N.tells notes.old notes.new)
             (H.tells hub.old) self.old.session (H.tells hub.new) self.new.session result }
         ensures number { self.new.number ≡ self.old.number }
@@ -59,8 +60,9 @@ impl<J: Judge> OpenSession<J> {
         ensures kept { H.kept hub.new ≡ H.kept hub.old }
         ensures cause { (side : Side) → result ≡ Turn.Ended (Outcome.LinkFault side) →
             LinkRose (H.counts hub.old) (H.counts hub.new) self.old.number side }
+        ensures piece { length piece.new ≡ piece_length }
     {
-        turn(&mut self.session, hub, self.number, notes)
+        turn_with(&mut self.session, hub, self.number, piece, notes)
     }
 }
 

@@ -12,7 +12,7 @@ use gate_hub::{Hub, LinkGot, LinkPut, Side};
 use session_core::{Judge, Notes, Outcome, Session};
 
 /// At most so many bytes are read or written by a call.
-const PIECE: usize = 4096;
+pub const PIECE: usize = 4096;
 
 /// At most so many bytes of a side are read by a call while something is due to the other: fewer than a write moves, so
 /// that what a session holds doesn't pile up.
@@ -42,19 +42,41 @@ pub fn turn<H: Hub, J: Judge, N: Notes>(
     ensures cause { (side : Side) → result ≡ Turn.Ended (Outcome.LinkFault side) →
         LinkRose (H.counts hub.old) (H.counts hub.new) k side }
 {
+    let mut piece = [0; PIECE];
+    turn_with(session, hub, k, &mut piece, notes)
+}
+
+/// The same with a piece for what is read, which is filled once for many turns. What it holds before makes no difference.
+pub fn turn_with<H: Hub, J: Judge, N: Notes>(
+    session: &mut Session<J>,
+    hub: &mut H,
+    k: u64,
+    piece: &mut [u8],
+    notes: &mut N,
+) -> Turn
+    requires { length piece.old ≡ piece_length }
+    ensures turned { TurnGoesInOrder J.rules k (N.tells notes.old notes.new) (H.tells hub.old) session.old (H.tells hub.new) session.new result }
+    ensures ending { EndsAs session.new.outcome result }
+    ensures same { IsSame J session.old session.new }
+    ensures holds { HoldsWithin session.old × HoldsWithin session.new }
+    ensures later { Later (H.counts hub.old) (H.counts hub.new) }
+    ensures kept { H.kept hub.new ≡ H.kept hub.old }
+    ensures cause { (side : Side) → result ≡ Turn.Ended (Outcome.LinkFault side) →
+        LinkRose (H.counts hub.old) (H.counts hub.new) k side }
+    ensures piece { length piece.new ≡ piece_length }
+{
     let mut waits = Waits {
         client_write: false,
         client_read: false,
         upstream_write: false,
         upstream_read: false,
     };
-    let mut piece = [0; PIECE];
     let mut moved = 0;
     while moved < MOST_MOVES {
         if let Some(outcome) = session.outcome() {
             return Turn::Ended(outcome);
         }
-        match round(session, hub, k, &mut waits, &mut piece, notes) {
+        match round(session, hub, k, &mut waits, piece, notes) {
             Err(side) => return Turn::Ended(Outcome::LinkFault(side)),
             Ok(0) => return Turn::Settled,
             Ok(count) => moved += count,
@@ -152,6 +174,7 @@ fn read_behind<H: Hub, J: Judge, N: Notes>(
 }
 
 /// Writes what is due to a side.
+#[inline(always)]
 fn write<H: Hub, J: Judge, N: Notes>(
     session: &mut Session<J>,
     hub: &mut H,

@@ -127,6 +127,14 @@ pub owed_some : {X : Type 0} (r : Bool) (xs : List X) → r ≡ false → r ≡ 
 owed_some r [] t e = absurd (cc)
 owed_some r (x ∷ xs) t e = omega arith
 
+-- whether a call is open
+pub none_open : {X : Type 0} (r : Bool) (xs : List X) → r ≡ true → r ≡ (length xs == 0) → xs ≡ []
+none_open r xs t e = none_of xs (grind (arith, nat_tests))
+
+pub some_open : {X : Type 0} (r : Bool) (xs : List X) → r ≡ false → r ≡ (length xs == 0) → (x : X) × (xs ≡ x ∷ drop 1 xs)
+some_open r [] t e = absurd (cc)
+some_open r (x ∷ xs) t e = (x, refl)
+
 pub behind_whole : (limit : ℕ) (held frame rest : List ℕ) → front limit held ≡ Whole frame rest → behind held (front limit held) ≡ rest
 behind_whole limit held frame rest e = ap (behind held) e
 

@@ -129,26 +129,32 @@ impl State {
         ensures cut { result ≡ SessionStep.Takes → Cuts self.old.upstream.held.limit self.old.upstream.held.held }
         ensures told { N.tells notes.old notes.new (told_of_reply (J.rules judge.old) self.old result) }
     {
-        let Some(&call) = self.calls.front() else {
+        if self.calls.is_empty() {
             return SessionStep::Waits;
-        };
+        }
         if !self.client.is_paid() {
             return self.upstream_ends();
         }
         match self.upstream.held.frame() {
             Next::NeedMore => self.upstream_ends(),
             Next::TooLarge(length) => SessionStep::Halts(Halt::TooLarge(length)),
-            Next::Frame(frame) => match judge_upstream(judge, call, frame, &mut self.client.due) {
-                UpstreamJudged::Halts(halt) => {
-                    self.client.due.cut(0);
-                    SessionStep::Halts(halt)
+            Next::Frame(frame) => {
+                // (looked up here, as most looks find no frame)
+                let Some(&call) = self.calls.front() else {
+                    return SessionStep::Waits;
+                };
+                match judge_upstream(judge, call, frame, &mut self.client.due) {
+                    UpstreamJudged::Halts(halt) => {
+                        self.client.due.cut(0);
+                        SessionStep::Halts(halt)
+                    }
+                    UpstreamJudged::Answers(refused) => {
+                        note_reply(notes, next_of(self.upstream.count), refused, frame);
+                        self.close_call();
+                        SessionStep::Takes
+                    }
                 }
-                UpstreamJudged::Answers(refused) => {
-                    note_reply(notes, next_of(self.upstream.count), refused, frame);
-                    self.close_call();
-                    SessionStep::Takes
-                }
-            },
+            }
         }
     }
 
@@ -156,8 +162,11 @@ impl State {
     fn upstream_ends(&self) -> SessionStep
         ensures { result ≡ ends_step (is_part (front self.now.upstream.held.limit self.now.upstream.held.held)) self.now.upstream.ended }
     {
+        if !self.upstream.ended {
+            return SessionStep::Waits;
+        }
         match self.upstream.held.frame() {
-            Next::NeedMore if self.upstream.ended => SessionStep::Halts(Halt::Inside),
+            Next::NeedMore => SessionStep::Halts(Halt::Inside),
             _ => SessionStep::Waits,
         }
     }
@@ -400,7 +409,11 @@ impl State {
         ensures settled { IsSettledBy (J.rules judge.old) self.old self.new }
         ensures fits { FitsOn (J.rules judge.old) self.old self.new (N.tells notes.old notes.new) (λ h. h) }
     {
-        self.outcome = self.advance(judge, notes);
+        let outcome = self.advance(judge, notes);
+        if outcome.is_none() && self.outcome.is_none() {
+            return;
+        }
+        self.outcome = outcome;
     }
 
     /// Takes bytes of a side, as long as there is room and no outcome.

@@ -23,6 +23,7 @@ serving-init g c =
       later = later_not _;
       output_later = omega arith;
       stays = refl;
+      piece = search rules;
     }
 
 pub serving-preserved : goal.serving-preserved
@@ -51,6 +52,7 @@ serving-preserved g c =
       later = later_on _ _ _ i.later c.step.ensures.later;
       output_later = omega (arith, i.output_later, c.step.ensures.output_later);
       stays = c.step.ensures.kept ∙ i.stays;
+      piece = c.step.ensures.piece;
     }
 
 pub returns-in-Err-clause-goes : goal.returns-in-Err-clause-goes

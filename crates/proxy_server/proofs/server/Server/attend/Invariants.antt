@@ -1,6 +1,7 @@
-use Rattle.std.proofs.Common.{◌≡◌, ◌-◌, ◌≤◌, Ok}
+use Rattle.std.proofs.Common.{◌≡◌, ◌-◌, ◌≤◌, Ok, length}
 use Rattle.std.specs.Prelude.{⊤}
 use Rattle.gate_hub.specs.Hubs.{Later}
+use Rattle.proxy_server.specs.Calling.{piece_length}
 use Rattle.proxy_server.specs.Working.{Waits}
 use Rattle.proxy_server.specs.Steps.{Goes, outside, setting_of}
 use Rattle.proxy_server.proofs.server.Server.attend.Given as goal
@@ -21,6 +22,7 @@ invariant-serving g l =
       later : Later (hub.counts l.fn.hub) (hub.counts l.hub);
       output_later : sink.faults l.fn.output ≤ sink.faults l.output;
       stays : hub.kept l.hub ≡ hub.kept l.fn.hub;
+      piece : length l.piece ≡ piece_length;
     }
 
 abbrev pub decreases-serving : goal.decreases-serving

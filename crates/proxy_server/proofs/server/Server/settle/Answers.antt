@@ -125,6 +125,7 @@ turns-init g c = record {
   budget = c.requires.budget;
   later = later_not _;
   stays = refl;
+  piece = c.requires.piece;
 }
 
 pub turns-preserved : goal.turns-preserved
@@ -164,4 +165,5 @@ turns-preserved g c =
       budget = omega (arith, c.turns-test.true);
       later = later_on _ _ _ i.later call.ensures.later;
       stays = call.ensures.kept ∙ i.stays;
+      piece = call.ensures.piece;
     }

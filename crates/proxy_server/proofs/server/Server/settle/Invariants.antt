@@ -2,6 +2,7 @@ use Rattle.std.proofs.Common.{◌≡◌, List, [], ◌++◌, ◌-◌, ◌<◌, �
 use Rattle.gate_hub.specs.Meaning.{Meaning}
 use Rattle.gate_hub.specs.Hubs.{Later}
 use Rattle.std.specs.Io.KnownBytes.{Appends}
+use Rattle.proxy_server.specs.Calling.{piece_length}
 use Rattle.proxy_server.specs.Saying.{Said, closings, said_lines}
 use Rattle.proxy_server.specs.Serving.{Setting, Keeps}
 use Rattle.proxy_server.specs.Working.{IsBusy}
@@ -24,6 +25,7 @@ invariant-turns g l =
       budget : l.self.spent ≤ l.fn.self.limits.events;
       later : Later (hub.counts l.fn.hub) (hub.counts l.hub);
       stays : hub.kept l.hub ≡ hub.kept l.fn.hub;
+      piece : length l.piece ≡ piece_length;
     }
 
 abbrev pub decreases-turns : goal.decreases-turns

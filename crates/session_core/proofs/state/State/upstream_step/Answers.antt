@@ -10,7 +10,7 @@ use Rattle.session_core.specs.Steps.{Move, Takes}
 use Rattle.session_core.specs.Working.{standing, Comes, ends_step}
 use Rattle.session_core.specs.declared.state.SessionStep.{SessionStep}
 use Rattle.session_core.specs.declared.judge.UpstreamJudged.TheVariants as upstream
-use Rattle.session_core.proofs.Moves.{told_ends, reply_told, paid_none, owed_some, knows_kept, asks, answers, no_call, due_first, no_reply, first_of, no_first, behind_whole, other_limit, after_upstream}
+use Rattle.session_core.proofs.Moves.{told_ends, reply_told, paid_none, owed_some, knows_kept, asks, answers, no_call, due_first, no_reply, first_of, no_first, none_open, some_open, behind_whole, other_limit, after_upstream}
 use Rattle.session_core.specs.declared.state.State.{State}
 use Rattle.gate_hub.specs.declared.hub.Side.TheVariants as side
 use Rattle.session_core.proofs.Keeping.{keeps_still, ready_written, cut_within}
@@ -18,6 +18,9 @@ use Rattle.session_core.proofs.state.State.upstream_step.Goals as goal
 
 pub returns-in_default-clause-comes : goal.returns-in_default-clause-comes
 returns-in_default-clause-comes g c = (no_call _ _ (standing c.args.self.now) (no_first c.args.self.now.calls.items (sym c.in_default.ensures)), refl)
+
+pub returns-then-is_empty-clause-comes : goal.returns-then-is_empty-clause-comes
+returns-then-is_empty-clause-comes g c = (no_call _ _ (standing c.args.self.now) (none_open c.is_empty.result c.args.self.now.calls.items c.if-is_empty.true c.is_empty.ensures), refl)
 
 -- what the end of the upstream does, by its own limit
 ends : (limit other : ℕ) (held : List ℕ) (ended : Rattle.std.proofs.Common.Bool) (came : SessionStep) (m : Move) (s t : Standing) → other ≡ limit → came ≡ ends_step (is_part (front other held)) ended → Comes (ends_step (is_part (front limit held)) ended) m s t → Comes came m s t
@@ -28,9 +31,9 @@ pub returns-then-not-is_paid-clause-comes : goal.returns-then-not-is_paid-clause
 returns-then-not-is_paid-clause-comes g c =
     let s = standing c.args.self.now in
     let some : 0 < length c.args.self.now.client.due.bytes = owed_some c.is_paid.result c.args.self.now.client.due.bytes c.if-not-is_paid.true c.is_paid.ensures in
-    let calls : c.args.self.now.calls.items ≡ c.in-Some.field-0.now ∷ drop 1 c.args.self.now.calls.items = first_of c.args.self.now.calls.items c.in-Some.field-0.now (sym c.in-Some.ensures) in
+    let oldest = some_open c.is_empty.result c.args.self.now.calls.items c.if-is_empty.false c.is_empty.ensures in
     ends c.args.self.now.client.held.limit c.args.self.now.upstream.held.limit c.args.self.now.upstream.held.held c.args.self.now.upstream.ended c.upstream_ends.result _ s s c.requires.works.ready.upstream.limit_is c.upstream_ends.ensures
-    (due_first (g.J.Judge.rules c.args.judge.now) c.args.self.now.client.held.limit s c.in-Some.field-0.now (drop 1 c.args.self.now.calls.items) calls some)
+    (due_first (g.J.Judge.rules c.args.judge.now) c.args.self.now.client.held.limit s oldest.0 (drop 1 c.args.self.now.calls.items) oldest.1 some)
 
 pub judge_upstream-requires-clause-fits : goal.judge_upstream-requires-clause-fits
 judge_upstream-requires-clause-fits g c =
@@ -46,19 +49,19 @@ pub returns-in-NeedMore-clause-comes : goal.returns-in-NeedMore-clause-comes
 returns-in-NeedMore-clause-comes g c =
     let s = standing c.args.self.now in
     let none : c.args.self.now.client.due.bytes ≡ [] = paid_none c.is_paid.result c.args.self.now.client.due.bytes c.if-not-is_paid.false c.is_paid.ensures in
-    let calls : c.args.self.now.calls.items ≡ c.in-Some.field-0.now ∷ drop 1 c.args.self.now.calls.items = first_of c.args.self.now.calls.items c.in-Some.field-0.now (sym c.in-Some.ensures) in
+    let oldest = some_open c.is_empty.result c.args.self.now.calls.items c.if-is_empty.false c.is_empty.ensures in
     let part = other_limit c.args.self.now.client.held.limit c.args.self.now.upstream.held.limit c.args.self.now.upstream.held.held Part c.requires.works.ready.upstream.limit_is c.in-NeedMore.ensures.exact in
     ends c.args.self.now.client.held.limit c.args.self.now.upstream.held.limit c.args.self.now.upstream.held.held c.args.self.now.upstream.ended c.upstream_ends-in-NeedMore.result _ s s c.requires.works.ready.upstream.limit_is c.upstream_ends-in-NeedMore.ensures
-    (no_reply (g.J.Judge.rules c.args.judge.now) c.args.self.now.client.held.limit s c.in-Some.field-0.now (drop 1 c.args.self.now.calls.items) calls none part)
+    (no_reply (g.J.Judge.rules c.args.judge.now) c.args.self.now.client.held.limit s oldest.0 (drop 1 c.args.self.now.calls.items) oldest.1 none part)
 
 pub returns-in-TooLarge-clause-comes : goal.returns-in-TooLarge-clause-comes
 returns-in-TooLarge-clause-comes g c =
     let s = standing c.args.self.now in
     let none : c.args.self.now.client.due.bytes ≡ [] = paid_none c.is_paid.result c.args.self.now.client.due.bytes c.if-not-is_paid.false c.is_paid.ensures in
-    let calls : c.args.self.now.calls.items ≡ c.in-Some.field-0.now ∷ drop 1 c.args.self.now.calls.items = first_of c.args.self.now.calls.items c.in-Some.field-0.now (sym c.in-Some.ensures) in
+    let oldest = some_open c.is_empty.result c.args.self.now.calls.items c.if-is_empty.false c.is_empty.ensures in
     let large = other_limit c.args.self.now.client.held.limit c.args.self.now.upstream.held.limit c.args.self.now.upstream.held.held (Large c.in-TooLarge.length) c.requires.works.ready.upstream.limit_is c.in-TooLarge.ensures.exact in
     let fits : SFits w32 c.in-TooLarge.length = search rules in
-    (rw (to_z-of_z w32 c.in-TooLarge.length fits) (asks (g.J.Judge.rules c.args.judge.now) c.args.self.now.client.held.limit s c.in-Some.field-0.now (drop 1 c.args.self.now.calls.items) (Large c.in-TooLarge.length) calls none large), refl)
+    (rw (to_z-of_z w32 c.in-TooLarge.length fits) (asks (g.J.Judge.rules c.args.judge.now) c.args.self.now.client.held.limit s oldest.0 (drop 1 c.args.self.now.calls.items) (Large c.in-TooLarge.length) oldest.1 none large), refl)
 
 pub returns-in-Halts-clause-comes : goal.returns-in-Halts-clause-comes
 returns-in-Halts-clause-comes g c =
@@ -89,6 +92,9 @@ returns-in-Answers-clause-comes g c =
 
 pub returns-in_default-clause-keeps : goal.returns-in_default-clause-keeps
 returns-in_default-clause-keeps g c = keeps_still (g.J.Judge.rules c.args.judge.now) _ c.args.self.now c.requires.works
+
+pub returns-then-is_empty-clause-keeps : goal.returns-then-is_empty-clause-keeps
+returns-then-is_empty-clause-keeps g c = keeps_still (g.J.Judge.rules c.args.judge.now) _ c.args.self.now c.requires.works
 
 pub returns-then-not-is_paid-clause-keeps : goal.returns-then-not-is_paid-clause-keeps
 returns-then-not-is_paid-clause-keeps g c = keeps_still (g.J.Judge.rules c.args.judge.now) _ c.args.self.now c.requires.works
@@ -123,6 +129,9 @@ returns-in-Answers-clause-keeps g c =
 
 pub returns-in_default-clause-told : goal.returns-in_default-clause-told
 returns-in_default-clause-told g c = g.met.N.Notes.stays c.args.notes.now
+
+pub returns-then-is_empty-clause-told : goal.returns-then-is_empty-clause-told
+returns-then-is_empty-clause-told g c = g.met.N.Notes.stays c.args.notes.now
 
 pub returns-then-not-is_paid-clause-told : goal.returns-then-not-is_paid-clause-told
 returns-then-not-is_paid-clause-told g c =

@@ -7,7 +7,7 @@ use Rattle.proxy_server.specs.Turning.{Begins, Runs, Breaks, wanted, no_waits, o
 use Rattle.proxy_server.specs.declared.waiting.Waits.{Waits}
 use Rattle.proxy_server.proofs.Telling.{quietly, goes_on, goes_weaker, then_runs, then_breaks, runs_at}
 use Rattle.proxy_server.proofs.Running.{goes_nowhere, runs_on, runs_not, settles, later_on, later_not, same_on, want_on}
-use Rattle.proxy_server.proofs.turning.turn.Goals as goal
+use Rattle.proxy_server.proofs.turning.turn_with.Goals as goal
 
 some_none : {X : Type 0} (o : Option X) (x : X) → o ≡ Some x → o ≡ None → ⊥
 some_none o x p q = differ (sym p ∙ q)
@@ -56,7 +56,7 @@ loop-moved-init g c =
       same = record { judge = refl; limit = refl; max_calls = refl; rooms = refl };
       before = inl refl;
       bounded = omega arith;
-      piece = search rules;
+      piece = c.requires;
       later = later_not _;
       stays = refl;
     }

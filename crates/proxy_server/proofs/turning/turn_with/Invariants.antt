@@ -4,7 +4,7 @@ use Rattle.session_core.specs.Session.{HoldsWithin}
 use Rattle.proxy_server.specs.Calling.{Wanted, piece_length}
 use Rattle.proxy_server.specs.Matching.{Matches, IsSame}
 use Rattle.proxy_server.specs.Turning.{GoesTelling, Runs, no_waits, wanted}
-use Rattle.proxy_server.proofs.turning.turn.Given as goal
+use Rattle.proxy_server.proofs.turning.turn_with.Given as goal
 
 -- so many calls moved something, the marks hold, and what was wanted first was done first
 abbrev pub invariant-loop-moved : goal.invariant-loop-moved
