@@ -11,8 +11,9 @@ use Rattle.mio_edge.specs.Wire.{Wire, Moves, Stays}
 use Rattle.mio_edge.specs.Moving.{PortTells, PortTellsBy, IsUnsent, HasSent}
 use Rattle.mio_edge.specs.Sessions.{Links, TellsAt, PortsTell, AtEach, PortsAre, IsUnsentAt}
 use Rattle.mio_edge.specs.Tables.{World, place_of, TellsPlace, Tells, IsClosedAt}
-use Rattle.mio_edge.specs.Closing.{IsSettled, IsSettledAt, AreSettled, AreFlushed, HoldsFlushed, KeepsSent, KeepAllSent, WindsUp, WindsAt, WoundOn, Winds, HoldsSettled, OthersStay, WindsBeside, WindsBesideIfAny, PutsAt, winds_on}
+use Rattle.mio_edge.specs.Closing.{IsSettled, TellsItsEnd, IsSettledAt, AreSettled, AreFlushed, HoldsFlushed, KeepsSent, KeepAllSent, WindsUp, WindsAt, WoundOn, Winds, HoldsSettled, OthersStay, WindsBeside, WindsBesideIfAny, PutsAt, winds_on}
 use Rattle.mio_edge.specs.declared.port.Port.{Port}
+use Rattle.mio_edge.specs.declared.port.Sending.TheVariants as sending
 use Rattle.mio_edge.specs.declared.session.Session.{Session}
 use Rattle.mio_edge.specs.declared.table.Entry.{Entry}
 use Rattle.mio_edge.proofs.Sessions.{decide}
@@ -34,6 +35,11 @@ none_unsent {S} port (inr (inr blocked)) unsent = blocked unsent.2
 pub still_unsent : {S : Type 0} (a b : Port S) (sent : Bool) → (sent ≡ true → b.outgoing.bytes ≡ []) → (sent ≡ false → b ≡ a) → IsUnsent b → IsUnsent a
 still_unsent {S} a b true empty kept unsent = absurd (none_unsent b (inl (empty refl)) unsent)
 still_unsent {S} a b false empty kept unsent = subst (λ (p : Port S). IsUnsent p) (kept refl) unsent
+
+-- a port that has told its end, or holds bytes still
+pub tells_its_end : {S : Type 0} (port : Port S) (sent : Bool) → (sent ≡ true → port.sending ≡ sending.Shut) → (sent ≡ false → port.outgoing.bytes ≢ []) → TellsItsEnd port
+tells_its_end port true told holds = inr (inl (told refl))
+tells_its_end port false told holds = inl (holds refl)
 
 pub then_stays : {A : Type 0} (x y z : A → Type 0) (Step : A → A → Type 0) → Moves x y Step → Stays y z → Moves x z Step
 then_stays x y z Step moves stays a told = let moved = moves a told in (moved.0, stays moved.0 moved.1, moved.2)
@@ -71,6 +77,7 @@ passes_over {S} tells a b same none room link told = (next, subst (λ (p : Port 
         idle = joins.idle;
         blocked = joins.blocked;
         begun = joins.begun;
+        shut = joins.shut;
         room_in = subst (λ (n : ℕ). 0 < n) (sym room) joins.room_in;
         room_out = joins.room_out;
       },

@@ -1,12 +1,15 @@
 pub mod Closing
+pub mod Each
 pub mod Entries
 pub mod Numbers
 pub mod Order
+pub mod Places
 pub mod Ports
 pub mod Received
 pub mod Searching
 pub mod Sessions
 pub mod Standing
+pub mod Steps
 pub mod Tables
 pub mod Telling
 pub mod Turning

@@ -78,6 +78,7 @@ hands_out {S} tells a b into n some is room same link told =
         idle = joins.idle;
         blocked = joins.blocked;
         begun = joins.begun;
+        shut = joins.shut;
         room_in = subst (λ (n : ℕ). 0 < n) (sym room) joins.room_in;
         room_out = joins.room_out;
       },
@@ -115,6 +116,7 @@ keeps_link {S} tells a link answer blame told = by a.stream refl told
         idle = joins.idle;
         blocked = joins.blocked;
         begun = joins.begun;
+        shut = joins.shut;
         room_in = joins.room_in;
         room_out = joins.room_out;
       },
@@ -152,6 +154,7 @@ reads_end {S} tells a into over link told = (next, by a.stream refl told, refl)
         idle = joins.idle;
         blocked = joins.blocked;
         begun = joins.begun;
+        shut = joins.shut;
         room_in = joins.room_in;
         room_out = joins.room_out;
       },
@@ -198,6 +201,7 @@ takes_in {S} tells a b from answer some takes same link told = by answer takes
         idle = joins.idle;
         blocked = joins.blocked;
         begun = joins.begun;
+        shut = joins.shut;
         room_in = joins.room_in;
         room_out = subst (λ (x : Buffer). 0 < x.room) (sym is) joins.room_out;
       },
@@ -220,6 +224,7 @@ takes_in {S} tells a b from answer some takes same link told = by answer takes
         idle = joins.idle;
         blocked = joins.blocked;
         begun = joins.begun;
+        shut = joins.shut;
         room_in = joins.room_in;
         room_out = subst (λ (x : Buffer). 0 < x.room) (sym is) joins.room_out;
       },
@@ -264,6 +269,7 @@ keeps_sent {S} tells a link answer blame told = by a.stream refl told
         idle = joins.idle;
         blocked = joins.blocked;
         begun = joins.begun;
+        shut = joins.shut;
         room_in = joins.room_in;
         room_out = joins.room_out;
       },
@@ -365,6 +371,17 @@ deferred_before news sending.Ready e = absurd (cc)
 deferred_before news sending.Shut e = absurd (cc)
 deferred_before news sending.Lost e = absurd (cc)
 
+shut_before : (news : Readiness) (s : Sending) → then_sending news s ≡ sending.Shut → s ≡ sending.Shut
+shut_before news sending.Deferred e = absurd (cc)
+shut_before news sending.Blocked e = by (news.is_writable || news.has_failed) e
+  where
+    by : (t : Bool) → (if t then sending.Ready else sending.Blocked) ≡ sending.Shut → sending.Blocked ≡ sending.Shut
+    by true e = absurd (cc)
+    by false e = absurd (cc)
+shut_before news sending.Ready e = absurd (cc)
+shut_before news sending.Shut e = refl
+shut_before news sending.Lost e = absurd (cc)
+
 pub hears_news : {S : Type 0} (tells : S → Wire → Type 0) → ((s : S) (wire : Wire) (r w : Bool) → tells s wire → tells s (heard r w wire)) → (news : Readiness) (a : Port S) (link : Link) → PortTells tells a link → PortHears tells news (noted news a) link
 hears_news {S} tells hears news a link told = by a.stream told
   where
@@ -385,6 +402,7 @@ hears_news {S} tells hears news a link told = by a.stream told
         idle = λ e. let before = idle_before news a.receiving e in or_both wire.readable news.is_readable (joins.idle before.0) before.1;
         blocked = λ e. let before = blocked_before news a.sending e in or_both wire.writable news.is_writable (joins.blocked before.0) before.1;
         begun = λ e. joins.begun (deferred_before news a.sending e);
+        shut = λ e. joins.shut (shut_before news a.sending e);
         room_in = joins.room_in;
         room_out = joins.room_out;
       },

@@ -22,7 +22,7 @@ pub has_right : (xs ys : List ℕ) (x : ℕ) → Has ys x → Has (xs ++ ys) x
 has_right [] ys x has = has
 has_right (z ∷ xs) ys x has = inr (has_right xs ys x has)
 
-has_either : (xs ys : List ℕ) (x : ℕ) → Has (xs ++ ys) x → Has xs x ⊎ Has ys x
+pub has_either : (xs ys : List ℕ) (x : ℕ) → Has (xs ++ ys) x → Has xs x ⊎ Has ys x
 has_either [] ys x has = inr has
 has_either (z ∷ xs) ys x (inl e) = inl (inl e)
 has_either (z ∷ xs) ys x (inr has) = by (has_either xs ys x has)
@@ -31,7 +31,7 @@ has_either (z ∷ xs) ys x (inr has) = by (has_either xs ys x has)
     by (inl h) = inl (inr h)
     by (inr h) = inr h
 
-has_or : (x : ℕ) (xs : List ℕ) → Has xs x ⊎ (Has xs x → ⊥)
+pub has_or : (x : ℕ) (xs : List ℕ) → Has xs x ⊎ (Has xs x → ⊥)
 has_or x [] = inr (λ has. has)
 has_or x (y ∷ ys) = by (decide y x) (has_or x ys)
   where

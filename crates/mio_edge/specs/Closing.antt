@@ -30,6 +30,11 @@ AreSettled ports = (p : ℕ) → IsSettledAt (slice_get ports p)
 abbrev pub AreFlushed : {S : Type 0} → List (Port S) → Type 0
 AreFlushed ports = (p : ℕ) → IsUnsentAt (slice_get ports p) → ⊥
 
+-- what was written to the port is held still, or its peer is told that no more will come, or no stream takes it: there is none, or
+-- it failed
+abbrev pub TellsItsEnd : {S : Type 0} → Port S → Type 0
+TellsItsEnd port = (port.outgoing.bytes ≢ []) ⊎ ((port.sending ≡ sending.Shut) ⊎ ((port.stream ≡ None) ⊎ (port.sending ≡ sending.Lost)))
+
 -- all that was written to the link is told still
 abbrev pub KeepsSent : Link → Link → Type 0
 KeepsSent a b = b.sent ≡ a.sent

@@ -1,12 +1,14 @@
 -- What the edge counts, numbers and moves.
 pub mod Admitting
 pub mod Closing
+pub mod Connecting
 pub mod Counting
 pub mod Fixed
 pub mod Lines
 pub mod Moving
 pub mod Numbers
 pub mod Order
+pub mod Places
 pub mod Sessions
 pub mod Steps
 pub mod Tables

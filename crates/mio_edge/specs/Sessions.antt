@@ -83,6 +83,10 @@ AtEach R (Some x) (Some y) = R x y
 abbrev pub PortsAre : {S : Type 0} → (Port S → Port S → Type 0) → List (Port S) → List (Port S) → Type 0
 PortsAre R a b = (p : ℕ) → AtEach R (slice_get a p) (slice_get b p)
 
+-- this holds of each port of a list
+abbrev pub EachPort : {S : Type 0} → (Port S → Type 0) → List (Port S) → Type 0
+EachPort {S} P ports = (p : ℕ) (port : Port S) → slice_get ports p ≡ Some port → P port
+
 -- a port tells what it told, and nothing can be done there that couldn't before
 pub record Calms {S : Type 0} (tells : S → Wire → Type 0) (a b : Port S) : Type 0 where
   pub keeps : Stays (PortTells tells a) (PortTells tells b)

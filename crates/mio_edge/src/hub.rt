@@ -1,6 +1,6 @@
 //! The hub of sessions with one upstream. It tells what its network's streams tell, and counts what
 //! failed and what wasn't ready.
-ghost use Rattle.std.specs.Prelude.{◌≡◌, ◌<◌, ◌≤◌, ◌⊎◌, ℕ, length, Some};
+ghost use Rattle.std.specs.Prelude.{◌≡◌, ◌<◌, ◌≤◌, ◌⊎◌, ℕ, length, false, Some};
 ghost use Rattle.gate_base.specs.Causes.{Rose};
 ghost use Rattle.gate_hub.specs.Hubs.{CloseLeads, GotWithin, HasStarted, Later, Leads, NextLeads, NotStarted, ReadLeads, StartLeads, TookWithin, WriteLeads, started_with};
 ghost use Rattle.gate_hub.specs.Meaning.{IsOpen};
@@ -9,6 +9,7 @@ ghost use Rattle.gate_hub.specs.declared.hub.HubNext.TheVariants as event;
 ghost use Rattle.mio_edge.specs.Counting.{FaultRose, WaitRose, counts_in};
 ghost use Rattle.mio_edge.specs.Fixed.{SocketsSame};
 ghost use Rattle.mio_edge.specs.Numbers.{AllAnnounced, Numbers};
+ghost use Rattle.mio_edge.specs.Places.{AllHaveSent};
 ghost use Rattle.mio_edge.specs.Telling.{HubTells, HubLeads, port_number};
 ghost use Rattle.mio_edge.specs.Turning.{EventTurn, SocketsJoin};
 ghost use Rattle.mio_edge.specs.Winding.{SocketsClose, SocketsWind, SocketsWindIfTold};
@@ -157,6 +158,7 @@ impl<W: Network> Hub for MioHub<W> {
         ensures cause { result ≡ event.Failed → Rose self.old.sockets.faults self.new.sockets.faults }
         ensures numbers { Numbers W.is_shared result self.old.sockets.announced self.new.sockets.announced }
         ensures stopped { result ≡ event.Stopped → AllAnnounced self.new.sockets.accept self.new.sockets.announced ⊎ W.is_shared }
+        ensures sent { result ≡ event.Stopped → self.old.sockets.has_stopped ≡ false → AllHaveSent self.new.sockets ⊎ W.is_shared }
         ensures winds { SocketsWind W.Stream.tells self.old.sockets self.new.sockets }
         ensures turn { EventTurn W.is_telling W.Stream.tells (Some result) self.old.sockets self.new.sockets }
         ensures same { SocketsSame self.old.sockets self.new.sockets }

@@ -7,6 +7,7 @@ ghost use Rattle.mio_edge.specs.Wire.{Stays, new_wire};
 ghost use Rattle.mio_edge.specs.Numbers.{Passes};
 ghost use Rattle.mio_edge.specs.Admitting.{IfHere, IfNotHere};
 ghost use Rattle.mio_edge.specs.Moving.{IsBegun};
+ghost use Rattle.mio_edge.specs.Places.{AllSent};
 ghost use Rattle.mio_edge.specs.Tables.{TableTells, IsPrepared, IsClosedAt, KeepsIdle, TableAnnounces};
 
 use crate::Stream;
@@ -108,7 +109,8 @@ impl<S: Stream> Listening<S> {
     /// Whether all sessions are closed and everything is sent, and the peers have ended too or were
     /// waited for long enough.
     pub(crate) fn is_over(&self) -> bool
-        ensures { result ≡ true → self.now.table.entries.items ≡ [] }
+        ensures closed { result ≡ true → self.now.table.entries.items ≡ [] }
+        ensures sent { result ≡ true → AllSent self.now.table }
     {
         self.table.is_done() && (self.patience == 0 || self.table.is_empty())
     }

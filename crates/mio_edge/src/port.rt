@@ -1,11 +1,13 @@
 //! One connection of a session: its stream, what is known of its readiness, and its two buffers.
-ghost use Rattle.std.specs.Prelude.{◌≡◌, ◌⊎◌, true, false, ◌<◌, ◌≤◌, [], ◌++◌, length, take, None, IsSome, IfOk};
+ghost use Rattle.std.specs.Prelude.{◌≡◌, ◌≢◌, ◌⊎◌, true, false, ◌<◌, ◌≤◌, [], ◌++◌, length, take, None, IsSome, IfOk};
 ghost use Rattle.gate_hub.specs.Hubs.{GotWithin, TookWithin, LinkReads, LinkWrites};
 ghost use Rattle.gate_hub.specs.Meaning.{Link, new_link};
-ghost use Rattle.mio_edge.specs.Closing.{IsSettled, KeepsSent};
+ghost use Rattle.mio_edge.specs.Closing.{IsSettled, KeepsSent, TellsItsEnd};
+ghost use Rattle.mio_edge.specs.Connecting.{HasBuffers, IsConnected, WaitsForWrite};
+ghost use Rattle.mio_edge.specs.Places.{HoldsUnsent};
 ghost use Rattle.mio_edge.specs.Wire.{Moves, Stays, new_wire};
 ghost use Rattle.mio_edge.specs.Moving.{PortTells, PortHears, IsOver, Finds, Notes, HasSent, TakesIn, after_failure};
-ghost use Rattle.mio_edge.specs.Moving.{IsCalm, IsBegun, IsFull, IsUnsent, CanRead, CanWrite, after_news, then_sending, begins_receiving, begins_sending, is_news, noted};
+ghost use Rattle.mio_edge.specs.Moving.{IsCalm, IsBegun, IsFull, IsFullIn, IsUnsent, CanRead, CanWrite, after_news, then_sending, begins_receiving, begins_sending, is_news, noted};
 
 use crate::Stream;
 use crate::network::Readiness;
@@ -121,7 +123,8 @@ impl<S: Stream> Port<S> {
     /// Gives the port a connection, over which nothing went. One whose buffers have no room gets none.
     pub(crate) fn attach(&mut self, stream: S, sending: Sending)
         requires { IsBegun sending }
-        ensures { S.tells stream new_wire → PortTells S.tells self.new new_link }
+        ensures tells { S.tells stream new_wire → PortTells S.tells self.new new_link }
+        ensures connects { HasBuffers self.old → IsConnected stream sending self.new }
     {
         self.stream = None;
         self.receiving = Receiving::Idle;
@@ -136,7 +139,8 @@ impl<S: Stream> Port<S> {
 
     // Whether both buffers have room for more.
     fn has_room(&self) -> bool
-        ensures { result ≡ true → (0 < self.now.incoming.room) × (0 < self.now.outgoing.room) }
+        ensures room { result ≡ true → HasBuffers self.now }
+        ensures none { result ≡ false → IsFullIn self.now ⊎ IsFull self.now }
     {
         self.incoming.spare() > 0 && self.outgoing.spare() > 0
     }
@@ -145,6 +149,7 @@ impl<S: Stream> Port<S> {
     pub(crate) fn defer(&mut self)
         ensures keeps { Stays (PortTells S.tells self.old) (PortTells S.tells self.new) }
         ensures calm { IsCalm self.old self.new }
+        ensures deferred { WaitsForWrite self.new }
     {
         if self.stream.is_none() {
             self.sending = Sending::Deferred;
@@ -153,7 +158,8 @@ impl<S: Stream> Port<S> {
 
     /// Whether the connection is to be begun at the first write.
     pub(crate) fn is_deferred(&self) -> bool
-        ensures { result ≡ true → self.now.sending ≡ Sending.Deferred }
+        ensures deferred { result ≡ true → self.now.sending ≡ Sending.Deferred }
+        ensures begun { result ≡ false → self.now.sending ≢ Sending.Deferred }
     {
         self.sending == Sending::Deferred
     }
@@ -162,6 +168,7 @@ impl<S: Stream> Port<S> {
     pub(crate) fn give_up(&mut self)
         ensures keeps { Stays (PortTells S.tells self.old) (PortTells S.tells self.new) }
         ensures calm { IsCalm self.old self.new }
+        ensures given_up { self.new.sending ≢ Sending.Deferred }
     {
         if self.is_deferred() {
             self.sending = Sending::Blocked;
@@ -194,6 +201,8 @@ impl<S: Stream> Port<S> {
     pub(crate) fn has_unsent(&self) -> bool
         ensures waits { result ≡ false → IsUnsent self.now → ⊥ }
         ensures settled { result ≡ false → IsSettled self.now }
+        ensures unsent { result ≡ true → HoldsUnsent self.now }
+        ensures nothing { result ≡ false → HoldsUnsent self.now → ⊥ }
     {
         self.sending != Sending::Lost && !self.outgoing.bytes().is_empty()
     }
@@ -303,6 +312,7 @@ impl<S: Stream> Port<S> {
         ensures sends { Moves (PortTells S.tells self.old) (PortTells S.tells self.new) KeepsSent }
         ensures gone { result ≡ Rest.Gone → IsSettled self.new }
         ensures sent { IsUnsent self.new → ⊥ }
+        ensures told { TellsItsEnd self.new }
     {
         self.send();
         let got = self.pass_over();
@@ -317,6 +327,7 @@ impl<S: Stream> Port<S> {
     fn pass_over(&mut self) -> LinkGot
         ensures moves { Moves (PortTells S.tells self.old) (PortTells S.tells self.new) KeepsSent }
         ensures calm { IsUnsent self.new → IsUnsent self.old }
+        ensures finds { Finds result self.new }
     {
         self.incoming.clear();
         self.receive()
@@ -327,6 +338,8 @@ impl<S: Stream> Port<S> {
         ensures keeps { Stays (PortTells S.tells self.old) (PortTells S.tells self.new) }
         ensures sent { result ≡ true → self.new.outgoing.bytes ≡ [] }
         ensures calm { result ≡ false → self.new ≡ self.old }
+        ensures told { result ≡ true → self.new.sending ≡ Sending.Shut }
+        ensures holds { result ≡ false → self.new.outgoing.bytes ≢ [] }
     {
         if !self.outgoing.bytes().is_empty() {
             return false;
@@ -337,7 +350,9 @@ impl<S: Stream> Port<S> {
 
     // How far the end has come once a read answered this.
     fn rest_after(&self, got: LinkGot, is_sent: bool) -> Rest
-        ensures { result ≡ Rest.Gone → is_sent ≡ true }
+        ensures sent { result ≡ Rest.Gone → is_sent ≡ true }
+        ensures ended { got ≡ LinkGot.End → is_sent ≡ true → result ≡ Rest.Gone }
+        ensures unsent { is_sent ≡ true → result ≢ Rest.Unsent }
     {
         match got {
             LinkGot::Bytes(_) if self.receiving != Receiving::Idle => Rest::Unread,
@@ -351,6 +366,7 @@ impl<S: Stream> Port<S> {
     fn shut(&mut self)
         ensures keeps { Stays (PortTells S.tells self.old) (PortTells S.tells self.new) }
         ensures outgoing { self.new.outgoing ≡ self.old.outgoing }
+        ensures told { self.new.sending ≡ Sending.Shut }
     {
         if self.sending == Sending::Shut {
             return;

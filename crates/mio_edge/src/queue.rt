@@ -1,5 +1,5 @@
 //! A queue of places whose room is taken once.
-ghost use Rattle.std.specs.Prelude.{◌≡◌, ◌++◌, [], drop, true, false, None, option_to_list, IfOk};
+ghost use Rattle.std.specs.Prelude.{◌≡◌, ◌≢◌, ◌++◌, [], drop, true, false, None, option_to_list, IfOk};
 ghost use Rattle.std.specs.VecDeque.{deque_len, deque_capacity};
 ghost use Rattle.mio_edge.specs.Turns.{HasRoom, Pushes};
 
@@ -50,7 +50,8 @@ impl Queue {
     }
 
     pub(crate) fn is_empty(&self) -> bool
-        ensures { result ≡ true → self.now.places.items ≡ [] }
+        ensures none { result ≡ true → self.now.places.items ≡ [] }
+        ensures some { result ≡ false → self.now.places.items ≢ [] }
     {
         self.places.is_empty()
     }

@@ -2,12 +2,14 @@
 ghost use Rattle.std.specs.Prelude.{◌≡◌, ◌⊎◌, ◌<◌, ◌-◌, ◌==◌, ℕ, length, true, false, Some};
 ghost use Rattle.std.specs.List.{slice_get};
 ghost use Rattle.gate_hub.specs.Hubs.{GotWithin, TookWithin, LinkReads, LinkWrites};
-ghost use Rattle.mio_edge.specs.Closing.{AreFlushed, AreSettled, KeepAllSent, WindsUp};
+ghost use Rattle.mio_edge.specs.Closing.{AreFlushed, AreSettled, KeepAllSent, TellsItsEnd, WindsUp};
+ghost use Rattle.mio_edge.specs.Connecting.{ConnectsPort, IsDeferredAt, WaitsForWrite};
 ghost use Rattle.mio_edge.specs.Wire.{Moves, Stays, new_wire};
 ghost use Rattle.mio_edge.specs.Moving.{IsBegun, is_news, noted};
-ghost use Rattle.mio_edge.specs.Sessions.{SessionTells, PortsTell, AtPort, IsStill, IsUnsentAt, new_links};
+ghost use Rattle.mio_edge.specs.Sessions.{SessionTells, EachPort, PortsTell, AtPort, IsStill, IsUnsentAt, new_links};
 ghost use Rattle.mio_edge.specs.Sessions.{PortsAre, Calms, Flushes, TellsUnsent, MayWait, MayWrite, WaitsToRead, WaitsToWrite, count_read, count_written};
 ghost use Rattle.mio_edge.specs.Order.{Grows};
+ghost use Rattle.mio_edge.specs.Places.{HasUnsent};
 ghost use Rattle.mio_edge.specs.Turns.{HasRoom, Pushes};
 ghost use Rattle.mio_edge.specs.declared.port.Port.{Port};
 
@@ -57,6 +59,9 @@ impl<S: Stream> Session<S> {
         ensures begins { SessionTells S.tells self.old new_links → S.tells stream new_wire → SessionTells S.tells self.new new_links }
         ensures still { IsStill self.old self.new }
         ensures same { self.new.allowance ≡ self.old.allowance }
+        ensures there { result ≡ true → port < length self.old.ports.items }
+        ensures all { port < length self.old.ports.items → result ≡ true }
+        ensures connects { ConnectsPort stream sending port self.old.ports.items self.new.ports.items }
     {
         match self.ports.get_mut(port) {
             Some(port) => {
@@ -72,12 +77,16 @@ impl<S: Stream> Session<S> {
         ensures keeps { Stays (SessionTells S.tells self.old) (SessionTells S.tells self.new) }
         ensures still { IsStill self.old self.new }
         ensures same { self.new.allowance ≡ self.old.allowance }
+        ensures deferred { EachPort WaitsForWrite self.new.ports.items }
     {
         defer_all(&mut self.ports);
     }
 
     /// Whether the connection of a port is to be begun at the first write.
-    pub(crate) fn is_deferred(&self, port: usize) -> bool {
+    pub(crate) fn is_deferred(&self, port: usize) -> bool
+        ensures deferred { result ≡ true → IsDeferredAt (slice_get self.now.ports.items port) }
+        ensures begun { result ≡ false → IsDeferredAt (slice_get self.now.ports.items port) → ⊥ }
+    {
         match self.ports.get(port) {
             Some(port) => port.is_deferred(),
             None => false,
@@ -89,6 +98,7 @@ impl<S: Stream> Session<S> {
         ensures keeps { Stays (SessionTells S.tells self.old) (SessionTells S.tells self.new) }
         ensures still { IsStill self.old self.new }
         ensures same { self.new.allowance ≡ self.old.allowance }
+        ensures given_up { IsDeferredAt (slice_get self.new.ports.items port) → ⊥ }
     {
         if let Some(port) = self.ports.get_mut(port) {
             port.give_up();
@@ -203,6 +213,8 @@ impl<S: Stream> Session<S> {
     pub(crate) fn has_unsent(&self) -> bool
         ensures waits { result ≡ false → (p : ℕ) → IsUnsentAt (slice_get self.now.ports.items p) → ⊥ }
         ensures settled { result ≡ false → AreSettled self.now.ports.items }
+        ensures unsent { result ≡ true → HasUnsent self.now }
+        ensures nothing { result ≡ false → HasUnsent self.now → ⊥ }
     {
         for port in &self.ports {
             if port.has_unsent() {
@@ -228,6 +240,7 @@ impl<S: Stream> Session<S> {
         ensures sends { Moves (PortsTell S.tells self.old.ports.items) (PortsTell S.tells self.new.ports.items) KeepAllSent }
         ensures gone { result ≡ Rest.Gone → AreSettled self.new.ports.items }
         ensures sent { AreFlushed self.new.ports.items }
+        ensures told { EachPort TellsItsEnd self.new.ports.items }
         ensures still { IsStill self.old self.new }
         ensures same { self.new.allowance ≡ self.old.allowance }
     {
@@ -244,7 +257,8 @@ impl<S: Stream> Session<S> {
 }
 
 fn defer_all<S: Stream>(ports: &mut [Port<S>])
-    ensures { PortsAre (Calms S.tells) ports.old ports.new }
+    ensures calm { PortsAre (Calms S.tells) ports.old ports.new }
+    ensures deferred { EachPort WaitsForWrite ports.new }
 {
     for port in ports.iter_mut() {
         port.defer();
@@ -275,6 +289,7 @@ fn wind_up_all<S: Stream>(ports: &mut [Port<S>]) -> Rest
     ensures sends { PortsAre (WindsUp S.tells) ports.old ports.new }
     ensures gone { result ≡ Rest.Gone → AreSettled ports.new }
     ensures sent { AreFlushed ports.new }
+    ensures told { EachPort TellsItsEnd ports.new }
 {
     let mut rest = Rest::Gone;
     for port in ports.iter_mut() {

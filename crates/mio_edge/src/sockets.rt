@@ -8,6 +8,7 @@ ghost use Rattle.gate_hub.specs.Hubs.{LinkReads, LinkWrites};
 ghost use Rattle.mio_edge.specs.Admitting.{IfHere, IfNotHere};
 ghost use Rattle.mio_edge.specs.Fixed.{SocketsSame};
 ghost use Rattle.mio_edge.specs.Numbers.{AllAnnounced, Numbers, NumbersIfAny, Passes};
+ghost use Rattle.mio_edge.specs.Places.{AllHaveSent};
 ghost use Rattle.mio_edge.specs.Tables.{AtSession, Shuts, NamesIfAny, empty_world};
 ghost use Rattle.mio_edge.specs.Turning.{EventTurn, SocketsJoin, SocketsTurnIfTold};
 ghost use Rattle.mio_edge.specs.Winding.{SocketsWind, SocketsWindIfTold, SocketsClose};
@@ -184,6 +185,7 @@ impl<W: Network> Sockets<W> {
     pub fn next(&mut self) -> HubNext
         ensures moves { SocketsMove W.is_telling W.Stream.tells (EventMoves result) self.old self.new }
         ensures over { result ≡ event.Stopped → self.old.has_stopped ≡ false → NoneOpen W.is_telling W.Stream.tells self.old }
+        ensures sent { result ≡ event.Stopped → self.old.has_stopped ≡ false → AllHaveSent self.new ⊎ W.is_shared }
         ensures still { HasStopped W.is_shared self.old → result ≡ event.Stopped }
         ensures told { result ≡ event.Stopped → HasStopped W.is_shared self.new }
         ensures numbers { Numbers W.is_shared result self.old.announced self.new.announced }
@@ -283,6 +285,7 @@ impl<W: Network> Sockets<W> {
     fn advance(&mut self) -> Option<HubNext>
         ensures moves { SocketsMove W.is_telling W.Stream.tells (EventMovesIfAny result) self.old self.new }
         ensures over { result ≡ Some event.Stopped → NoneOpen W.is_telling W.Stream.tells self.old }
+        ensures sent { result ≡ Some event.Stopped → AllHaveSent self.new ⊎ W.is_shared }
         ensures told { result ≡ Some event.Stopped → HasStopped W.is_shared self.new }
         ensures numbers { NumbersIfAny W.is_shared result self.old.announced self.new.announced }
         ensures accept { self.new.accept ≡ self.old.accept }
@@ -335,6 +338,7 @@ impl<W: Network> Sockets<W> {
         requires { AllAnnounced self.old.accept self.old.announced ⊎ W.is_shared }
         ensures moves { SocketsMove W.is_telling W.Stream.tells (EventMovesIfAny result) self.old self.new }
         ensures over { result ≡ Some event.Stopped → NoneOpen W.is_telling W.Stream.tells self.old }
+        ensures sent { result ≡ Some event.Stopped → AllHaveSent self.new }
         ensures told { result ≡ Some event.Stopped → HasStopped W.is_shared self.new }
         ensures numbers { NumbersIfAny W.is_shared result self.old.announced self.new.announced }
         ensures accept { self.new.accept ≡ self.old.accept }
@@ -357,6 +361,7 @@ impl<W: Network> Sockets<W> {
         ensures keeps { SocketsStay W.is_telling W.Stream.tells self.old self.new }
         ensures result { result ≡ event.Stopped }
         ensures told { HasStopped W.is_shared self.new }
+        ensures listening { self.new.listening ≡ self.old.listening }
         ensures announced { self.new.announced ≡ self.old.announced }
         ensures accept { self.new.accept ≡ self.old.accept }
         ensures faults { self.new.faults ≡ self.old.faults }
@@ -403,6 +408,7 @@ impl<W: Network> Sockets<W> {
     fn is_over(&mut self) -> bool
         ensures keeps { SocketsStay W.is_telling W.Stream.tells self.old self.new }
         ensures over { result ≡ true → NoneOpen W.is_telling W.Stream.tells self.old }
+        ensures sent { result ≡ true → AllHaveSent self.new }
         ensures announced { self.new.announced ≡ self.old.announced }
         ensures accept { self.new.accept ≡ self.old.accept }
         ensures faults { self.new.faults ≡ self.old.faults }

@@ -1,20 +1,25 @@
 //! The sessions of a server by their places, and the queues of those that are to have a turn.
-ghost use Rattle.std.specs.Prelude.{◌≡◌, ◌≢◌, ◌<◌, ◌==◌, ◌≤◌, ◌∷◌, ◌++◌, not, [], ℕ, drop, length, true, false, None, Some, IsSome, IfSome, IfOk};
+ghost use Rattle.std.specs.Prelude.{◌≡◌, ◌≢◌, ◌<◌, ◌==◌, ◌≤◌, ◌+◌, ◌*◌, ◌^◌, ◌⊎◌, ◌∷◌, ◌++◌, not, [], ℕ, drop, length, true, false, None, Some, IsSome, IfSome, IfOk};
 ghost use Rattle.std.specs.List.{slice_get, filter};
 ghost use Rattle.gate_hub.specs.Hubs.{GotWithin, TookWithin, LinkReads, LinkWrites};
-ghost use Rattle.slab.specs.Slab.{get};
-ghost use Rattle.mio_edge.specs.Closing.{Winds, WindsBesideIfAny, OthersStay, PutsAt, TableCloses, ClosesEntry, HoldsFlushed, HoldsSettled, winds_nowhere, winds_on};
+ghost use Rattle.std.specs.Vec.{vec_len, vec_capacity};
+ghost use Rattle.std.specs.VecDeque.{deque_len};
+ghost use Rattle.slab.specs.Slab.{HasRoomFor, get};
+ghost use Rattle.mio_edge.specs.Closing.{Winds, WindsBesideIfAny, OthersStay, PutsAt, TableCloses, TellsItsEnd, ClosesEntry, HoldsFlushed, HoldsSettled, winds_nowhere, winds_on};
+ghost use Rattle.mio_edge.specs.Connecting.{Connects, EachPortAt, HasPortAt, IsDeferredIn, WaitsForWrite};
 ghost use Rattle.mio_edge.specs.Order.{Grows, JoinsBehind, MovesOn, SameTurns, TurnsIfTold};
 ghost use Rattle.mio_edge.specs.Fixed.{settings_on, settings_same};
 ghost use Rattle.mio_edge.specs.Lines.{moves_still, moves_on_further};
-ghost use Rattle.mio_edge.specs.Steps.{TakesTurns};
+ghost use Rattle.mio_edge.specs.Steps.{StaysShut, TakesTurns};
 ghost use Rattle.mio_edge.specs.Wire.{Moves, Stays, new_wire};
 ghost use Rattle.mio_edge.specs.Tables.{World, TableTells, IsNew, IsPrepared, IsClosedAt, AtSession, Shuts, MovesAt, RisesFrom, SpareTells, place_of, empty_world};
 ghost use Rattle.mio_edge.specs.Tables.{IfPrepared, TableAnnounces};
 ghost use Rattle.mio_edge.specs.Tables.{HasVacancy, IsEntry, NamesIfAny, NotesToken};
 ghost use Rattle.mio_edge.specs.Moving.{IsBegun};
+ghost use Rattle.mio_edge.specs.Places.{AllSent, HasNoPlace, HasNoPlaceWhere, ListsClosed, NoneGives, quantum_for};
 ghost use Rattle.mio_edge.specs.Sessions.{PortsTell, new_links};
-ghost use Rattle.mio_edge.specs.Turns.{IsIdleAt, TakesFirst, turns_of};
+ghost use Rattle.mio_edge.specs.Turns.{IsIdleAt, IsQueuedAt, TakesFirst, turns_of};
+ghost use Rattle.mio_edge.specs.declared.table.TheConstants.{MOST_WRITTEN};
 
 use crate::Stream;
 use crate::network::{Readiness, Reports};
@@ -88,6 +93,7 @@ impl<S: Stream> Table<S> {
     pub(crate) fn open(alloc: Global, places: usize, width: usize) -> Result<Table<S>, OutOfMemory>
         ensures empty { IfOk result (λ table. TableTells S.tells table empty_world) }
         ensures width { IfOk result (λ table. table.settings.width ≡ width) }
+        ensures quantum { IfOk result (λ table. table.settings.quantum ≡ quantum_for places) }
     {
         let quantum = if places <= FEW_PLACES {
             LARGE_BUFFERS
@@ -117,7 +123,9 @@ impl<S: Stream> Table<S> {
 
     /// Whether no session is open, and nothing is to be sent to those that are closed.
     pub(crate) fn is_done(&self) -> bool
-        ensures { result ≡ true → self.now.entries.items ≡ [] }
+        ensures closed { result ≡ true → self.now.entries.items ≡ [] }
+        ensures sent { result ≡ true → AllSent self.now }
+        ensures all { self.now.entries.items ≡ [] → AllSent self.now → result ≡ true }
     {
         if !self.entries.is_empty() {
             return false;
@@ -133,18 +141,25 @@ impl<S: Stream> Table<S> {
     }
 
     /// Whether no session is left, not even a closed one.
-    pub(crate) fn is_empty(&self) -> bool {
+    pub(crate) fn is_empty(&self) -> bool
+        ensures none { result ≡ true → (self.now.entries.items ≡ []) × (self.now.closed.items ≡ []) }
+        ensures all { self.now.entries.items ≡ [] → self.now.closed.items ≡ [] → result ≡ true }
+    {
         self.entries.is_empty() && self.closed.is_empty()
     }
 
     /// Whether a new connection finds a place.
-    pub(crate) fn has_place(&self) -> bool {
+    pub(crate) fn has_place(&self) -> bool
+        ensures none { result ≡ false → HasNoPlace self.now }
+        ensures some { result ≡ true → HasNoPlace self.now → ⊥ }
+    {
         !self.spare.is_empty() || self.find_sent().is_some()
     }
 
     /// Whether a session waits for a turn behind those that are reported next.
     pub(crate) fn has_behind(&self) -> bool
-        ensures { result ≡ false → self.now.behind.places.items ≡ [] }
+        ensures none { result ≡ false → self.now.behind.places.items ≡ [] }
+        ensures some { result ≡ true → self.now.behind.places.items ≢ [] }
     {
         !self.behind.is_empty()
     }
@@ -156,6 +171,7 @@ impl<S: Stream> Table<S> {
         ensures prepared { (world : World) → TableTells S.tells self.old world → IfPrepared S.tells number result self.new }
         ensures winds { WindsBesideIfAny S.tells result self.old.sessions self.new.sessions }
         ensures turns { SameTurns self.old self.new }
+        ensures none { (world : World) → TableTells S.tells self.old world → result ≡ None → HasNoPlaceWhere self.old }
         ensures same { self.new.settings ≡ self.old.settings }
     {
         self.make_place();
@@ -171,6 +187,7 @@ impl<S: Stream> Table<S> {
         ensures keeps { Stays (TableTells S.tells self.old) (TableTells S.tells self.new) }
         ensures winds { Winds S.tells self.old.sessions self.new.sessions }
         ensures turns { SameTurns self.old self.new }
+        ensures none { self.new.spare.items ≡ [] → HasNoPlaceWhere self.old }
         ensures same { self.new.settings ≡ self.old.settings }
     {
         if self.spare.is_empty() {
@@ -183,6 +200,7 @@ impl<S: Stream> Table<S> {
         ensures keeps { IsNew S.tells session → Stays (HasVacancy S.tells self.old) (TableTells S.tells self.new) }
         ensures prepared { IsNew S.tells session → (world : World) → HasVacancy S.tells self.old world → IfPrepared S.tells session.number result self.new }
         ensures puts { PutsAt result self.old.sessions self.new.sessions }
+        ensures full { result ≡ None → HasRoomFor self.old.sessions 1 → ⊥ }
         ensures turns { SameTurns self.old self.new }
         ensures same { self.new.settings ≡ self.old.settings }
     {
@@ -190,7 +208,9 @@ impl<S: Stream> Table<S> {
     }
 
     /// Where what comes of a port of the session at a place is reported.
-    pub(crate) fn token(&self, place: usize, port: usize) -> usize {
+    pub(crate) fn token(&self, place: usize, port: usize) -> usize
+        ensures { self.now.settings.width * place + port < 2 ^ 64 → result ≡ self.now.settings.width * place + port }
+    {
         self.settings.width.wrapping_mul(place).wrapping_add(port)
     }
 
@@ -203,6 +223,9 @@ impl<S: Stream> Table<S> {
         ensures prepared { (k : ℕ) → S.tells stream new_wire → IsPrepared S.tells self.old place k → IsPrepared S.tells self.new place k }
         ensures others { OthersStay place self.old.sessions self.new.sessions }
         ensures turns { SameTurns self.old self.new }
+        ensures there { result ≡ true → HasPortAt self.old.sessions place port }
+        ensures all { HasPortAt self.old.sessions place port → result ≡ true }
+        ensures connects { Connects stream sending place port self.old.sessions self.new.sessions }
         ensures same { self.new.settings ≡ self.old.settings }
     {
         match self.sessions.get_mut(place) {
@@ -219,6 +242,7 @@ impl<S: Stream> Table<S> {
         ensures keeps { Stays (TableTells S.tells self.old) (TableTells S.tells self.new) }
         ensures others { OthersStay place self.old.sessions self.new.sessions }
         ensures turns { SameTurns self.old self.new }
+        ensures deferred { EachPortAt WaitsForWrite self.new.sessions place }
         ensures same { self.new.settings ≡ self.old.settings }
     {
         if let Some(session) = self.sessions.get_mut(place) {
@@ -227,7 +251,10 @@ impl<S: Stream> Table<S> {
     }
 
     /// The place of an open session whose connection of a port is to be begun.
-    pub(crate) fn find_deferred(&self, number: u64, port: usize) -> Option<usize> {
+    pub(crate) fn find_deferred(&self, number: u64, port: usize) -> Option<usize>
+        ensures deferred { IfSome result (λ place. IsDeferredIn self.now.sessions place port) }
+        ensures open { (world : World) → TableTells S.tells self.now world → IfSome result (λ place. place_of self.now.entries.items number ≡ Some place) }
+    {
         let place = self.find(number)?;
         let session = self.sessions.get(place)?;
         if session.is_deferred(port) {
@@ -241,6 +268,7 @@ impl<S: Stream> Table<S> {
     pub(crate) fn give_up(&mut self, place: usize, port: usize)
         ensures keeps { Stays (TableTells S.tells self.old) (TableTells S.tells self.new) }
         ensures turns { SameTurns self.old self.new }
+        ensures given_up { IsDeferredIn self.new.sessions place port → ⊥ }
         ensures same { self.new.settings ≡ self.old.settings }
     {
         if let Some(session) = self.sessions.get_mut(place) {
@@ -254,6 +282,7 @@ impl<S: Stream> Table<S> {
         ensures opens { result ≡ true → IsPrepared S.tells self.old place number → TableAnnounces S.tells number self.old self.new }
         ensures kept { result ≡ false → self.new ≡ self.old }
         ensures others { OthersStay place self.old.sessions self.new.sessions }
+        ensures refused { result ≡ false → (vec_capacity self.old.entries ≤ vec_len self.old.entries) ⊎ (get self.old.sessions place ≡ None) }
         ensures same { self.new.settings ≡ self.old.settings }
     {
         if self.entries.len() >= self.entries.capacity() {
@@ -285,7 +314,8 @@ impl<S: Stream> Table<S> {
 
     /// Whether a session is to have a turn before the next wait.
     pub(crate) fn has_ready(&self) -> bool
-        ensures { result ≡ false → self.now.ready.places.items ≡ [] }
+        ensures none { result ≡ false → self.now.ready.places.items ≡ [] }
+        ensures some { result ≡ true → self.now.ready.places.items ≢ [] }
     {
         !self.ready.is_empty()
     }
@@ -298,6 +328,7 @@ impl<S: Stream> Table<S> {
         ensures winds { Winds S.tells self.old.sessions self.new.sessions }
         ensures turn { TurnsIfTold S.tells result self.old self.new }
         ensures steps { TakesTurns self.old self.new }
+        ensures none { result ≡ None → self.new.ready.places.items ≡ [] }
         ensures same { self.new.settings ≡ self.old.settings }
     {
         for _ in 0..self.ready.len() {
@@ -316,6 +347,7 @@ impl<S: Stream> Table<S> {
         ensures winds { Winds S.tells self.old.sessions self.new.sessions }
         ensures turn { TurnsIfTold S.tells result self.old self.new }
         ensures steps { TakesTurns self.old self.new }
+        ensures taken { self.new.ready.places.items ≡ drop 1 self.old.ready.places.items }
         ensures same { self.new.settings ≡ self.old.settings }
     {
         let Some(place) = self.ready.pop() else {
@@ -348,6 +380,7 @@ impl<S: Stream> Table<S> {
         ensures keeps { Stays (TableTells S.tells self.old) (TableTells S.tells self.new) }
         ensures winds { Winds S.tells self.old.sessions self.new.sessions }
         ensures turn { MovesOn [] self.old self.new }
+        ensures few { deque_len self.new.written.places < MOST_WRITTEN }
         ensures same { self.new.settings ≡ self.old.settings }
     {
         if self.written.len() >= MOST_WRITTEN {
@@ -465,6 +498,7 @@ impl<S: Stream> Table<S> {
         ensures winds { Winds S.tells self.old.sessions self.new.sessions }
         ensures ready { self.new.ready ≡ self.old.ready }
         ensures behind { self.new.behind ≡ self.old.behind }
+        ensures listed { get self.old.sessions result ≢ None → ListsClosed result self.old self.new }
         ensures same { self.new.settings ≡ self.old.settings }
     {
         let place = self.entries.remove(at).place;
@@ -485,6 +519,9 @@ impl<S: Stream> Table<S> {
         ensures keeps { IsClosedAt self.old.sessions place → Stays (TableTells S.tells self.old) (TableTells S.tells self.new) }
         ensures winds { Winds S.tells self.old.sessions self.new.sessions }
         ensures sent { HoldsFlushed self.new.sessions place }
+        ensures told { EachPortAt TellsItsEnd self.new.sessions place }
+        ensures others { OthersStay place self.old.sessions self.new.sessions }
+        ensures shut { StaysShut place self.old.sessions self.new.sessions }
         ensures behind { Grows self.old.behind self.new.behind }
         ensures entries { self.new.entries ≡ self.old.entries }
         ensures same { self.new.settings ≡ self.old.settings }
@@ -507,6 +544,10 @@ impl<S: Stream> Table<S> {
         ensures keeps { Stays (TableTells S.tells self.old) (TableTells S.tells self.new) }
         ensures winds { Winds S.tells self.old.sessions self.new.sessions }
         ensures flushed { HoldsFlushed self.old.sessions place → HoldsFlushed self.new.sessions place }
+        ensures told { EachPortAt TellsItsEnd self.old.sessions place → EachPortAt TellsItsEnd self.new.sessions place }
+        ensures others { OthersStay place self.old.sessions self.new.sessions }
+        ensures shut { StaysShut place self.old.sessions self.new.sessions }
+        ensures stands { (world : World) → TableTells S.tells self.old world → get self.old.sessions place ≢ None → IsQueuedAt self.new.sessions place }
         ensures behind { Grows self.old.behind self.new.behind }
         ensures entries { self.new.entries ≡ self.old.entries }
         ensures same { self.new.settings ≡ self.old.settings }
@@ -524,6 +565,7 @@ impl<S: Stream> Table<S> {
         ensures others { OthersStay place self.old.sessions self.new.sessions }
         ensures free { get self.new.sessions place ≡ None }
         ensures winds { HoldsSettled self.old.sessions place → Winds S.tells self.old.sessions self.new.sessions }
+        ensures spares { vec_len self.old.spare < vec_capacity self.old.spare → get self.old.sessions place ≢ None → self.new.spare.items ≢ [] }
         ensures turns { SameTurns self.old self.new }
         ensures same { self.new.settings ≡ self.old.settings }
     {
@@ -542,6 +584,7 @@ impl<S: Stream> Table<S> {
         ensures keeps { Stays (TableTells S.tells self.old) (TableTells S.tells self.new) }
         ensures winds { Winds S.tells self.old.sessions self.new.sessions }
         ensures turns { SameTurns self.old self.new }
+        ensures none { vec_len self.old.spare < vec_capacity self.old.spare → self.new.spare.items ≡ [] → NoneGives self.old }
         ensures same { self.new.settings ≡ self.old.settings }
     {
         if let Some(place) = self.find_sent() {
@@ -553,6 +596,9 @@ impl<S: Stream> Table<S> {
     fn find_sent(&self) -> Option<usize>
         ensures idle { (world : World) → TableTells S.tells self.now world → IfSome result (λ place. IsIdleAt self.now.sessions place) }
         ensures settled { IfSome result (λ place. HoldsSettled self.now.sessions place) }
+        ensures stands { IfSome result (λ place. get self.now.sessions place ≢ None) }
+        ensures some { IfSome result (λ place. NoneGives self.now → ⊥) }
+        ensures none { result ≡ None → NoneGives self.now }
     {
         for place in &self.closed {
             if let Some(session) = self.sessions.get(*place)

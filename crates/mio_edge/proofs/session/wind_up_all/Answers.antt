@@ -1,7 +1,8 @@
 use Rattle.std.proofs.Common.{arith}
-use Rattle.mio_edge.specs.Closing.{WindsUp}
+use Rattle.mio_edge.specs.Closing.{WindsUp, TellsItsEnd}
 use Rattle.mio_edge.proofs.Sessions.{all_moved, moved_step}
 use Rattle.mio_edge.proofs.Closing.{all_settled, settled_step, all_flushed, flushed_step}
+use Rattle.mio_edge.proofs.Each.{all_first, first_step}
 use Rattle.mio_edge.proofs.session.wind_up_all.Goals as goal
 
 pub returns-clause-sends : goal.returns-clause-sends
@@ -13,6 +14,9 @@ returns-clause-gone g c = λ is. all_settled c.loop-port.port-index c.loop-port.
 pub returns-clause-sent : goal.returns-clause-sent
 returns-clause-sent g c = all_flushed c.loop-port.port-index c.loop-port.ports (omega (arith, c.loop-port.invariant.sends.long)) c.loop-port.invariant.sent
 
+pub returns-clause-told : goal.returns-clause-told
+returns-clause-told g c = all_first (λ port. TellsItsEnd port) c.loop-port.port-index c.loop-port.ports (omega (arith, c.loop-port.invariant.sends.long)) c.loop-port.invariant.told
+
 pub loop-port-preserved : goal.loop-port-preserved
 loop-port-preserved g c = record {
   sends = moved_step (WindsUp g.S.Stream.tells) c.loop-port.port-index c.args.ports.now c.loop-port.ports c.port-item.result c.wind_up.new.self (omega arith) c.loop-port.invariant.sends (record { sends = c.wind_up.ensures.sends });
@@ -20,4 +24,5 @@ loop-port-preserved g c = record {
       let both = c.further_back-rest.ensures is in
       settled_step c.loop-port.port-index c.loop-port.ports c.wind_up.new.self (omega arith) (c.loop-port.invariant.gone both.0) (c.wind_up.ensures.gone both.1);
   sent = flushed_step c.loop-port.port-index c.loop-port.ports c.wind_up.new.self (omega arith) c.loop-port.invariant.sent c.wind_up.ensures.sent;
+  told = first_step (λ port. TellsItsEnd port) c.loop-port.port-index c.loop-port.ports c.wind_up.new.self (omega arith) c.loop-port.invariant.told c.wind_up.ensures.told;
 }

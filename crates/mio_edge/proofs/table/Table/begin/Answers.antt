@@ -56,3 +56,10 @@ returns-clause-winds g c = put_beside g.S.Stream.tells c.insert.result c.args.se
 
 pub returns-clause-turns : goal.returns-clause-turns
 returns-clause-turns g c = same_turns_on c.args.self.now c.make_place.new.self c.insert.new.self c.make_place.ensures.turns (record { ready = c.insert.ensures.turns.ready; behind = c.insert.ensures.turns.behind; entries = c.insert.ensures.turns.entries })
+
+pub returns-clause-none : goal.returns-clause-none
+returns-clause-none g c = λ world told none room.
+    let s = c.make_place.new.self in
+    let made = c.make_place.ensures.keeps world told in
+    let long : length s.spare.items ≡ length c.pop.new.self.items + 1 = ap length c.in-Some.ensures.items ∙ length-append c.pop.new.self.items (c.in-Some.ports ∷ []) in
+    absurd (c.insert.ensures.full none (omega (arith, made.1.fits, long)))

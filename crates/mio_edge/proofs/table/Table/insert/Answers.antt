@@ -1,5 +1,6 @@
 use Rattle.mio_edge.proofs.Tables.{insert_keeps, insert_prepares}
 use Rattle.mio_edge.proofs.Closing.{puts_at}
+use Rattle.mio_edge.proofs.Places.{refused}
 use Rattle.mio_edge.proofs.table.Table.insert.Goals as goal
 
 pub returns-clause-keeps : goal.returns-clause-keeps
@@ -10,3 +11,6 @@ returns-clause-prepared g c = λ new world vacant. insert_prepares g.S.Stream.te
 
 pub returns-clause-puts : goal.returns-clause-puts
 returns-clause-puts g c = puts_at c.args.self.now.sessions c.insert.new.self c.args.session c.insert.result c.ok.result c.ok.ensures.value c.insert.ensures.was_vacant c.insert.ensures.updates c.insert.ensures.err
+
+pub returns-clause-full : goal.returns-clause-full
+returns-clause-full g c = refused _ c.insert.result c.ok.result c.ok.ensures.value c.insert.ensures.succeeds

@@ -1,11 +1,12 @@
-use Rattle.std.proofs.Common.{[], ◌∷◌, ◌++◌, None, Some, append_assoc, refl, sym, ap, ◌∙◌, subst}
+use Rattle.std.proofs.Common.{[], ◌∷◌, ◌++◌, drop, None, Some, append_assoc, refl, sym, ap, ◌∙◌, subst}
 use Rattle.mio_edge.specs.Tables.{TableTells, NamesIfAny}
 use Rattle.mio_edge.specs.Turns.{TakesFirst}
 use Rattle.mio_edge.specs.Closing.{winds_nowhere, winds_on}
 use Rattle.mio_edge.specs.Order.{InTurn}
-use Rattle.mio_edge.specs.Steps.{no_step, turns_on}
+use Rattle.mio_edge.proofs.Steps.{no_turn, turns_on}
 use Rattle.mio_edge.specs.Lines.{moves_still}
 use Rattle.mio_edge.proofs.Order.{turn_on}
+use Rattle.mio_edge.proofs.Tables.{drop_one}
 use Rattle.mio_edge.proofs.table.Table.next_ready.Goals as goal
 
 pub returns-clause-names : goal.returns-clause-names
@@ -14,6 +15,7 @@ returns-clause-names g c = λ world told. (world, c.loop.invariant.keeps world t
 pub loop-preserved : goal.loop-preserved
 loop-preserved g c = record {
   steps = turns_on c.args.self.now c.loop.self c.turn_first.new.self c.loop.invariant.steps c.turn_first.ensures.steps;
+  left = c.turn_first.ensures.taken ∙ (ap (drop 1) c.loop.invariant.left ∙ drop_one c.loop.counter c.args.self.now.ready.places.items);
   same = c.turn_first.ensures.same ∙ c.loop.invariant.same;
   keeps = λ world told.
       let moved = c.turn_first.ensures.names world (c.loop.invariant.keeps world told) in
@@ -44,7 +46,8 @@ returns-in-Some-clause-turn g c = λ world told.
 
 pub loop-init : goal.loop-init
 loop-init g c = record {
-  steps = no_step c.args.self.now c.args.self.now refl refl;
+  steps = no_turn c.args.self.now c.args.self.now refl refl;
+  left = refl;
   same = refl;
   keeps = λ world told. told;
   front = ([], refl);
@@ -57,3 +60,8 @@ returns-clause-steps g c = c.loop.invariant.steps
 
 pub returns-in-Some-clause-steps : goal.returns-in-Some-clause-steps
 returns-in-Some-clause-steps g c = turns_on c.args.self.now c.loop.self c.turn_first.new.self c.loop.invariant.steps c.turn_first.ensures.steps
+
+pub returns-in-Some-clause-names : goal.returns-in-Some-clause-names
+returns-in-Some-clause-names g c = λ world told.
+    let moved = c.turn_first.ensures.names world (c.loop.invariant.keeps world told) in
+    (moved.0, moved.1, subst (λ o. NamesIfAny o world moved.0) c.in-Some.is moved.2)

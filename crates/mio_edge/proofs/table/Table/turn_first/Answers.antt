@@ -9,8 +9,8 @@ use Rattle.mio_edge.proofs.Standing.{not_free, put_twice, put_over, written_down
 use Rattle.mio_edge.proofs.Tables.{moved_at, still_closed, named_at, session_named}
 use Rattle.mio_edge.proofs.Turns.{queues_popped}
 use Rattle.mio_edge.specs.Closing.{winds_on}
-use Rattle.mio_edge.proofs.Closing.{winds_same, winds_open, flushed_none, not_shut}
-use Rattle.mio_edge.specs.Steps.{one_step, no_step}
+use Rattle.mio_edge.proofs.Closing.{winds_same, winds_open, others_put, others_on}
+use Rattle.mio_edge.proofs.Steps.{no_turn, one_turn, lost_turn, open_turn, stays_put, stays_on}
 use Rattle.mio_edge.specs.Lines.{grows_same, line_first, none_closed}
 use Rattle.mio_edge.specs.declared.queue.Queue.{Queue}
 use Rattle.mio_edge.proofs.Order.{one_closed}
@@ -201,24 +201,34 @@ returns-clause-turn g c = λ world told.
     )
 
 pub returns-in_default-clause-steps : goal.returns-in_default-clause-steps
-returns-in_default-clause-steps g c = no_step c.args.self.now _ (sym c.in_default.ensures.first) refl
+returns-in_default-clause-steps g c = no_turn c.args.self.now _ c.in_default.ensures.first refl
 
 pub returns-in_default-get_mut-clause-steps : goal.returns-in_default-get_mut-clause-steps
-returns-in_default-get_mut-clause-steps g c = one_step c.in-Some.place c.args.self.now _ c.in-Some.ensures.first (λ shut. flushed_none c.args.self.now.sessions c.in-Some.place (sym c.in_default-get_mut.ensures.value))
+returns-in_default-get_mut-clause-steps g c = lost_turn c.in-Some.place c.args.self.now _ c.in-Some.ensures.first refl (sym c.in_default-get_mut.ensures.value)
 
 pub returns-then-not-session-clause-steps : goal.returns-then-not-session-clause-steps
 returns-then-not-session-clause-steps g c =
+    let s = c.args.self.now in
     let place = c.in-Some.place in
-    one_step place c.args.self.now c.wind_up.new.self (c.in-Some.ensures.first ∙ ap (λ (q : Queue). place ∷ q.places.items) (sym c.wind_up.ensures.ready)) (λ shut. c.wind_up.ensures.sent)
+    let a = c.in-Some-get_mut.session.now in
+    let b : Session g.row.S.Denot = record a { is_queued = false } in
+    let was = sym c.in-Some-get_mut.ensures.value in
+    let d = c.wind_up.new.self.sessions in
+    one_turn place s c.wind_up.new.self (c.in-Some.ensures.first ∙ ap (λ (q : Queue). place ∷ q.places.items) (sym c.wind_up.ensures.ready))
+    (others_on place s.sessions (with_value s.sessions place b) d (others_put s.sessions place a b was) c.wind_up.ensures.others)
+    (stays_on place s.sessions (with_value s.sessions place b) d (stays_put place s.sessions a b was refl) c.wind_up.ensures.shut) (λ shut. c.wind_up.ensures.sent)
 
 pub returns-then-not-has_unsent-clause-steps : goal.returns-then-not-has_unsent-clause-steps
 returns-then-not-has_unsent-clause-steps g c =
-    one_step c.in-Some.place c.args.self.now _ c.in-Some.ensures.first (λ shut. absurd (not_shut c.args.self.now.sessions c.in-Some.place c.in-Some-get_mut.session.now (sym c.in-Some-get_mut.ensures.value) c.if-not-session.false shut))
+    open_turn c.in-Some.place c.args.self.now _ c.in-Some-get_mut.session.now c.begin_turn.new.self c.in-Some.ensures.first (sym c.in-Some-get_mut.ensures.value) c.if-not-session.false refl
 
 pub returns-then-write_down-clause-steps : goal.returns-then-write_down-clause-steps
 returns-then-write_down-clause-steps g c =
-    one_step c.in-Some.place c.args.self.now _ c.in-Some.ensures.first (λ shut. absurd (not_shut c.args.self.now.sessions c.in-Some.place c.in-Some-get_mut.session.now (sym c.in-Some-get_mut.ensures.value) c.if-not-session.false shut))
+    open_turn c.in-Some.place c.args.self.now _ c.in-Some-get_mut.session.now c.write_down.new.self c.in-Some.ensures.first (sym c.in-Some-get_mut.ensures.value) c.if-not-session.false refl
 
 pub returns-clause-steps : goal.returns-clause-steps
 returns-clause-steps g c =
-    one_step c.in-Some.place c.args.self.now _ c.in-Some.ensures.first (λ shut. absurd (not_shut c.args.self.now.sessions c.in-Some.place c.in-Some-get_mut.session.now (sym c.in-Some-get_mut.ensures.value) c.if-not-session.false shut))
+    open_turn c.in-Some.place c.args.self.now _ c.in-Some-get_mut.session.now c.stand_in.new.self c.in-Some.ensures.first (sym c.in-Some-get_mut.ensures.value) c.if-not-session.false refl
+
+pub returns-then-not-session-clause-taken : goal.returns-then-not-session-clause-taken
+returns-then-not-session-clause-taken g c = ap (λ (q : Queue). q.places.items) c.wind_up.ensures.ready ∙ c.in-Some.ensures.rest

@@ -2,8 +2,11 @@ use Rattle.std.proofs.Common.{sym, ◌∙◌}
 use Rattle.mio_edge.proofs.Standing.{closed_moved, put_idle}
 use Rattle.slab.specs.Slab.{with_value}
 use Rattle.mio_edge.specs.Closing.{winds_on}
-use Rattle.mio_edge.proofs.Closing.{winds_moved, settled_at, flushed_at, flushed_none}
+use Rattle.mio_edge.proofs.Closing.{winds_moved, settled_at, flushed_at, flushed_none, others_put, others_on}
+use Rattle.mio_edge.proofs.Steps.{stays_put, stays_on, stays_free}
 use Rattle.mio_edge.specs.Lines.{grows_same}
+use Rattle.mio_edge.specs.Closing.{TellsItsEnd}
+use Rattle.mio_edge.proofs.Places.{each_at, each_free}
 use Rattle.mio_edge.proofs.table.Table.wind_up.Goals as goal
 
 pub returns-in-Unsent-clause-keeps : goal.returns-in-Unsent-clause-keeps
@@ -72,3 +75,51 @@ returns-in-Gone-clause-sent g c = flushed_at c.args.self.now.sessions c.args.pla
 
 pub returns-in-Gone-2-clause-sent : goal.returns-in-Gone-2-clause-sent
 returns-in-Gone-2-clause-sent g c = flushed_none c.release.new.self.sessions c.args.place c.release.ensures.free
+
+pub returns-in-Unsent-clause-others : goal.returns-in-Unsent-clause-others
+returns-in-Unsent-clause-others g c = others_put c.args.self.now.sessions c.args.place c.in-Some.session.now c.wind_up.new.self (sym c.in-Some.ensures.value)
+
+pub returns-in-Unsent-clause-shut : goal.returns-in-Unsent-clause-shut
+returns-in-Unsent-clause-shut g c = stays_put c.args.place c.args.self.now.sessions c.in-Some.session.now c.wind_up.new.self (sym c.in-Some.ensures.value) c.wind_up.ensures.still.is_open
+
+pub returns-in-Gone-clause-others : goal.returns-in-Gone-clause-others
+returns-in-Gone-clause-others g c = others_put c.args.self.now.sessions c.args.place c.in-Some.session.now c.wind_up.new.self (sym c.in-Some.ensures.value)
+
+pub returns-in-Gone-clause-shut : goal.returns-in-Gone-clause-shut
+returns-in-Gone-clause-shut g c = stays_put c.args.place c.args.self.now.sessions c.in-Some.session.now c.wind_up.new.self (sym c.in-Some.ensures.value) c.wind_up.ensures.still.is_open
+
+pub returns-in-Unread-clause-others : goal.returns-in-Unread-clause-others
+returns-in-Unread-clause-others g c =
+    let a = c.args.self.now.sessions in
+    let b = with_value a c.args.place c.wind_up.new.self in
+    others_on c.args.place a b c.put_behind.new.self.sessions (others_put a c.args.place c.in-Some.session.now c.wind_up.new.self (sym c.in-Some.ensures.value)) c.put_behind.ensures.others
+
+pub returns-in-Unread-clause-shut : goal.returns-in-Unread-clause-shut
+returns-in-Unread-clause-shut g c =
+    let a = c.args.self.now.sessions in
+    let b = with_value a c.args.place c.wind_up.new.self in
+    stays_on c.args.place a b c.put_behind.new.self.sessions (stays_put c.args.place a c.in-Some.session.now c.wind_up.new.self (sym c.in-Some.ensures.value) c.wind_up.ensures.still.is_open) c.put_behind.ensures.shut
+
+pub returns-in-Gone-2-clause-others : goal.returns-in-Gone-2-clause-others
+returns-in-Gone-2-clause-others g c =
+    let a = c.args.self.now.sessions in
+    let b = with_value a c.args.place c.wind_up.new.self in
+    others_on c.args.place a b c.release.new.self.sessions (others_put a c.args.place c.in-Some.session.now c.wind_up.new.self (sym c.in-Some.ensures.value)) c.release.ensures.others
+
+pub returns-in-Gone-2-clause-shut : goal.returns-in-Gone-2-clause-shut
+returns-in-Gone-2-clause-shut g c = stays_free c.args.place c.args.self.now.sessions c.release.new.self.sessions c.release.ensures.free
+
+pub returns-in_default-clause-told : goal.returns-in_default-clause-told
+returns-in_default-clause-told g c = each_free (λ port. TellsItsEnd port) c.args.self.now.sessions c.args.place (sym c.in_default.ensures.value)
+
+pub returns-in-Unsent-clause-told : goal.returns-in-Unsent-clause-told
+returns-in-Unsent-clause-told g c = each_at (λ port. TellsItsEnd port) c.args.self.now.sessions c.args.place c.in-Some.session.now c.wind_up.new.self (sym c.in-Some.ensures.value) c.wind_up.ensures.told
+
+pub returns-in-Unread-clause-told : goal.returns-in-Unread-clause-told
+returns-in-Unread-clause-told g c = c.put_behind.ensures.told (each_at (λ port. TellsItsEnd port) c.args.self.now.sessions c.args.place c.in-Some.session.now c.wind_up.new.self (sym c.in-Some.ensures.value) c.wind_up.ensures.told)
+
+pub returns-in-Gone-clause-told : goal.returns-in-Gone-clause-told
+returns-in-Gone-clause-told g c = each_at (λ port. TellsItsEnd port) c.args.self.now.sessions c.args.place c.in-Some.session.now c.wind_up.new.self (sym c.in-Some.ensures.value) c.wind_up.ensures.told
+
+pub returns-in-Gone-2-clause-told : goal.returns-in-Gone-2-clause-told
+returns-in-Gone-2-clause-told g c = each_free (λ port. TellsItsEnd port) c.release.new.self.sessions c.args.place c.release.ensures.free
