@@ -32,6 +32,7 @@ use Rattle.thrift_value.specs.declared.kind.MessageType.{MessageType}
 use Rattle.protocol_traits.specs.Heads.{Header}
 use Rattle.protocol_traits.specs.Stack.{first_of}
 use Rattle.protocol_traits.specs.Steps.{Step, told}
+use Rattle.protocol_traits.specs.Varints.{ReadsVarints}
 use Rattle.compact_protocol.specs.Codes.{kind_of}
 use Rattle.compact_protocol.specs.Scan.{Scan, fault, front_at, shifted, varint16_at, varint32_at, varint64_at, id_at, size_at, string_at, next_id, long_field, field_of, field_at, flag_of, i16_at, i32_at, i64_at, double_at, text_at, uuid_at, elements_at, set_at, list_at, kinds_at, map_at, value_at, value_in, opens, is_bool, field_value, next_of, item_in}
 use Rattle.compact_protocol.specs.Reading.{State, rest, begun, moved, reads, reads_head, reads_end, scan_at}
@@ -194,6 +195,23 @@ i32_there frame at number behind n = (rw (n.found) refl, n.past, n.within)
 pub i64_there : (frame : List ℕ) (at number behind : ℕ) → Number frame at 10 64 number behind → Finds frame at (value_at kinds.I64) (i64_value (unfolded number)) behind
 unfolding value_at i64_at varint64_at
 i64_there frame at number behind n = (rw (n.found) refl, n.past, n.within)
+
+-- a varint that stands at a place
+number_found : (frame : List ℕ) (at most width number count : ℕ) → varint_at most width (drop at frame) ≡ Ok (number, count) → Number frame at most width number (at + count)
+number_found frame at most width number count found =
+    let size : Found width (length (drop at frame)) (Ok (number, count)) = subst (Found width (length (drop at frame))) found (varint_found most width (drop at frame)) in
+    let taken : count ≡ at + count - at = omega arith in
+    record { found = found ∙ ap (λ n. Ok (number, n)) taken; past = omega (arith, size.0); within = omega (arith, size.0, size.1, length-drop at frame); small = size.2 }
+
+pub reads_varints : ReadsVarints next_read stands_at
+reads_varints = record {
+  i16 = λ frame at number count stand found.
+      value_read frame at (at + count) stand kinds.I16 (i16_value (unfolded number)) refl (λ _. refl) (i16_there frame at number (at + count) (number_found frame at 5 16 number count found));
+  i32 = λ frame at number count stand found.
+      value_read frame at (at + count) stand kinds.I32 (i32_value (unfolded number)) refl (λ _. refl) (i32_there frame at number (at + count) (number_found frame at 5 32 number count found));
+  i64 = λ frame at number count stand found.
+      value_read frame at (at + count) stand kinds.I64 (i64_value (unfolded number)) refl (λ _. refl) (i64_there frame at number (at + count) (number_found frame at 10 64 number count found));
+}
 
 pub size_there : (frame : List ℕ) (at number behind : ℕ) → Number frame at 5 32 number behind → number < 2 ^ 31 → Finds frame at size_at number behind
 unfolding size_at varint32_at

@@ -1,5 +1,5 @@
 //! The reader's quick forms: one item at a place of a frame, by value.
-ghost use Rattle.std.specs.Prelude.{◌≡◌, ◌+◌, ◌≤◌, ◌<◌, ◌^◌, length, take, true, IfSome};
+ghost use Rattle.std.specs.Prelude.{◌≡◌, ◌+◌, ◌≤◌, ◌<◌, ◌^◌, length, take, true, false, IfSome};
 ghost use Rattle.thrift_value.specs.declared.kind.Kind.{Kind};
 ghost use Rattle.thrift_value.specs.Items.{bool_value, i8_value, i16_value, i32_value, i64_value, text, struct_begin, end, uuid_value};
 ghost use Rattle.protocol_traits.specs.declared.forms.Container.{Container};
@@ -8,6 +8,7 @@ ghost use Rattle.protocol_traits.specs.declared.forms.Opening.{Opening};
 ghost use Rattle.protocol_traits.specs.declared.proto.Hint.{Hint};
 ghost use Rattle.protocol_traits.specs.Forms.{elements_item, container_kind, pairs_item, part, double_item, IsPast, StepsLead, StepsFlag, StepsValue, StepsText, StepsInto, StepsEnd, ReadsHead};
 ghost use Rattle.protocol_traits.specs.Heads.{header_of};
+ghost use Rattle.protocol_traits.specs.Varints.{reads_none};
 ghost use Rattle.json_text.specs.declared.scanned.Scan.TheVariants.{Whole};
 ghost use Rattle.json_protocol.specs.Reading.{begun, reads};
 ghost use Rattle.json_protocol.specs.Head.{reads_head};
@@ -32,13 +33,24 @@ use thrift_value::Kind;
 impl<'f> FormRead for JsonRead<'f> {
     ghost hinted = { true };
 
+    ghost varints = { false };
+
     ghost ended = { whole_ends };
+
+    ghost reads_varints = { reads_none };
 
     #[inline(always)]
     fn is_hinted() -> bool
         ensures { result ≡ true }
     {
         true
+    }
+
+    #[inline(always)]
+    fn has_varints() -> bool
+        ensures { result ≡ false }
+    {
+        false
     }
 
     #[inline(always)]

@@ -6,3 +6,4 @@ pub mod Heads
 pub mod Steps
 pub mod Room
 pub mod Forms
+pub mod Varints

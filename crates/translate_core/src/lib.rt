@@ -13,6 +13,7 @@ mod laws;
 mod leaves;
 mod message;
 mod methods;
+mod numbers;
 mod passing;
 mod quick;
 mod route;

@@ -1,10 +1,10 @@
 -- The number at the front of some bytes, by the groups of seven bits up to its last byte.
-use Rattle.std.proofs.Common.{◌≡◌, ℕ, zero, suc, ◌+◌, ◌-◌, ◌*◌, ◌/◌, ◌%◌, ◌^◌, ◌<◌, ◌≤◌, Bool, true, false, not, cond, nat_lt, List, [], ◌∷◌, ◌++◌, map, length, take, drop, get_or, replicate, bit_and, Ok, arith, refl, sym, ap, subst, ◌∙◌, Fits, length-take, length-drop, add-zero, Some}
+use Rattle.std.proofs.Common.{◌≡◌, ℕ, zero, suc, ◌+◌, ◌-◌, ◌*◌, ◌/◌, ◌%◌, ◌^◌, ◌<◌, ◌≤◌, Bool, true, false, not, cond, nat_lt, List, [], ◌∷◌, ◌++◌, map, length, take, drop, get_or, replicate, bit_and, Ok, arith, refl, sym, ap, subst, ◌∙◌, Fits, length-take, length-drop, add-zero, add-one, Some}
 use Rattle.std.specs.Prelude.{Result}
 use Rattle.varint_zigzag.specs.declared.fault.VarFault.{VarFault}
 use Rattle.std.specs.Int.{w8, w64, from_le_bytes}
 use Rattle.std.specs.List.{prefix_len}
-use Rattle.std.proofs.lemmas.List.{get_or-drop}
+use Rattle.std.proofs.lemmas.List.{get_or-drop, length-take-le}
 use Rattle.std.proofs.lemmas.Bool.Decides.{nat_tests}
 use Rattle.std.proofs.lemmas.Nat.{and_mask, mod-pow-add, pow-add, pow_pos}
 use Rattle.std.proofs.Math.Pow.{pow_mono}
@@ -49,17 +49,6 @@ ends_before (b ∷ bytes) some = split (ends_before bytes) (nat_lt b 128) some
     split behind true h = omega arith
     split behind false h = let more = behind (omega arith) in omega arith
 
--- the lowest bit of the mask tells the last byte
-pub record Ending (bytes : List ℕ) (before : ℕ) : Type 0 where
-  pub few : before < 8
-  pub ended : IsEnded (suc before) bytes
-
-pub ended_by_mask : (eight : List ℕ) (mask : ℕ) → length eight ≡ 8 → mask ≡ mask_l (map is_last eight) → 0 < mask → Ending eight (count_trailing_zeros 64 mask)
-ended_by_mask eight mask long is some =
-    let before = ends_before eight (omega (arith, is)) in
-    let lowest : count_trailing_zeros 64 mask ≡ prefix_len (λ b. not (is_last b)) eight = ap (count_trailing_zeros 64) is ∙ trailing_mask_l is_last 64 eight (omega (arith, long)) (omega (arith, is)) in
-    subst (Ending eight) (sym lowest) (record { few = omega (arith, before, long); ended = ended_by_prefix eight before })
-
 ended_take : (n m : ℕ) (bytes : List ℕ) → IsEnded n (take m bytes) → IsEnded n bytes
 ended_take zero m bytes e = absurd e
 ended_take (suc zero) zero bytes e = absurd e
@@ -68,6 +57,19 @@ ended_take (suc zero) (suc m) (b ∷ bytes) e = e
 ended_take (suc (suc n)) zero bytes e = absurd e
 ended_take (suc (suc n)) (suc m) [] e = absurd e
 ended_take (suc (suc n)) (suc m) (b ∷ bytes) e = (e.0, ended_take (suc n) m bytes e.1)
+
+-- the lowest bit of the mask tells the last byte
+pub record Ending (bytes : List ℕ) (before : ℕ) : Type 0 where
+  pub few : before < 8
+  pub ended : IsEnded (before + 1) bytes
+
+pub ended_by_mask : (bytes : List ℕ) (mask : ℕ) → 8 ≤ length bytes → mask ≡ mask_l (map is_last (take 8 bytes)) → 0 < mask → Ending bytes (count_trailing_zeros 64 mask)
+ended_by_mask bytes mask room is some =
+    let eight = take 8 bytes in
+    let long : length eight ≡ 8 = length-take-le 8 bytes room in
+    let before = ends_before eight (omega (arith, is)) in
+    let lowest : count_trailing_zeros 64 mask ≡ prefix_len (λ b. not (is_last b)) eight = ap (count_trailing_zeros 64) is ∙ trailing_mask_l is_last 64 eight (omega (arith, long)) (omega (arith, is)) in
+    subst (Ending bytes) (sym lowest) (record { few = omega (arith, before, long); ended = rw (add-one) (ended_take (suc (prefix_len (λ b. not (is_last b)) eight)) 8 bytes (ended_by_prefix eight before)) })
 
 groups_take : (n m : ℕ) (bytes : List ℕ) → n ≤ m → groups_of n (take m bytes) ≡ groups_of n bytes
 groups_take zero m bytes h = refl
@@ -228,8 +230,8 @@ front_number bytes word before number room small few is gathers =
     (ap (λ k. bit_and k 9187201950435737471) own ∙ masked_lows (kept (suc before) front) long_kept (kept_below (suc before) front below))
     ∙ lows_kept (suc before) front
 
-pub front_at : (bytes : List ℕ) (number n : ℕ) → n ≤ 8 → IsEnded n (take 8 bytes) → number ≡ groups_of n (take 8 bytes) → IsFront bytes number n
-front_at bytes number n few ended is = record { ended = ended_take n 8 bytes ended; number_is = is ∙ groups_take n 8 bytes few; few = few }
+pub front_at : (bytes : List ℕ) (number before : ℕ) → before < 8 → IsEnded (before + 1) bytes → number ≡ groups_of (suc before) (take 8 bytes) → IsFront bytes number (before + 1)
+front_at bytes number before few ended is = record { ended = ended; number_is = rw (add-one) (is ∙ groups_take (suc before) 8 bytes (omega arith)); few = omega arith }
 
 pub front_found : (most width : ℕ) (bytes : List ℕ) (number n : ℕ) → IsFront bytes number n → n ≤ most → number < 2 ^ width → varint_at most width bytes ≡ Ok (number, n)
 front_found most width bytes number n front few fits =
@@ -243,9 +245,6 @@ front_found_64 bytes number n front =
 
 pub front_within : (bytes : List ℕ) (number n at : ℕ) → at ≤ length bytes → IsFront (drop at bytes) number n → at + n ≤ length bytes
 front_within bytes number n at within front = omega (arith, ended_length n (drop at bytes) front.ended, length-drop at bytes)
-
-pub eight_at : (at : ℕ) (bytes : List ℕ) → at + 8 ≤ length bytes → length (take 8 (drop at bytes)) ≡ 8
-eight_at at bytes room = omega (arith, length-take 8 (drop at bytes), length-drop at bytes)
 
 -- ---- the eight bytes at a place, one by one
 

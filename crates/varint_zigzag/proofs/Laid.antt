@@ -151,7 +151,7 @@ carried_below (suc n) (g ∷ groups) small zero = omega (arith, small.0)
 carried_below (suc n) (g ∷ groups) small (suc i) = carried_below n groups small.1 i
 
 -- the bytes of a word
-bytes_of : (bytes : List ℕ) (word : ℕ) → length bytes ≡ 8 → ((i : ℕ) → get_or bytes i 0 < 256) → word ≡ number_l 256 bytes → to_le_bytes w64 word ≡ bytes
+pub bytes_of : (bytes : List ℕ) (word : ℕ) → length bytes ≡ 8 → ((i : ℕ) → get_or bytes i 0 < 256) → word ≡ number_l 256 bytes → to_le_bytes w64 word ≡ bytes
 bytes_of bytes word long small is = le_bytes_8 bytes word long small (is ∙ sym (word_of bytes long))
 
 number_small : (bytes : List ℕ) → ((i : ℕ) → get_or bytes i 0 < 256) → number_l 256 bytes < 2 ^ (8 * length bytes)

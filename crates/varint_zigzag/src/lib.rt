@@ -3,6 +3,7 @@
 #![tactic(auto)]
 
 mod cells;
+mod copying;
 mod fault;
 mod laws;
 mod places;
@@ -11,6 +12,7 @@ mod writing;
 mod zigzag;
 
 pub use cells::{put_size, put_u32, put_u64};
+pub use copying::{copy_u16_at, copy_u32_at, copy_u64_at};
 pub use fault::VarFault;
 pub use laws::{folded_and_back, one_front, shortest_is_least};
 pub use places::{read_size_at, read_u16_at, read_u32_at, read_u64_at};

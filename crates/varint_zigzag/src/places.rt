@@ -1,14 +1,14 @@
 //! The number at a place of some bytes. Its bytes are looked at eight at a time, so that how long it is costs no jump.
-ghost use Rattle.std.specs.Prelude.{◌≡◌, ℕ, List, ◌≤◌, ◌+◌, length, take, drop, IfSome, map, nat_lt};
+ghost use Rattle.std.specs.Prelude.{◌≡◌, ℕ, List, ◌≤◌, ◌<◌, ◌+◌, length, take, drop, IfSome, map, nat_lt};
 ghost use Rattle.std.specs.Simd.Lanes.{mask_l, number_l};
 ghost use Rattle.varint_zigzag.specs.Varint.{varint_at};
-ghost use Rattle.varint_zigzag.specs.Places.{found_at, is_last, IsFront, AreGroups};
+ghost use Rattle.varint_zigzag.specs.Places.{found_at, is_last, IsEnded, IsFront, AreGroups};
 
 use crate::reading::{read_u16, read_u32, read_u64, single};
 use std::simd::prelude::*;
 
 /// So many bytes are looked at together.
-const WORD: usize = 8;
+pub(crate) const WORD: usize = 8;
 
 /// The most bytes of a number of 64 bits.
 const LONG: usize = 10;
@@ -128,6 +128,19 @@ fn front_of(bytes: &[u8], at: usize) -> Option<(u64, usize)>
     requires { at ≤ length bytes.now }
     ensures { IfSome result (λ found. IsFront (drop at bytes.now) found.0 found.1) }
 {
+    let before = before_last(bytes, at)?;
+    let own = word_at(bytes, at) & (u64::MAX >> (56 - 8 * before));
+    Some((gathered(own & LOW_BITS), before as usize + 1))
+}
+
+// How many of the eight bytes at a place stand before the one that ends a number.
+#[inline(always)]
+pub(crate) fn before_last(bytes: &[u8], at: usize) -> Option<u32>
+    requires { at ≤ length bytes.now }
+    ensures within { IfSome result (λ _. at + 8 ≤ length bytes.now) }
+    ensures few { IfSome result (λ before. before < 8) }
+    ensures ended { IfSome result (λ before. IsEnded (before + 1) (drop at bytes.now)) }
+{
     if bytes.len() - at < WORD {
         return None;
     }
@@ -135,14 +148,12 @@ fn front_of(bytes: &[u8], at: usize) -> Option<(u64, usize)>
     if ends == 0 {
         return None;
     }
-    let before = ends.trailing_zeros();
-    let own = word_at(bytes, at) & (u64::MAX >> (56 - 8 * before));
-    Some((gathered(own & LOW_BITS), before as usize + 1))
+    Some(ends.trailing_zeros())
 }
 
 // Eight bytes as a number, the lowest first.
 #[inline(always)]
-fn word_at(bytes: &[u8], at: usize) -> u64
+pub(crate) fn word_at(bytes: &[u8], at: usize) -> u64
     requires { at + 8 ≤ length bytes.now }
     ensures { result ≡ number_l 256 (take 8 (drop at bytes.now)) }
 {
