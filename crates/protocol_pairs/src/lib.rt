@@ -11,4 +11,5 @@ mod pairs;
 
 pub use answers::answer;
 pub use methods::{served, translate_method};
-pub use pairs::{passes, translate, translate_by_events};
+pub use outcome::Outcome;
+pub use pairs::{passes, translate, translate_by_events, translate_quickly};

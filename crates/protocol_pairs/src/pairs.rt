@@ -2,7 +2,7 @@
 ghost use Rattle.std.specs.Prelude.{◌≡◌, ◌+◌, ◌≤◌, ◌^◌, ◌<◌, true, false, length};
 ghost use Rattle.protocol_traits.specs.Room.{room_for};
 ghost use Rattle.translate_core.specs.Body.{source_in};
-ghost use Rattle.translate_core.specs.Judged.{IsJudged, IsLeft};
+ghost use Rattle.translate_core.specs.Judged.{IsJudged, IsLeft, judged_frame};
 ghost use Rattle.translate_core.specs.Routes.{IsKnownRoute};
 ghost use Rattle.translate_core.specs.declared.verdict.HeadInfo.{HeadInfo};
 ghost use Rattle.translate_core.specs.declared.verdict.Verdict.TheVariants.{Passed};
@@ -13,7 +13,7 @@ use binary_protocol::{BinaryRead, BinaryWrite};
 use compact_protocol::{CompactRead, CompactWrite};
 use gate_io::Out;
 use json_protocol::{JsonRead, JsonWrite};
-use protocol_traits::{FormRead, Proto, WireRead};
+use protocol_traits::{FormRead, FormWrite, Proto, WireRead};
 use translate_core::{HeadInfo, Route, Verdict, pass_quickly};
 use type_tables::Schema;
 
@@ -39,7 +39,7 @@ pub fn translate(
     ensures room { out.new.room ≡ out.old.room }
     ensures short { length out.new.bytes ≤ length out.old.bytes + room_for (length frame.now) }
 {
-    match pass::<Option<HeadInfo>>(schema, route, from, to, frame, room, out) {
+    match translate_quickly::<Option<HeadInfo>>(schema, route, from, to, frame, room, out) {
         Some(info) => Verdict::Passed(info),
         None => translate_by_events(schema, route, from, to, frame, room, out),
     }
@@ -69,14 +69,18 @@ pub fn passes(
     ensures short { length out.new.bytes ≤ length out.old.bytes + room_for (length frame.now) }
     ensures passes { result ≡ true → (info : HeadInfo) × IsJudged (Passed info) out.old.bytes out.new.bytes (judged schema.now route from to frame.now) }
 {
-    pass::<bool>(schema, route, from, to, frame, room, out)
+    translate_quickly::<bool>(schema, route, from, to, frame, room, out)
 }
 
-/// Appends a message's translation by the quick way; or leaves the output as it was, which says nothing of the frame. What
-/// nearly all messages come to is handed on from here alone: a verdict is large.
+/// Appends a message's translation by the quick way, and tells of it what the caller asks for; or leaves the output as it was,
+/// which says nothing of the frame, and `translate_by_events` tells its verdict. Nearly all messages go no further than this,
+/// and a verdict is large: what isn't asked for is neither made nor moved.
+///
+/// `room` has at least as many bytes as the frame, and `out` room for 24 bytes for each of the frame's and 256 more. What
+/// the route names is of this schema.
 #[inline(always)]
 #[tactic(auto, unfolding(crate::specs::Pairs::judged))]
-fn pass<O: Outcome>(
+pub fn translate_quickly<O: Outcome>(
     schema: &Schema,
     route: Route,
     from: Proto,
@@ -121,10 +125,32 @@ fn pass_to<R: FormRead, O: Outcome>(
     ensures passes { O.passes result out.old.bytes out.new.bytes (judged_to (source_in R.ReadRules) schema.now route to frame.now) }
 {
     match to {
-        Proto::Binary => O::of(pass_quickly::<R, BinaryWrite>(schema, route, frame, room, out)),
-        Proto::Compact => O::of(pass_quickly::<R, CompactWrite>(schema, route, frame, room, out)),
-        Proto::Json => O::of(pass_quickly::<R, JsonWrite>(schema, route, frame, room, out)),
+        Proto::Binary => pass_apart::<R, BinaryWrite, O>(schema, route, frame, room, out),
+        Proto::Compact => pass_apart::<R, CompactWrite, O>(schema, route, frame, room, out),
+        Proto::Json => pass_apart::<R, JsonWrite, O>(schema, route, frame, room, out),
     }
+}
+
+/// The same for the writer of the target's protocol, as a function of its own: what one pair of protocols needs fits the
+/// registers, what all of them and the way by events need doesn't.
+#[inline(never)]
+fn pass_apart<R: FormRead, W: FormWrite, O: Outcome>(
+    schema: &Schema,
+    route: Route,
+    frame: &[u8],
+    room: &mut [u8],
+    out: &mut Out,
+) -> O
+    requires known { IsKnownRoute schema.now route }
+    requires room { length frame.now ≤ length room.old }
+    requires size { length frame.now < 2 ^ 31 }
+    requires fits { length out.old.bytes + room_for (length frame.now) ≤ out.old.room }
+    ensures left { O.fails result → out.new ≡ out.old }
+    ensures room { out.new.room ≡ out.old.room }
+    ensures short { length out.new.bytes ≤ length out.old.bytes + room_for (length frame.now) }
+    ensures passes { O.passes result out.old.bytes out.new.bytes (judged_frame R.ReadRules W.WireWrite schema.now route frame.now) }
+{
+    O::of(pass_quickly::<R, W>(schema, route, frame, room, out))
 }
 
 /// Translates a frame to the end of `out` event by event, or leaves `out` as it was: `translate` for a frame that the quick

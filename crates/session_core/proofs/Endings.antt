@@ -59,9 +59,8 @@ goes_at rules others limit k max_calls m s t notes why a b d h =
     (subst (λ (n : ℕ). Goes others n max_calls s t notes why) b
     (subst (λ (n : ℕ). Goes others k n s t notes why) d h))
 
-pub outcome_at : (rules : Rules) (limit k max_calls : ℕ) (s t : Standing) (notes : List Note) (why : Standstill) (result : Option Outcome) → Goes rules limit max_calls s t notes (Some why) → k ≡ limit → result ≡ ending_of k t why → result ≡ outcome_of rules limit max_calls t
-outcome_at rules limit k max_calls s t notes why result goes e is =
-    is ∙ (ap (λ n. ending_of n t why) e ∙ ended_by rules limit max_calls t why (subst (λ (x : Standing). StandsStill rules limit max_calls x why) (sym goes.0) goes.1))
+pub ending_at : (rules : Rules) (limit max_calls : ℕ) (s t : Standing) (notes : List Note) (why : Standstill) → Goes rules limit max_calls s t notes (Some why) → ending_of limit t why ≡ outcome_of rules limit max_calls t
+ending_at rules limit max_calls s t notes why goes = ended_by rules limit max_calls t why (subst (λ (x : Standing). StandsStill rules limit max_calls x why) (sym goes.0) goes.1)
 
 pub still_at : (rules : Rules) (limit max_calls : ℕ) (s t : Standing) (notes : List Note) (why : Standstill) → Goes rules limit max_calls s t notes (Some why) → IsStill rules limit max_calls t
 still_at rules limit max_calls s t notes why goes = still rules limit max_calls t why (subst (λ (x : Standing). StandsStill rules limit max_calls x why) (sym goes.0) goes.1)

@@ -11,6 +11,7 @@ use Rattle.session_core.specs.Working.{standing, limit_of, half_of, with_half, I
 use Rattle.session_core.specs.declared.half.Half.{Half}
 use Rattle.session_core.specs.declared.judge.Call.{Call}
 use Rattle.session_core.specs.declared.outcome.Outcome.{Outcome}
+use Rattle.session_core.specs.declared.outcome.Halt.{Halt}
 use Rattle.session_core.specs.declared.state.Waiting.{Waiting}
 use Rattle.session_core.specs.declared.state.Standstill.{Standstill}
 use Rattle.gate_io.specs.Buffer.{Buffer}
@@ -107,12 +108,15 @@ ready_calling limit max_calls s calls same within r = record {
   calls_within = within;
 }
 
--- what is known and the outcome take no room
+-- what is known, why a side halts and the outcome take no room
 pub ready_knowing : (limit max_calls : ℕ) (s : State) (known : Option Waiting) → IsReady limit max_calls s → IsReady limit max_calls (record s { known = known })
 ready_knowing limit max_calls s known r = record { client = r.client; upstream = r.upstream; small = r.small; capacity = r.capacity; some = r.some; few = r.few; calls_within = r.calls_within }
 
 pub ready_ending : (limit max_calls : ℕ) (s : State) (outcome : Option Outcome) → IsReady limit max_calls s → IsReady limit max_calls (record s { outcome = outcome })
 ready_ending limit max_calls s outcome r = record { client = r.client; upstream = r.upstream; small = r.small; capacity = r.capacity; some = r.some; few = r.few; calls_within = r.calls_within }
+
+pub ready_halting : (limit max_calls : ℕ) (s : State) (halt : Halt) → IsReady limit max_calls s → IsReady limit max_calls (record s { halt = halt })
+ready_halting limit max_calls s halt r = record { client = r.client; upstream = r.upstream; small = r.small; capacity = r.capacity; some = r.some; few = r.few; calls_within = r.calls_within }
 
 -- ---- a step keeps
 
@@ -172,6 +176,13 @@ works_on rules longest a b w k = record {
 
 pub keeps_still : (rules : Rules) (longest : ℕ) (s : State) → Works rules longest s → Keeps rules s s
 keeps_still rules longest s w = record { ready = w.ready; known = w.known }
+
+pub keeps_halting : (rules : Rules) (longest : ℕ) (s : State) (halt : Halt) → Works rules longest s → Keeps rules s (record s { halt = halt })
+keeps_halting rules longest s halt w = record { ready = ready_halting (limit_of s) s.calls.capacity s halt w.ready; known = w.known }
+
+-- where nothing changed but why a side halts
+pub keeps_looking : (rules : Rules) (longest : ℕ) (s t : State) → t ≡ record s { halt = t.halt } → Works rules longest s → Keeps rules s t
+keeps_looking rules longest s t same w = subst (λ (u : State). Keeps rules s u) (sym same) (keeps_halting rules longest s t.halt w)
 
 pub keeps_on : (rules : Rules) (a b c : State) → Keeps rules a b → Keeps rules b c → Keeps rules a c
 keeps_on rules a b c k l = record {

@@ -21,7 +21,7 @@
 //! | no call is open, the client has ended | `Clean` |
 //!
 //! A session with an outcome takes nothing more.
-ghost use Rattle.std.specs.Prelude.{◌≡◌, ◌+◌, ◌^◌, ◌<◌, ◌≤◌, [], ◌++◌, length, take, min, ◌-◌, ℕ, is_some, IfOk, true, Some, None, if◌then◌else◌};
+ghost use Rattle.std.specs.Prelude.{◌≡◌, ◌+◌, ◌^◌, ◌<◌, ◌≤◌, [], ◌++◌, length, take, min, ◌-◌, ℕ, is_some, IfOk, true, not, ◌&&◌, Some, None, if◌then◌else◌};
 ghost use Rattle.framed_transport.specs.Front.{front, is_part, is_whole};
 ghost use Rattle.session_core.specs.Standing.{Standing, History, begun};
 ghost use Rattle.session_core.specs.Fits.{told};
@@ -30,6 +30,7 @@ ghost use Rattle.session_core.specs.Ends.{held_of, most_held};
 ghost use Rattle.session_core.specs.Session.{due_to, and_came, and_sent, and_ended, room_of};
 ghost use Rattle.session_core.specs.Halves.{fed, let_go, ended};
 ghost use Rattle.session_core.specs.Working.{standing, limit_of, half_of, with_half, of_upstream_in, of_client_in, IsReady, Works, Keeps, IsSettledBy, FitsOn, IsSound, Comes, GoesOn, Cuts, ends_step, ending_of, IsFound, without_reply, without_call, ComesRefused, TakesNoMoreOf, told_of_reply, told_of_call};
+ghost use Rattle.session_core.specs.Looks.{came, stopped, stopped_by};
 
 use crate::framing::{answer_call, judge_client, judge_upstream};
 use crate::half::Half;
@@ -55,7 +56,25 @@ pub struct State {
     calls: HeapCircularBuffer<Call>,
     /// The verdict on the client's front frame, where it was judged and waits.
     known: Option<Waiting>,
+    /// Why a side halts, where a look said that it does. It stands here so that what a look tells fits a register.
+    halt: Halt,
     pub outcome: Option<Outcome>,
+}
+
+/// What came of a look at a side, where the session says why a side halts.
+#[derive(Clone, Copy)]
+pub enum Look {
+    Waits,
+    Halts,
+    Takes,
+}
+
+/// Why no frame can be taken, where the session says why a side halts.
+#[derive(Clone, Copy)]
+pub enum Stop {
+    Upstream,
+    Client,
+    Waits,
 }
 
 /// What came of a look at a side.
@@ -106,6 +125,7 @@ impl State {
             upstream: Half::open(alloc, limit)?,
             calls: HeapCircularBuffer::with_capacity(alloc, max_calls)?,
             known: None,
+            halt: Halt::WrongWay,
             outcome: None,
         })
     }
@@ -121,37 +141,41 @@ impl State {
     }
 
     /// Takes the upstream's front frame for the oldest open call, once nothing is due to the client.
-    fn upstream_step<J: Judge, N: Notes>(&mut self, judge: &mut J, notes: &mut N) -> SessionStep
+    fn upstream_step<J: Judge, N: Notes>(&mut self, judge: &mut J, notes: &mut N) -> Look
         requires works { Works (J.rules judge.old) (J.longest judge.old) self.old }
         ensures same { judge.new ≡ judge.old }
         ensures keeps { Keeps (J.rules judge.old) self.old self.new }
-        ensures comes { Comes result (of_upstream_in (J.rules judge.old) self.old) (standing self.old) (standing self.new) }
-        ensures cut { result ≡ SessionStep.Takes → Cuts self.old.upstream.held.limit self.old.upstream.held.held }
-        ensures told { N.tells notes.old notes.new (told_of_reply (J.rules judge.old) self.old result) }
+        ensures comes { Comes (came result self.new.halt) (of_upstream_in (J.rules judge.old) self.old) (standing self.old) (standing self.new) }
+        ensures cut { result ≡ Look.Takes → Cuts self.old.upstream.held.limit self.old.upstream.held.held }
+        ensures told { N.tells notes.old notes.new (told_of_reply (J.rules judge.old) self.old (came result self.new.halt)) }
     {
         if self.calls.is_empty() {
-            return SessionStep::Waits;
+            return Look::Waits;
         }
         if !self.client.is_paid() {
             return self.upstream_ends();
         }
         match self.upstream.held.frame() {
             Next::NeedMore => self.upstream_ends(),
-            Next::TooLarge(length) => SessionStep::Halts(Halt::TooLarge(length)),
+            Next::TooLarge(length) => {
+                self.halt = Halt::TooLarge(length);
+                Look::Halts
+            }
             Next::Frame(frame) => {
                 // (looked up here, as most looks find no frame)
                 let Some(&call) = self.calls.front() else {
-                    return SessionStep::Waits;
+                    return Look::Waits;
                 };
                 match judge_upstream(judge, call, frame, &mut self.client.due) {
                     UpstreamJudged::Halts(halt) => {
                         self.client.due.cut(0);
-                        SessionStep::Halts(halt)
+                        self.halt = halt;
+                        Look::Halts
                     }
                     UpstreamJudged::Answers(refused) => {
                         note_reply(notes, next_of(self.upstream.count), refused, frame);
                         self.close_call();
-                        SessionStep::Takes
+                        Look::Takes
                     }
                 }
             }
@@ -159,15 +183,19 @@ impl State {
     }
 
     /// Whether the upstream ends with a call open.
-    fn upstream_ends(&self) -> SessionStep
-        ensures { result ≡ ends_step (is_part (front self.now.upstream.held.limit self.now.upstream.held.held)) self.now.upstream.ended }
+    fn upstream_ends(&mut self) -> Look
+        ensures ends { came result self.new.halt ≡ ends_step (is_part (front self.old.upstream.held.limit self.old.upstream.held.held)) self.old.upstream.ended }
+        ensures same { self.new ≡ record self.old { halt = self.new.halt } }
     {
         if !self.upstream.ended {
-            return SessionStep::Waits;
+            return Look::Waits;
         }
         match self.upstream.held.frame() {
-            Next::NeedMore => SessionStep::Halts(Halt::Inside),
-            _ => SessionStep::Waits,
+            Next::NeedMore => {
+                self.halt = Halt::Inside;
+                Look::Halts
+            }
+            _ => Look::Waits,
         }
     }
 
@@ -182,16 +210,16 @@ impl State {
     }
 
     /// Takes the client's front frame, while nothing is due to the upstream and a call may open.
-    fn client_step<J: Judge, N: Notes>(&mut self, judge: &mut J, notes: &mut N) -> SessionStep
+    fn client_step<J: Judge, N: Notes>(&mut self, judge: &mut J, notes: &mut N) -> Look
         requires works { Works (J.rules judge.old) (J.longest judge.old) self.old }
         ensures same { judge.new ≡ judge.old }
         ensures keeps { Keeps (J.rules judge.old) self.old self.new }
-        ensures comes { Comes result (of_client_in (J.rules judge.old) self.old) (standing self.old) (standing self.new) }
-        ensures cut { result ≡ SessionStep.Takes → Cuts self.old.client.held.limit self.old.client.held.held }
-        ensures told { N.tells notes.old notes.new (told_of_call (J.rules judge.old) self.old result) }
+        ensures comes { Comes (came result self.new.halt) (of_client_in (J.rules judge.old) self.old) (standing self.old) (standing self.new) }
+        ensures cut { result ≡ Look.Takes → Cuts self.old.client.held.limit self.old.client.held.held }
+        ensures told { N.tells notes.old notes.new (told_of_call (J.rules judge.old) self.old (came result self.new.halt)) }
     {
         if !self.upstream.is_paid() || self.calls.len() >= self.calls.capacity() {
-            return SessionStep::Waits;
+            return Look::Waits;
         }
         let Some(waiting) = self.known else {
             return self.judge_step(judge, notes);
@@ -200,57 +228,64 @@ impl State {
     }
 
     /// Continues with the client's front frame by its stored verdict.
+    #[inline(never)]
     fn stored_step<J: Judge, N: Notes>(
         &mut self,
         judge: &mut J,
         waiting: Waiting,
         notes: &mut N,
-    ) -> SessionStep
+    ) -> Look
         requires works { Works (J.rules judge.old) (J.longest judge.old) self.old }
         requires empty { self.old.upstream.due.bytes ≡ [] }
         requires few { length self.old.calls.items < self.old.calls.capacity }
         requires found { IsFound (J.rules judge.old) self.old.client.held.limit self.old.client.held.held waiting }
         ensures same { judge.new ≡ judge.old }
         ensures keeps { Keeps (J.rules judge.old) self.old self.new }
-        ensures comes { Comes result (of_client_in (J.rules judge.old) self.old) (standing self.old) (standing self.new) }
-        ensures cut { result ≡ SessionStep.Takes → Cuts self.old.client.held.limit self.old.client.held.held }
-        ensures told { N.tells notes.old notes.new (told_of_call (J.rules judge.old) self.old result) }
+        ensures comes { Comes (came result self.new.halt) (of_client_in (J.rules judge.old) self.old) (standing self.old) (standing self.new) }
+        ensures cut { result ≡ Look.Takes → Cuts self.old.client.held.limit self.old.client.held.held }
+        ensures told { N.tells notes.old notes.new (told_of_call (J.rules judge.old) self.old (came result self.new.halt)) }
     {
         match waiting {
-            Waiting::Halts(halt) => SessionStep::Halts(halt),
+            Waiting::Halts(halt) => {
+                self.halt = halt;
+                Look::Halts
+            }
             Waiting::Refused(cause) => self.answer_step(judge, cause, notes),
         }
     }
 
     /// Judges the client's front frame, and takes it or stores the verdict.
-    fn judge_step<J: Judge, N: Notes>(&mut self, judge: &mut J, notes: &mut N) -> SessionStep
+    fn judge_step<J: Judge, N: Notes>(&mut self, judge: &mut J, notes: &mut N) -> Look
         requires works { Works (J.rules judge.old) (J.longest judge.old) self.old }
         requires empty { self.old.upstream.due.bytes ≡ [] }
         requires few { length self.old.calls.items < self.old.calls.capacity }
         ensures same { judge.new ≡ judge.old }
         ensures keeps { Keeps (J.rules judge.old) self.old self.new }
-        ensures comes { Comes result (of_client_in (J.rules judge.old) self.old) (standing self.old) (standing self.new) }
-        ensures cut { result ≡ SessionStep.Takes → Cuts self.old.client.held.limit self.old.client.held.held }
-        ensures told { N.tells notes.old notes.new (told_of_call (J.rules judge.old) self.old result) }
+        ensures comes { Comes (came result self.new.halt) (of_client_in (J.rules judge.old) self.old) (standing self.old) (standing self.new) }
+        ensures cut { result ≡ Look.Takes → Cuts self.old.client.held.limit self.old.client.held.held }
+        ensures told { N.tells notes.old notes.new (told_of_call (J.rules judge.old) self.old (came result self.new.halt)) }
     {
         match self.client.held.frame() {
-            Next::NeedMore => SessionStep::Waits,
-            Next::TooLarge(length) => SessionStep::Halts(Halt::TooLarge(length)),
+            Next::NeedMore => Look::Waits,
+            Next::TooLarge(length) => {
+                self.halt = Halt::TooLarge(length);
+                Look::Halts
+            }
             Next::Frame(frame) => match judge_client(judge, frame, &mut self.upstream.due) {
                 ClientJudged::Opens(call) => {
                     self.calls.push_back(call);
                     self.count_frame();
-                    SessionStep::Takes
+                    Look::Takes
                 }
                 ClientJudged::Goes => {
                     self.count_frame();
-                    SessionStep::Takes
+                    Look::Takes
                 }
                 ClientJudged::Dropped(cause) => {
                     note_call(notes, next_of(self.client.count), cause, true, frame);
                     self.upstream.due.cut(0);
                     self.count_frame();
-                    SessionStep::Takes
+                    Look::Takes
                 }
                 ClientJudged::Refused(cause) => {
                     self.upstream.due.cut(0);
@@ -260,7 +295,8 @@ impl State {
                 ClientJudged::Halts(halt) => {
                     self.upstream.due.cut(0);
                     self.known = Some(Waiting::Halts(halt));
-                    SessionStep::Halts(halt)
+                    self.halt = halt;
+                    Look::Halts
                 }
             },
         }
@@ -277,77 +313,87 @@ impl State {
     }
 
     /// Answers the client's front frame in its turn.
+    #[inline(never)]
     fn answer_step<J: Judge, N: Notes>(
         &mut self,
         judge: &mut J,
         cause: Cause,
         notes: &mut N,
-    ) -> SessionStep
+    ) -> Look
         requires works { Works (J.rules judge.old) (J.longest judge.old) self.old }
         requires found { IsFound (J.rules judge.old) self.old.client.held.limit self.old.client.held.held (Waiting.Refused cause) }
         ensures same { judge.new ≡ judge.old }
         ensures keeps { Keeps (J.rules judge.old) self.old self.new }
-        ensures comes { ComesRefused (J.rules judge.old) cause self.old result self.new }
-        ensures told { N.tells notes.old notes.new (told_of_call (J.rules judge.old) self.old result) }
+        ensures comes { ComesRefused (J.rules judge.old) cause self.old (came result self.new.halt) self.new }
+        ensures told { N.tells notes.old notes.new (told_of_call (J.rules judge.old) self.old (came result self.new.halt)) }
     {
         if !self.calls.is_empty() || !self.client.is_paid() {
-            return SessionStep::Waits;
+            return Look::Waits;
         }
         if let Next::Frame(frame) = self.client.held.frame() {
             answer_call(judge, frame, cause, &mut self.client.due);
             note_call(notes, next_of(self.client.count), cause, false, frame);
             self.count_frame();
-            return SessionStep::Takes;
+            return Look::Takes;
         }
-        SessionStep::Waits
+        Look::Waits
     }
 
     /// Takes a frame, or says why none can be taken.
-    fn step<J: Judge, N: Notes>(&mut self, judge: &mut J, notes: &mut N) -> Option<Standstill>
+    fn step<J: Judge, N: Notes>(&mut self, judge: &mut J, notes: &mut N) -> Option<Stop>
         requires works { Works (J.rules judge.old) (J.longest judge.old) self.old }
         ensures same { judge.new ≡ judge.old }
         ensures keeps { Keeps (J.rules judge.old) self.old self.new }
-        ensures goes { GoesOn (J.rules judge.old) self.old self.new (N.tells notes.old notes.new) result }
+        ensures goes { GoesOn (J.rules judge.old) self.old self.new (N.tells notes.old notes.new) (stopped_by result self.new.halt) }
     {
         match self.upstream_step(judge, notes) {
-            SessionStep::Takes => None,
-            SessionStep::Halts(halt) => Some(Standstill::Upstream(halt)),
-            SessionStep::Waits => match self.client_step(judge, notes) {
-                SessionStep::Takes => None,
-                SessionStep::Halts(halt) => Some(Standstill::Client(halt)),
-                SessionStep::Waits => Some(Standstill::Waits),
+            Look::Takes => None,
+            Look::Halts => Some(Stop::Upstream),
+            Look::Waits => match self.client_step(judge, notes) {
+                Look::Takes => None,
+                Look::Halts => Some(Stop::Client),
+                Look::Waits => Some(Stop::Waits),
             },
         }
     }
 
-    /// Takes all that can be taken, and answers the outcome.
-    fn advance<J: Judge, N: Notes>(&mut self, judge: &mut J, notes: &mut N) -> Option<Outcome>
+    /// Takes all that can be taken, and says why no more can be.
+    fn advance<J: Judge, N: Notes>(&mut self, judge: &mut J, notes: &mut N) -> Stop
         requires works { Works (J.rules judge.old) (J.longest judge.old) self.old }
         ensures same { judge.new ≡ judge.old }
         ensures keeps { Keeps (J.rules judge.old) self.old self.new }
         ensures still { IsStill (J.rules judge.old) (limit_of self.old) self.old.calls.capacity (standing self.new) }
-        ensures outcome { result ≡ outcome_of (J.rules judge.old) (limit_of self.old) self.old.calls.capacity (standing self.new) }
+        ensures ending { ending_of (limit_of self.old) (standing self.new) (stopped result self.new.halt) ≡
+            outcome_of (J.rules judge.old) (limit_of self.old) self.old.calls.capacity (standing self.new) }
         ensures fits { FitsOn (J.rules judge.old) self.old self.new (N.tells notes.old notes.new) (λ h. h) }
     {
         'frames: loop {
-            if let Some(standstill) = self.step(judge, notes) {
-                return self.ending(standstill);
+            if let Some(stop) = self.step(judge, notes) {
+                return stop;
             }
         }
     }
 
-    /// The outcome where no frame can be taken.
-    fn ending(&self, standstill: Standstill) -> Option<Outcome>
-        requires { self.now.upstream.held.limit ≡ limit_of self.now }
-        ensures { result ≡ ending_of (limit_of self.now) (standing self.now) standstill }
+    /// Whether something is due to a side: the session goes on then.
+    fn owes(&self) -> bool
+        ensures { result ≡ not (is_none self.now.client.due.bytes && is_none self.now.upstream.due.bytes) }
     {
-        if !self.client.is_paid() || !self.upstream.is_paid() {
+        !self.client.is_paid() || !self.upstream.is_paid()
+    }
+
+    /// The outcome where no frame can be taken.
+    #[inline(never)]
+    fn ending(&self, stop: Stop) -> Option<Outcome>
+        requires { self.now.upstream.held.limit ≡ limit_of self.now }
+        ensures { result ≡ ending_of (limit_of self.now) (standing self.now) (stopped stop self.now.halt) }
+    {
+        if self.owes() {
             return None;
         }
-        match standstill {
-            Standstill::Upstream(halt) => Some(self.upstream_ending(halt)),
-            Standstill::Client(halt) => self.client_ending(halt),
-            Standstill::Waits => self.end_ending(),
+        match stop {
+            Stop::Upstream => Some(self.upstream_ending(self.halt)),
+            Stop::Client => self.client_ending(self.halt),
+            Stop::Waits => self.end_ending(),
         }
     }
 
@@ -409,11 +455,11 @@ impl State {
         ensures settled { IsSettledBy (J.rules judge.old) self.old self.new }
         ensures fits { FitsOn (J.rules judge.old) self.old self.new (N.tells notes.old notes.new) (λ h. h) }
     {
-        let outcome = self.advance(judge, notes);
-        if outcome.is_none() && self.outcome.is_none() {
+        let stop = self.advance(judge, notes);
+        if self.owes() && self.outcome.is_none() {
             return;
         }
-        self.outcome = outcome;
+        self.outcome = self.ending(stop);
     }
 
     /// Takes bytes of a side, as long as there is room and no outcome.

@@ -2,5 +2,6 @@
 pub mod Setting
 pub mod Client
 pub mod Upstream
+pub mod Quick
 pub mod Rules
 pub mod Setups

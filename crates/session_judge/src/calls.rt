@@ -1,21 +1,78 @@
 //! What becomes of a frame of the client.
-ghost use Rattle.std.specs.Prelude.{◌≡◌, ◌+◌, ◌^◌, ◌<◌, ◌≤◌, ◌++◌, length, take, drop, IfSome};
+ghost use Rattle.std.specs.Prelude.{◌≡◌, ◌+◌, ◌^◌, ◌<◌, ◌≤◌, ◌++◌, Some, length, take, drop, IfSome};
 ghost use Rattle.protocol_pairs.specs.Pairs.{judged};
 ghost use Rattle.protocol_traits.specs.Room.{room_for};
 ghost use Rattle.session_judge.specs.Client.{is_answered, call_of, passed_on, refused, of_client, onward, output_of};
+ghost use Rattle.session_judge.specs.declared.calls.CallSeen.{CallSeen};
+ghost use Rattle.session_judge.specs.Quick.{client_told, PassedOn};
 
 use gate_io::Out;
-use protocol_pairs::translate;
+use protocol_pairs::{Outcome, translate_by_events, translate_quickly};
 use protocol_traits::Proto;
 use session_core::{Call, ClientJudged, Halt};
 use thrift_value::MessageType;
-use translate_core::{Cause, Route, Verdict};
-use type_tables::{MethodInfo, Schema, ServiceId};
+use translate_core::{Cause, HeadInfo, Route, Verdict};
+use type_tables::{MethodInfo, Schema, ServiceId, StructId};
+
+/// What the quick way tells of a frame of the client: what a session asks of it and no more, so that it is handed on in
+/// registers.
+#[derive(Clone, Copy)]
+pub enum CallSeen {
+    /// The quick way didn't take it.
+    Nothing,
+    /// A call that is answered by this struct.
+    Known(StructId),
+    /// A call of a method that isn't known.
+    Unknown,
+    /// It is passed, and nothing comes back.
+    Goes,
+    /// No client sends it.
+    WrongWay,
+}
+
+impl Outcome for CallSeen {
+    ghost fails = { λ seen. seen ≡ CallSeen.Nothing };
+
+    ghost passes = { λ seen old new j. PassedOn seen old new j };
+
+    #[inline(always)]
+    fn of(info: Option<HeadInfo>) -> Self {
+        match info {
+            Some(info) => seen_of(info.method, info.mtype),
+            None => CallSeen::Nothing,
+        }
+    }
+}
+
+/// What is seen of a message that passed.
+#[inline(always)]
+fn seen_of(method: Option<MethodInfo>, mtype: MessageType) -> CallSeen
+    ensures { client_told result ≡ Some (passed_on method mtype) }
+{
+    match mtype {
+        MessageType::Call => call_seen(method),
+        MessageType::Oneway => CallSeen::Goes,
+        MessageType::Reply | MessageType::Exception => CallSeen::WrongWay,
+    }
+}
+
+/// What is seen of a call of this method.
+#[inline(always)]
+fn call_seen(method: Option<MethodInfo>) -> CallSeen
+    ensures { client_told result ≡ Some (passed_on method MessageType.Call) }
+{
+    match method {
+        Some(method) if method.oneway => CallSeen::Goes,
+        Some(method) => CallSeen::Known(method.result),
+        None => CallSeen::Unknown,
+    }
+}
 
 /// Judges a frame of the client, and appends what goes to the upstream where it is passed.
 ///
 /// A reply or an exception, which no client sends, is gone through like a call, and what was written of it is let go: it ends
 /// the session, and calls, which come by the million, have their header read once.
+#[inline(always)]
 pub fn judge_client(
     schema: &Schema,
     service: Option<ServiceId>,
@@ -34,7 +91,43 @@ pub fn judge_client(
     ensures within { length out.new.bytes ≤ out.new.room }
 {
     let start = out.bytes().len();
-    let verdict = translate(schema, Route::ByName(service), from, to, frame, room, out);
+    let route = Route::ByName(service);
+    match translate_quickly::<CallSeen>(schema, route, from, to, frame, room, out) {
+        CallSeen::Known(reply) => ClientJudged::Opens(Call {
+            result: Some(reply),
+        }),
+        CallSeen::Unknown => ClientJudged::Opens(Call { result: None }),
+        CallSeen::Goes => ClientJudged::Goes,
+        CallSeen::WrongWay => {
+            out.cut(start);
+            ClientJudged::Halts(Halt::WrongWay)
+        }
+        CallSeen::Nothing => judge_by_events(schema, service, from, to, frame, room, out),
+    }
+}
+
+/// The same for a frame that the quick way didn't take.
+#[inline(never)]
+fn judge_by_events(
+    schema: &Schema,
+    service: Option<ServiceId>,
+    from: Proto,
+    to: Proto,
+    frame: &[u8],
+    room: &mut [u8],
+    out: &mut Out,
+) -> ClientJudged
+    requires service { IfSome service (λ s. s.0 < length schema.now.services) }
+    requires room { length frame.now ≤ length room.old }
+    requires size { length frame.now < 2 ^ 31 }
+    requires fits { length out.old.bytes + room_for (length frame.now) ≤ out.old.room }
+    ensures verdict { result ≡ of_client (judged schema.now (Route.ByName service) from to frame.now).verdict }
+    ensures out { out.new ≡ record out.old { bytes = out.old.bytes ++ output_of (judged schema.now (Route.ByName service) from to frame.now) } }
+    ensures within { length out.new.bytes ≤ out.new.room }
+{
+    let start = out.bytes().len();
+    let by_name = Route::ByName(service);
+    let verdict = translate_by_events(schema, by_name, from, to, frame, room, out);
     let judged = of_client(&verdict);
     keep(&judged, start, out);
     judged

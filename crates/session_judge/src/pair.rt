@@ -64,6 +64,7 @@ impl<'s> Judge for PairJudge<'s> {
 
     ghost longest = { λ j. j.longest };
 
+    #[inline(never)]
     fn client(&mut self, frame: &[u8], out: &mut Out) -> ClientJudged {
         let (from, to) = (self.client, self.upstream);
         self.room.clear();
@@ -78,6 +79,7 @@ impl<'s> Judge for PairJudge<'s> {
         answer(own, own, frame, room, &cause, out);
     }
 
+    #[inline(never)]
     fn upstream(&mut self, call: Call, frame: &[u8], out: &mut Out) -> UpstreamJudged {
         let (from, to) = (self.upstream, self.client);
         self.room.clear();

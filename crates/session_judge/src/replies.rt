@@ -1,21 +1,60 @@
 //! What becomes of a frame of the upstream.
-ghost use Rattle.std.specs.Prelude.{◌≡◌, ◌+◌, ◌^◌, ◌<◌, ◌≤◌, ◌++◌, length, take, drop};
+ghost use Rattle.std.specs.Prelude.{◌≡◌, ◌+◌, ◌^◌, ◌<◌, ◌≤◌, ◌++◌, Some, None, length, take, drop};
 ghost use Rattle.translate_core.specs.Routes.{IsKnownRoute};
 ghost use Rattle.protocol_pairs.specs.Pairs.{judged, answered};
 ghost use Rattle.protocol_traits.specs.Room.{room_for};
 ghost use Rattle.session_judge.specs.Upstream.{expected, of_type, of_upstream, back, reply_bytes};
+ghost use Rattle.session_judge.specs.declared.replies.ReplySeen.{ReplySeen};
+ghost use Rattle.session_judge.specs.Quick.{upstream_told, PassedBack};
 
 use gate_io::Out;
-use protocol_pairs::{answer, translate};
+use protocol_pairs::{Outcome, answer, translate_by_events, translate_quickly};
 use protocol_traits::Proto;
 use session_core::{Halt, UpstreamJudged};
 use thrift_value::MessageType;
-use translate_core::{Cause, Route, Verdict};
+use translate_core::{Cause, HeadInfo, Route, Verdict};
 use type_tables::{Schema, StructId};
+
+/// What the quick way tells of a frame of the upstream: what a session asks of it and no more.
+#[derive(Clone, Copy)]
+pub enum ReplySeen {
+    /// The quick way didn't take it.
+    Nothing,
+    /// It answers its call.
+    Answers,
+    /// No upstream sends it.
+    WrongWay,
+}
+
+impl Outcome for ReplySeen {
+    ghost fails = { λ seen. seen ≡ ReplySeen.Nothing };
+
+    ghost passes = { λ seen old new j. PassedBack seen old new j };
+
+    #[inline(always)]
+    fn of(info: Option<HeadInfo>) -> Self {
+        match info {
+            Some(info) => seen_of(info.mtype),
+            None => ReplySeen::Nothing,
+        }
+    }
+}
+
+/// What is seen of a message of this type that passed.
+#[inline(always)]
+fn seen_of(mtype: MessageType) -> ReplySeen
+    ensures { upstream_told result ≡ Some (of_type mtype None) }
+{
+    match mtype {
+        MessageType::Reply | MessageType::Exception => ReplySeen::Answers,
+        MessageType::Call | MessageType::Oneway => ReplySeen::WrongWay,
+    }
+}
 
 /// Judges a frame of the upstream as the reply of this struct, and appends what goes to the client.
 ///
 /// A call, which no upstream sends, is gone through like a reply, and what was written of it is let go.
+#[inline(always)]
 pub fn judge_reply(
     schema: &Schema,
     reply: Option<StructId>,
@@ -34,7 +73,37 @@ pub fn judge_reply(
 {
     let start = out.bytes().len();
     let route = Route::Answer(expected(schema, reply));
-    match translate(schema, route, from, to, frame, room, out) {
+    match translate_quickly::<ReplySeen>(schema, route, from, to, frame, room, out) {
+        ReplySeen::Answers => UpstreamJudged::Answers(None),
+        ReplySeen::WrongWay => {
+            out.cut(start);
+            UpstreamJudged::Halts(Halt::WrongWay)
+        }
+        ReplySeen::Nothing => judge_by_events(schema, reply, from, to, frame, room, out),
+    }
+}
+
+/// The same for a frame that the quick way didn't take.
+#[inline(never)]
+fn judge_by_events(
+    schema: &Schema,
+    reply: Option<StructId>,
+    from: Proto,
+    to: Proto,
+    frame: &[u8],
+    room: &mut [u8],
+    out: &mut Out,
+) -> UpstreamJudged
+    requires room { length frame.now ≤ length room.old }
+    requires size { length frame.now < 2 ^ 31 }
+    requires fits { length out.old.bytes + room_for (length frame.now) ≤ out.old.room }
+    ensures verdict { result ≡ of_upstream (judged schema.now (Route.Answer (expected schema.now reply)) from to frame.now).verdict }
+    ensures out { out.new ≡ record out.old { bytes = out.old.bytes ++ reply_bytes schema.now reply from to frame.now } }
+    ensures within { length out.new.bytes ≤ out.new.room }
+{
+    let start = out.bytes().len();
+    let answer_of = Route::Answer(expected(schema, reply));
+    match translate_by_events(schema, answer_of, from, to, frame, room, out) {
         Verdict::Passed(info) => {
             let judged = of_type(info.mtype, None);
             keep(judged, start, out);

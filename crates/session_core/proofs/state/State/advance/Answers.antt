@@ -2,7 +2,8 @@ use Rattle.std.proofs.Common.{◌∙◌, ap, Some, None, refl}
 use Rattle.session_core.specs.Working.{standing, limit_of, Goes, Took}
 use Rattle.session_core.proofs.Fitting.{fits_on}
 use Rattle.session_core.proofs.Keeping.{fits_quietly, fits_then, stood, keeps_still, keeps_on, keeps_by, works_on, works_at}
-use Rattle.session_core.proofs.Endings.{goes_at, outcome_at, falls}
+use Rattle.session_core.specs.Looks.{stopped}
+use Rattle.session_core.proofs.Endings.{goes_at, ending_at, falls}
 use Rattle.session_core.proofs.state.State.advance.Goals as goal
 
 pub frames-init : goal.frames-init
@@ -12,17 +13,18 @@ frames-init g c = record {
   fits = fits_quietly (g.J.Judge.rules c.args.judge.now) c.args.self.now c.args.self.now (g.N.Notes.tells c.args.notes.now c.args.notes.now) (λ h. h) (g.met.N.Notes.stays c.args.notes.now) (λ h past f. f);
 }
 
-pub returns-in-Some-clause-outcome : goal.returns-in-Some-clause-outcome
-returns-in-Some-clause-outcome g c =
+pub returns-in-Some-clause-ending : goal.returns-in-Some-clause-ending
+returns-in-Some-clause-ending g c =
     let i = c.frames.invariant in
     let rules = g.J.Judge.rules c.args.judge.now in
     let old = c.args.self.now in
     let s = c.frames.self in
     let t = c.step.new.self in
+    let why = stopped c.in-Some.stop t.halt in
     let told = c.in-Some.ensures.goes in
-    let goes : Goes rules (limit_of old) old.calls.capacity (standing s) (standing t) told.0 (Some c.in-Some.standstill) =
-    goes_at rules (g.J.Judge.rules c.frames.judge) (limit_of old) (limit_of s) old.calls.capacity s.calls.capacity (standing s) (standing t) told.0 (Some c.in-Some.standstill) (ap g.J.Judge.rules i.same) i.keeps.ready.client.limit_is i.keeps.ready.capacity told.2 in
-    outcome_at rules (limit_of old) (limit_of t) old.calls.capacity (standing s) (standing t) told.0 c.in-Some.standstill c.ending.result goes (c.in-Some.ensures.keeps.ready.client.limit_is ∙ i.keeps.ready.client.limit_is) c.ending.ensures
+    let goes : Goes rules (limit_of old) old.calls.capacity (standing s) (standing t) told.0 (Some why) =
+    goes_at rules (g.J.Judge.rules c.frames.judge) (limit_of old) (limit_of s) old.calls.capacity s.calls.capacity (standing s) (standing t) told.0 (Some why) (ap g.J.Judge.rules i.same) i.keeps.ready.client.limit_is i.keeps.ready.capacity told.2 in
+    ending_at rules (limit_of old) old.calls.capacity (standing s) (standing t) told.0 why goes
 
 pub frames-smaller : goal.frames-smaller
 frames-smaller g c =
@@ -65,8 +67,9 @@ returns-in-Some-clause-fits g c =
     let old = c.args.self.now in
     let s = c.frames.self in
     let t = c.step.new.self in
+    let why = stopped c.in-Some.stop t.halt in
     let told = c.in-Some.ensures.goes in
-    let goes : Goes rules (limit_of old) old.calls.capacity (standing s) (standing t) told.0 (Some c.in-Some.standstill) =
-    goes_at rules (g.J.Judge.rules c.frames.judge) (limit_of old) (limit_of s) old.calls.capacity s.calls.capacity (standing s) (standing t) told.0 (Some c.in-Some.standstill) (ap g.J.Judge.rules i.same) i.keeps.ready.client.limit_is i.keeps.ready.capacity told.2 in
+    let goes : Goes rules (limit_of old) old.calls.capacity (standing s) (standing t) told.0 (Some why) =
+    goes_at rules (g.J.Judge.rules c.frames.judge) (limit_of old) (limit_of s) old.calls.capacity s.calls.capacity (standing s) (standing t) told.0 (Some why) (ap g.J.Judge.rules i.same) i.keeps.ready.client.limit_is i.keeps.ready.capacity told.2 in
     fits_then rules old s t (g.N.Notes.tells c.args.notes.now c.frames.notes) (g.N.Notes.tells c.frames.notes c.step.new.notes) (g.N.Notes.tells c.args.notes.now c.step.new.notes) (λ h. h) (λ xs ys. g.met.N.Notes.follows c.args.notes.now c.frames.notes c.step.new.notes xs ys) i.fits
-    (stood rules (limit_of old) old.calls.capacity (standing s) (standing t) told.0 c.in-Some.standstill (g.N.Notes.tells c.frames.notes c.step.new.notes) goes told.1)
+    (stood rules (limit_of old) old.calls.capacity (standing s) (standing t) told.0 why (g.N.Notes.tells c.frames.notes c.step.new.notes) goes told.1)

@@ -14,7 +14,8 @@ use Rattle.session_core.specs.declared.state.Waiting.TheVariants as waiting
 use Rattle.session_core.specs.declared.state.State.{State}
 use Rattle.session_core.specs.declared.judge.ClientJudged.TheVariants as client
 use Rattle.session_core.proofs.Moves.{call_told, looks, judges, behind_whole, pushed, after_client, refused_step, knows_nothing, found_at, found_by, knows_by}
-use Rattle.session_core.proofs.Keeping.{keeps_still, ready_written, ready_calling, ready_knowing, cut_within, works_at}
+use Rattle.session_core.specs.Looks.{came}
+use Rattle.session_core.proofs.Keeping.{keeps_still, keeps_halting, ready_written, ready_calling, ready_halting, ready_knowing, cut_within, works_at}
 use Rattle.session_core.specs.declared.state.Waiting.{Waiting}
 use Rattle.gate_hub.specs.declared.hub.Side.TheVariants as side
 use Rattle.session_core.proofs.state.State.judge_step.Goals as goal
@@ -89,7 +90,7 @@ returns-in-Refused-clause-comes g c =
     let frame = c.in-Frame.frame.now in
     let rest = c.in-Frame.ensures.exact.0 in
     let out : c.cut-in-Refused.new.self.bytes ≡ [] = ap (λ (b : Buffer). b.bytes) c.cut-in-Refused.ensures in
-    refused_step c.answer_step.result rules c.args.self.now.client.held.limit c.args.self.now.calls.capacity s (record s { to_upstream = c.cut-in-Refused.new.self.bytes }) (standing c.answer_step.new.self) frame rest ((g.J.Judge.rules c.judge_client.new.judge).answer frame) c.in-Refused.cause none few c.in-Frame.ensures.exact.1 (sym c.in-Refused.ensures.verdict) (ap (λ (xs : List ℕ). let r : Standing = record s { to_upstream = xs } in r) (out ∙ sym none)) (ap (λ (j : g.row.J.Denot). (g.J.Judge.rules j).answer frame) c.judge_client.ensures.same) (c.answer_step.ensures.comes frame rest c.in-Frame.ensures.exact.1)
+    refused_step (came c.answer_step.result c.answer_step.new.self.halt) rules c.args.self.now.client.held.limit c.args.self.now.calls.capacity s (record s { to_upstream = c.cut-in-Refused.new.self.bytes }) (standing c.answer_step.new.self) frame rest ((g.J.Judge.rules c.judge_client.new.judge).answer frame) c.in-Refused.cause none few c.in-Frame.ensures.exact.1 (sym c.in-Refused.ensures.verdict) (ap (λ (xs : List ℕ). let r : Standing = record s { to_upstream = xs } in r) (out ∙ sym none)) (ap (λ (j : g.row.J.Denot). (g.J.Judge.rules j).answer frame) c.judge_client.ensures.same) (c.answer_step.ensures.comes frame rest c.in-Frame.ensures.exact.1)
 
 pub returns-in-Halts-clause-comes : goal.returns-in-Halts-clause-comes
 returns-in-Halts-clause-comes g c =
@@ -108,7 +109,7 @@ pub returns-in-NeedMore-clause-keeps : goal.returns-in-NeedMore-clause-keeps
 returns-in-NeedMore-clause-keeps g c = keeps_still (g.J.Judge.rules c.args.judge.now) _ c.args.self.now c.requires.works
 
 pub returns-in-TooLarge-clause-keeps : goal.returns-in-TooLarge-clause-keeps
-returns-in-TooLarge-clause-keeps g c = keeps_still (g.J.Judge.rules c.args.judge.now) _ c.args.self.now c.requires.works
+returns-in-TooLarge-clause-keeps g c = keeps_halting (g.J.Judge.rules c.args.judge.now) _ c.args.self.now _ c.requires.works
 
 pub returns-in-Opens-clause-keeps : goal.returns-in-Opens-clause-keeps
 returns-in-Opens-clause-keeps g c =
@@ -144,9 +145,11 @@ pub returns-in-Halts-clause-keeps : goal.returns-in-Halts-clause-keeps
 returns-in-Halts-clause-keeps g c =
     let s = c.args.self.now in
     let room = ap (λ (b : Buffer). b.room) c.cut-in-Halts.ensures ∙ ap (λ (b : Buffer). b.room) c.judge_client.ensures.out in
+    let known : Option Waiting = Some (waiting.Halts c.in-Halts.halt) in
     record {
-      ready = ready_knowing s.client.held.limit s.calls.capacity (record s { upstream = record (s.upstream) { due = c.cut-in-Halts.new.self } }) _
-          (ready_written side.Upstream s.client.held.limit s.calls.capacity s c.cut-in-Halts.new.self room (cut_within c.cut-in-Halts.new.self (ap (λ (b : Buffer). b.bytes) c.cut-in-Halts.ensures)) c.requires.works.ready);
+      ready = ready_halting s.client.held.limit s.calls.capacity (record s { upstream = record (s.upstream) { due = c.cut-in-Halts.new.self }; known = known }) _
+          (ready_knowing s.client.held.limit s.calls.capacity (record s { upstream = record (s.upstream) { due = c.cut-in-Halts.new.self } }) known
+          (ready_written side.Upstream s.client.held.limit s.calls.capacity s c.cut-in-Halts.new.self room (cut_within c.cut-in-Halts.new.self (ap (λ (b : Buffer). b.bytes) c.cut-in-Halts.ensures)) c.requires.works.ready));
       known = found_at (g.J.Judge.rules c.args.judge.now) s.client.held.limit s.client.held.held c.in-Frame.frame.now c.in-Frame.ensures.exact.0 (waiting.Halts c.in-Halts.halt) c.in-Frame.ensures.exact.1 c.in-Frame.ensures.cut (sym c.in-Halts.ensures.verdict);
     }
 
@@ -216,4 +219,4 @@ returns-in-Dropped-clause-told g c =
 pub returns-in-Refused-clause-told : goal.returns-in-Refused-clause-told
 returns-in-Refused-clause-told g c =
     let s = c.args.self.now in
-    subst (λ j. g.N.Notes.tells c.args.notes.now c.answer_step.new.notes (told_if c.answer_step.result (call_front_notes (g.J.Judge.rules j) s.client.count (front s.client.held.limit s.client.held.held)))) c.judge_client.ensures.same c.answer_step.ensures.told
+    subst (λ j. g.N.Notes.tells c.args.notes.now c.answer_step.new.notes (told_if (came c.answer_step.result c.answer_step.new.self.halt) (call_front_notes (g.J.Judge.rules j) s.client.count (front s.client.held.limit s.client.held.held)))) c.judge_client.ensures.same c.answer_step.ensures.told

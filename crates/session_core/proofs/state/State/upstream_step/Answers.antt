@@ -13,7 +13,8 @@ use Rattle.session_core.specs.declared.judge.UpstreamJudged.TheVariants as upstr
 use Rattle.session_core.proofs.Moves.{told_ends, reply_told, paid_none, owed_some, knows_kept, asks, answers, no_call, due_first, no_reply, first_of, no_first, none_open, some_open, behind_whole, other_limit, after_upstream}
 use Rattle.session_core.specs.declared.state.State.{State}
 use Rattle.gate_hub.specs.declared.hub.Side.TheVariants as side
-use Rattle.session_core.proofs.Keeping.{keeps_still, ready_written, cut_within}
+use Rattle.session_core.specs.Looks.{came}
+use Rattle.session_core.proofs.Keeping.{keeps_still, keeps_halting, keeps_looking, ready_halting, ready_written, cut_within}
 use Rattle.session_core.proofs.state.State.upstream_step.Goals as goal
 
 pub returns-in_default-clause-comes : goal.returns-in_default-clause-comes
@@ -23,16 +24,17 @@ pub returns-then-is_empty-clause-comes : goal.returns-then-is_empty-clause-comes
 returns-then-is_empty-clause-comes g c = (no_call _ _ (standing c.args.self.now) (none_open c.is_empty.result c.args.self.now.calls.items c.if-is_empty.true c.is_empty.ensures), refl)
 
 -- what the end of the upstream does, by its own limit
-ends : (limit other : ℕ) (held : List ℕ) (ended : Rattle.std.proofs.Common.Bool) (came : SessionStep) (m : Move) (s t : Standing) → other ≡ limit → came ≡ ends_step (is_part (front other held)) ended → Comes (ends_step (is_part (front limit held)) ended) m s t → Comes came m s t
-ends limit other held ended came m s t e is h =
-    subst (λ (u : SessionStep). Comes u m s t) (ap (λ n. ends_step (is_part (front n held)) ended) (sym e) ∙ sym is) h
+ends : (limit other : ℕ) (held : List ℕ) (ended : Rattle.std.proofs.Common.Bool) (step : SessionStep) (m : Move) (s t : State) → other ≡ limit → step ≡ ends_step (is_part (front other held)) ended → t ≡ record s { halt = t.halt } → Comes (ends_step (is_part (front limit held)) ended) m (standing s) (standing s) → Comes step m (standing s) (standing t)
+ends limit other held ended step m s t e is same h =
+    subst (λ (u : Standing). Comes step m (standing s) u) (sym (ap standing same))
+    (subst (λ (u : SessionStep). Comes u m (standing s) (standing s)) (ap (λ n. ends_step (is_part (front n held)) ended) (sym e) ∙ sym is) h)
 
 pub returns-then-not-is_paid-clause-comes : goal.returns-then-not-is_paid-clause-comes
 returns-then-not-is_paid-clause-comes g c =
     let s = standing c.args.self.now in
     let some : 0 < length c.args.self.now.client.due.bytes = owed_some c.is_paid.result c.args.self.now.client.due.bytes c.if-not-is_paid.true c.is_paid.ensures in
     let oldest = some_open c.is_empty.result c.args.self.now.calls.items c.if-is_empty.false c.is_empty.ensures in
-    ends c.args.self.now.client.held.limit c.args.self.now.upstream.held.limit c.args.self.now.upstream.held.held c.args.self.now.upstream.ended c.upstream_ends.result _ s s c.requires.works.ready.upstream.limit_is c.upstream_ends.ensures
+    ends c.args.self.now.client.held.limit c.args.self.now.upstream.held.limit c.args.self.now.upstream.held.held c.args.self.now.upstream.ended (came c.upstream_ends.result c.upstream_ends.new.self.halt) _ c.args.self.now c.upstream_ends.new.self c.requires.works.ready.upstream.limit_is c.upstream_ends.ensures.ends c.upstream_ends.ensures.same
     (due_first (g.J.Judge.rules c.args.judge.now) c.args.self.now.client.held.limit s oldest.0 (drop 1 c.args.self.now.calls.items) oldest.1 some)
 
 pub judge_upstream-requires-clause-fits : goal.judge_upstream-requires-clause-fits
@@ -51,7 +53,7 @@ returns-in-NeedMore-clause-comes g c =
     let none : c.args.self.now.client.due.bytes ≡ [] = paid_none c.is_paid.result c.args.self.now.client.due.bytes c.if-not-is_paid.false c.is_paid.ensures in
     let oldest = some_open c.is_empty.result c.args.self.now.calls.items c.if-is_empty.false c.is_empty.ensures in
     let part = other_limit c.args.self.now.client.held.limit c.args.self.now.upstream.held.limit c.args.self.now.upstream.held.held Part c.requires.works.ready.upstream.limit_is c.in-NeedMore.ensures.exact in
-    ends c.args.self.now.client.held.limit c.args.self.now.upstream.held.limit c.args.self.now.upstream.held.held c.args.self.now.upstream.ended c.upstream_ends-in-NeedMore.result _ s s c.requires.works.ready.upstream.limit_is c.upstream_ends-in-NeedMore.ensures
+    ends c.args.self.now.client.held.limit c.args.self.now.upstream.held.limit c.args.self.now.upstream.held.held c.args.self.now.upstream.ended (came c.upstream_ends-in-NeedMore.result c.upstream_ends-in-NeedMore.new.self.halt) _ c.args.self.now c.upstream_ends-in-NeedMore.new.self c.requires.works.ready.upstream.limit_is c.upstream_ends-in-NeedMore.ensures.ends c.upstream_ends-in-NeedMore.ensures.same
     (no_reply (g.J.Judge.rules c.args.judge.now) c.args.self.now.client.held.limit s oldest.0 (drop 1 c.args.self.now.calls.items) oldest.1 none part)
 
 pub returns-in-TooLarge-clause-comes : goal.returns-in-TooLarge-clause-comes
@@ -97,20 +99,21 @@ pub returns-then-is_empty-clause-keeps : goal.returns-then-is_empty-clause-keeps
 returns-then-is_empty-clause-keeps g c = keeps_still (g.J.Judge.rules c.args.judge.now) _ c.args.self.now c.requires.works
 
 pub returns-then-not-is_paid-clause-keeps : goal.returns-then-not-is_paid-clause-keeps
-returns-then-not-is_paid-clause-keeps g c = keeps_still (g.J.Judge.rules c.args.judge.now) _ c.args.self.now c.requires.works
+returns-then-not-is_paid-clause-keeps g c = keeps_looking (g.J.Judge.rules c.args.judge.now) _ c.args.self.now c.upstream_ends.new.self c.upstream_ends.ensures.same c.requires.works
 
 pub returns-in-NeedMore-clause-keeps : goal.returns-in-NeedMore-clause-keeps
-returns-in-NeedMore-clause-keeps g c = keeps_still (g.J.Judge.rules c.args.judge.now) _ c.args.self.now c.requires.works
+returns-in-NeedMore-clause-keeps g c = keeps_looking (g.J.Judge.rules c.args.judge.now) _ c.args.self.now c.upstream_ends-in-NeedMore.new.self c.upstream_ends-in-NeedMore.ensures.same c.requires.works
 
 pub returns-in-TooLarge-clause-keeps : goal.returns-in-TooLarge-clause-keeps
-returns-in-TooLarge-clause-keeps g c = keeps_still (g.J.Judge.rules c.args.judge.now) _ c.args.self.now c.requires.works
+returns-in-TooLarge-clause-keeps g c = keeps_halting (g.J.Judge.rules c.args.judge.now) _ c.args.self.now _ c.requires.works
 
 pub returns-in-Halts-clause-keeps : goal.returns-in-Halts-clause-keeps
 returns-in-Halts-clause-keeps g c =
     let s = c.args.self.now in
     let room = ap (λ (b : Buffer). b.room) c.cut.ensures ∙ ap (λ (b : Buffer). b.room) c.judge_upstream.ensures.out in
     record {
-      ready = ready_written side.Client s.client.held.limit s.calls.capacity s c.cut.new.self room (cut_within c.cut.new.self (ap (λ (b : Buffer). b.bytes) c.cut.ensures)) c.requires.works.ready;
+      ready = ready_halting s.client.held.limit s.calls.capacity (record s { client = record (s.client) { due = c.cut.new.self } }) _
+          (ready_written side.Client s.client.held.limit s.calls.capacity s c.cut.new.self room (cut_within c.cut.new.self (ap (λ (b : Buffer). b.bytes) c.cut.ensures)) c.requires.works.ready);
       known = c.requires.works.known;
     }
 
@@ -136,12 +139,12 @@ returns-then-is_empty-clause-told g c = g.met.N.Notes.stays c.args.notes.now
 pub returns-then-not-is_paid-clause-told : goal.returns-then-not-is_paid-clause-told
 returns-then-not-is_paid-clause-told g c =
     let a = c.args.notes.now in
-    subst (λ ns. g.N.Notes.tells a a ns) (told_ends c.upstream_ends.result _ _ _ c.upstream_ends.ensures) (g.met.N.Notes.stays a)
+    subst (λ ns. g.N.Notes.tells a a ns) (told_ends (came c.upstream_ends.result c.upstream_ends.new.self.halt) _ _ _ c.upstream_ends.ensures.ends) (g.met.N.Notes.stays a)
 
 pub returns-in-NeedMore-clause-told : goal.returns-in-NeedMore-clause-told
 returns-in-NeedMore-clause-told g c =
     let a = c.args.notes.now in
-    subst (λ ns. g.N.Notes.tells a a ns) (told_ends c.upstream_ends-in-NeedMore.result _ _ _ c.upstream_ends-in-NeedMore.ensures) (g.met.N.Notes.stays a)
+    subst (λ ns. g.N.Notes.tells a a ns) (told_ends (came c.upstream_ends-in-NeedMore.result c.upstream_ends-in-NeedMore.new.self.halt) _ _ _ c.upstream_ends-in-NeedMore.ensures.ends) (g.met.N.Notes.stays a)
 
 pub returns-in-TooLarge-clause-told : goal.returns-in-TooLarge-clause-told
 returns-in-TooLarge-clause-told g c = g.met.N.Notes.stays c.args.notes.now
