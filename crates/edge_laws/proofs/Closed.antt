@@ -44,18 +44,18 @@ pub closed_is_sent : {W S : Type 0} (Is : Type 0) (tells : S → Wire → Type 0
 closed_is_sent {W} {S} Is tells a b c m k told open_is closes winds =
     let links = links_of (told.world k) refl (open_there (m.session k) (told.world k) (told.sessions.sides k) open_is.0 open_is.1) in
     let closed = closes told.world links.0 told.sockets links.1 in
-    by links.0 closed.0 closed.2.0 (subst (λ (o : Option Links). Agrees (m.session k) o) links.1 (told.sessions.sides k)) closed.2.2 c.sockets.listening refl (subst (λ (o : Option (Listening S)). ListeningWinds tells o c.sockets.listening) closed.1 winds.on)
+    by links.0 closed.0 closed.2.0 (subst (λ (o : Option Links). Agrees (m.session k) o) links.1 (told.sessions.sides k)) closed.2.2 c.sockets.serving.listening refl (subst (λ (o : Option (Listening S)). ListeningWinds tells o c.sockets.serving.listening) closed.1 winds.on)
   where
     links_of : (o : Option Links) → told.world k ≡ o → IsSome o → (links : Links) × (told.world k ≡ Some links)
     links_of None e some = absurd (cc)
     links_of (Some links) e some = (links, e)
 
-    ends : (links : Links) (l : Listening S) (place : ℕ) → Agrees (m.session k) (Some links) → c.sockets.listening ≡ Some l → WoundOn tells l.table.sessions place k links → IsSent tells c m k
+    ends : (links : Links) (l : Listening S) (place : ℕ) → Agrees (m.session k) (Some links) → c.sockets.serving.listening ≡ Some l → WoundOn tells l.table.sessions place k links → IsSent tells c m k
     ends links l place agrees is (after, same, inl (s, stands, number, shut, tells_ports)) =
         inl (l, place, s, is, stands, number, shut, (λ side. sends_at tells (slice_get s.ports.items (port_number side)) (after (port_number side)) (link_of (m.session k) side).sent (tells_ports (port_number side)) (same (port_number side) ∙ sym (alike_at side (m.session k) links agrees).sent)))
     ends links l place agrees is (after, same, inr (s, number, shut, tells_ports, settled)) =
         inr (s, number, shut, (λ side. has_sent_at tells (slice_get s.ports.items (port_number side)) (after (port_number side)) (link_of (m.session k) side).sent (tells_ports (port_number side)) (settled (port_number side)) (same (port_number side) ∙ sym (alike_at side (m.session k) links agrees).sent)))
 
-    by : (links : Links) (l : Listening S) (place : ℕ) → Agrees (m.session k) (Some links) → WoundOn tells l.table.sessions place k links → (o : Option (Listening S)) → c.sockets.listening ≡ o → ListeningWinds tells (Some l) o → IsSent tells c m k
+    by : (links : Links) (l : Listening S) (place : ℕ) → Agrees (m.session k) (Some links) → WoundOn tells l.table.sessions place k links → (o : Option (Listening S)) → c.sockets.serving.listening ≡ o → ListeningWinds tells (Some l) o → IsSent tells c m k
     by links l place agrees wound None is winds = absurd winds
     by links l place agrees wound (Some l') is winds = ends links l' place agrees is (wound_further tells l.table.sessions l'.table.sessions winds place k links wound)

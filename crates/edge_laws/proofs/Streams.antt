@@ -49,7 +49,7 @@ alike_at side.Client told links agrees = agrees.2
 alike_at side.Upstream told links agrees = agrees.3
 
 pub own_stream : {W S : Type 0} (Is : Type 0) (tells : S → Wire → Type 0) (hub : MioHub W S) (m : Meaning) → HubTells Is tells hub m → (k : ℕ) → IsOpen k m → (s : Side) → HasOwnStream tells hub m k s
-own_stream {W} {S} Is tells hub m told k open_is s = by (told.world k) refl hub.sockets.listening refl told.sockets.sessions
+own_stream {W} {S} Is tells hub m told k open_is s = by (told.world k) refl hub.sockets.serving.listening refl told.sockets.sessions
   where
     links_of : (o : Option Links) → told.world k ≡ o → IsSome o → (links : Links) × (told.world k ≡ Some links)
     links_of None e some = absurd (cc)
@@ -58,7 +58,7 @@ own_stream {W} {S} Is tells hub m told k open_is s = by (told.world k) refl hub.
     none_there : (links : Links) → None ≡ Some links → ⊥
     none_there links e = absurd (cc)
 
-    by : (o : Option Links) → told.world k ≡ o → (l : Option (Listening S)) → hub.sockets.listening ≡ l → ListeningTells tells l told.world → HasOwnStream tells hub m k s
+    by : (o : Option Links) → told.world k ≡ o → (l : Option (Listening S)) → hub.sockets.serving.listening ≡ l → ListeningTells tells l told.world → HasOwnStream tells hub m k s
     by o e None is t =
         let links = links_of (told.world k) refl (open_there (m.session k) (told.world k) (told.sessions.sides k) open_is.0 open_is.1) in
         absurd (none_there links.0 (sym (t k) ∙ links.1))
@@ -72,7 +72,7 @@ own_stream {W} {S} Is tells hub m told k open_is s = by (told.world k) refl hub.
 
 nothing_to_read : {S : Type 0} (tells : S → Wire → Type 0) (port : Port S) (link : Link) (o : Option S) → port.stream ≡ o → PortTellsBy tells o port link → (CanRead port → ⊥) → NothingToRead tells o port
 nothing_to_read tells port link None is told never = tt
-nothing_to_read {S} tells port link (Some s) is (wire, says, joins) never = (wire, says, at port.receiving refl joins.room_in)
+nothing_to_read {S} tells port link (Some s) is (wire, says, joins) never = (wire, says, at port.receiving refl port.room_in)
   where
     here : IsSome port.stream
     here = subst (λ (x : Option S). IsSome x) (sym is) refl
@@ -86,7 +86,7 @@ nothing_to_read {S} tells port link (Some s) is (wire, says, joins) never = (wir
 
 nothing_is_taken : {S : Type 0} (tells : S → Wire → Type 0) (port : Port S) (link : Link) (o : Option S) → port.stream ≡ o → PortTellsBy tells o port link → (CanWrite port → ⊥) → NothingIsTaken tells o port
 nothing_is_taken tells port link None is told never = tt
-nothing_is_taken {S} tells port link (Some s) is (wire, says, joins) never = (wire, says, at port.sending refl joins.room_out)
+nothing_is_taken {S} tells port link (Some s) is (wire, says, joins) never = (wire, says, at port.sending refl port.room_out)
   where
     here : IsSome port.stream
     here = subst (λ (x : Option S). IsSome x) (sym is) refl
@@ -101,7 +101,7 @@ nothing_is_taken {S} tells port link (Some s) is (wire, says, joins) never = (wi
 -- a session that isn't to have a turn has no port of which a caller waits for what is there
 named_or : {W S : Type 0} (Is : Type 0) (tells : S → Wire → Type 0) (P : Option S → Port S → Type 0) (hub : MioHub W S) (m : Meaning) → HubTells Is tells hub m → (k : ℕ) → IsOpen k m → (s : Side)
     → ((port : Port S) (link : Link) → Alike link (link_of (m.session k) s) → PortTellsBy tells port.stream port link → (IsAwaited (Some port) link → ⊥) → P port.stream port) → IsNamedOr P hub k s
-named_or {W} {S} Is tells P hub m told k open_is s holds = by (told.world k) refl hub.sockets.listening refl told.sockets.sessions
+named_or {W} {S} Is tells P hub m told k open_is s holds = by (told.world k) refl hub.sockets.serving.listening refl told.sockets.sessions
   where
     links_of : (o : Option Links) → told.world k ≡ o → IsSome o → (links : Links) × (told.world k ≡ Some links)
     links_of None e some = absurd (cc)
@@ -113,7 +113,7 @@ named_or {W} {S} Is tells P hub m told k open_is s holds = by (told.world k) ref
     false_true : false ≡ true → ⊥
     false_true e = absurd (cc)
 
-    by : (o : Option Links) → told.world k ≡ o → (l : Option (Listening S)) → hub.sockets.listening ≡ l → ListeningTells tells l told.world → IsNamedOr P hub k s
+    by : (o : Option Links) → told.world k ≡ o → (l : Option (Listening S)) → hub.sockets.serving.listening ≡ l → ListeningTells tells l told.world → IsNamedOr P hub k s
     by o e None is t =
         let links = links_of (told.world k) refl (open_there (m.session k) (told.world k) (told.sessions.sides k) open_is.0 open_is.1) in
         absurd (none_there links.0 (sym (t k) ∙ links.1))

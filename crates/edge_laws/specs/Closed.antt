@@ -33,7 +33,7 @@ PortHasSent tells (Some port) bytes = StreamHasSent tells port.stream bytes
 -- session k stands closed among the sessions of the hub, and sends these bytes still at each side
 abbrev pub SendsStill : {W S : Type 0} → (S → Wire → Type 0) → MioHub W S → ℕ → (Side → List ℕ) → Type 0
 SendsStill {W} {S} tells hub k bytes =
-    (listening : Listening S) × (place : ℕ) × (session : Session S) × (hub.sockets.listening ≡ Some listening) × (get listening.table.sessions place ≡ Some session)
+    (listening : Listening S) × (place : ℕ) × (session : Session S) × (hub.sockets.serving.listening ≡ Some listening) × (get listening.table.sessions place ≡ Some session)
     × (session.number ≡ k) × (session.is_open ≡ false) × ((s : Side) → PortSends tells (slice_get session.ports.items (port_number s)) (bytes s))
 
 -- session k was let go once it had sent these bytes at each side

@@ -38,7 +38,7 @@ PortCarries tells (Some port) link = StreamCarries tells port.stream link
 -- session k stands among the sessions of the hub, once, and a side of it has what its port's stream has
 abbrev pub HasOwnStream : {W S : Type 0} → (S → Wire → Type 0) → MioHub W S → Meaning → ℕ → Side → Type 0
 HasOwnStream {W} {S} tells hub m k s =
-    (listening : Listening S) × (place : ℕ) × (session : Session S) × (hub.sockets.listening ≡ Some listening) × (get listening.table.sessions place ≡ Some session)
+    (listening : Listening S) × (place : ℕ) × (session : Session S) × (hub.sockets.serving.listening ≡ Some listening) × (get listening.table.sessions place ≡ Some session)
     × (session.number ≡ k) × (session.is_open ≡ true) × PortCarries tells (slice_get session.ports.items (port_number s)) (link_of (m.session k) s)
 
 -- Nothing is there to be read: there is no connection, or its stream isn't readable as far as was reported since a read found the
@@ -59,7 +59,7 @@ AtPortOf P (Some port) = P port.stream port
 -- session k stands among those that are to have a turn, or this holds at a side of it
 abbrev pub IsNamedOr : {W S : Type 0} → (Option S → Port S → Type 0) → MioHub W S → ℕ → Side → Type 0
 IsNamedOr {W} {S} P hub k s =
-    (listening : Listening S) × (place : ℕ) × (session : Session S) × (hub.sockets.listening ≡ Some listening) × (get listening.table.sessions place ≡ Some session) × (session.number ≡ k)
+    (listening : Listening S) × (place : ℕ) × (session : Session S) × (hub.sockets.serving.listening ≡ Some listening) × (get listening.table.sessions place ≡ Some session) × (session.number ≡ k)
     × (Has (turns_of listening.table) place ⊎ AtPortOf P (slice_get session.ports.items (port_number s)))
 
 -- a side that was answered that it isn't ready to be read is named once it is

@@ -1,5 +1,7 @@
 //! A network in memory.
-ghost use Rattle.std.specs.Prelude.{◌≡◌, ◌<◌, ◌-◌, ◌^◌, ⊤, [], false, IfOk, IfSome};
+ghost use Rattle.std.specs.Prelude.{◌≡◌, ◌<◌, ◌-◌, ◌^◌, ⊤, [], false, Some, IfOk, IfSome};
+ghost use Rattle.std.specs.Net.Socket.{socket_port};
+ghost use Rattle.std.specs.declared.net.socket_addr.SocketAddr.{SocketAddr};
 ghost use Rattle.mio_edge.specs.Wire.{Stays, IfCame, new_wire};
 ghost use Rattle.mio_edge.specs.Numbers.{Passes, IfNumbered};
 ghost use Rattle.mio_edge.specs.declared.network.Accepted.TheVariants as accepted;
@@ -62,8 +64,12 @@ impl Network for MemNetwork {
 
     ghost is_shared = { ⊥ };
 
+    ghost names = { λ _ port address. socket_port address ≡ port };
+
     // Each name is known: a connection is to the next target whatever its address.
-    fn look_up(&mut self, _name: &[u8], port: u16) -> Option<SocketAddr> {
+    fn look_up(&mut self, _name: &[u8], port: u16) -> Option<SocketAddr>
+        ensures { (address : SocketAddr) → result ≡ Some address → socket_port address ≡ port }
+    {
         Some(SocketAddr::new(IpAddr::V4(Ipv4Addr::LOCALHOST), port))
     }
 

@@ -45,8 +45,8 @@ pub then_stays : {A : Type 0} (x y z : A → Type 0) (Step : A → A → Type 0)
 then_stays x y z Step moves stays a told = let moved = moves a told in (moved.0, stays moved.0 moved.1, moved.2)
 
 -- what was received and not handed out is passed over: the link has received it
-pub passes_over : {S : Type 0} (tells : S → Wire → Type 0) (a b : Port S) → b ≡ record a { incoming = b.incoming } → b.incoming.bytes ≡ [] → b.incoming.room ≡ a.incoming.room → Moves (PortTells tells a) (PortTells tells b) KeepsSent
-passes_over {S} tells a b same none room link told = (next, subst (λ (p : Port S). PortTells tells p next) (sym same) (by a.stream told), refl)
+pub passes_over : {S : Type 0} (tells : S → Wire → Type 0) (a b : Port S) → b ≡ record a { incoming = b.incoming; room_in = b.room_in } → b.incoming.bytes ≡ [] → Moves (PortTells tells a) (PortTells tells b) KeepsSent
+passes_over {S} tells a b same none link told = (next, subst (λ (p : Port S). PortTells tells p next) (sym same) (by a.stream told), refl)
   where
     next : Link
     next = record link { received = link.received ++ a.incoming.bytes }
@@ -54,7 +54,7 @@ passes_over {S} tells a b same none room link told = (next, subst (λ (p : Port 
     all : next.received ≡ next.received ++ b.incoming.bytes
     all = sym (append-nil next.received) ∙ ap (λ xs. next.received ++ xs) (sym none)
 
-    by : (o : Option S) → PortTellsBy tells o a link → PortTellsBy tells o (record a { incoming = b.incoming }) next
+    by : (o : Option S) → PortTellsBy tells o a link → PortTellsBy tells o (record a { incoming = b.incoming; room_in = b.room_in }) next
     by None untouched = record {
       received = ap (λ xs. xs ++ a.incoming.bytes) untouched.received ∙ untouched.incoming;
       sent = untouched.sent;
@@ -78,8 +78,6 @@ passes_over {S} tells a b same none room link told = (next, subst (λ (p : Port 
         blocked = joins.blocked;
         begun = joins.begun;
         shut = joins.shut;
-        room_in = subst (λ (n : ℕ). 0 < n) (sym room) joins.room_in;
-        room_out = joins.room_out;
       },
     )
 

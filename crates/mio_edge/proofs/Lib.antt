@@ -1,6 +1,8 @@
 pub mod Closing
 pub mod Each
 pub mod Entries
+pub mod Leading
+pub mod Numbered
 pub mod Numbers
 pub mod Order
 pub mod Places
@@ -9,6 +11,7 @@ pub mod Received
 pub mod Searching
 pub mod Sessions
 pub mod Standing
+pub mod Stepping
 pub mod Steps
 pub mod Tables
 pub mod Telling

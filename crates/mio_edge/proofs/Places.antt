@@ -48,13 +48,13 @@ module _ {S : Type 0} where
   pub port_at : (slab : Slab (Session S)) (place port : ℕ) (a : Session S) → get slab place ≡ Some a → HasPortAt slab place port → port < length a.ports.items
   port_at slab place port a was (session, is, less) = subst (λ (x : Session S). port < length x.ports.items) (some_same (get slab place) session a is was) less
 
-  pub connects_at : (stream : S) (ready : Sending) (slab : Slab (Session S)) (place port : ℕ) (a b : Session S) → get slab place ≡ Some a → ConnectsPort stream ready port a.ports.items b.ports.items → Connects stream ready place port slab (with_value slab place b)
-  connects_at stream ready slab place port a b was connects x y is now =
-      subst (λ (s : Session S). ConnectsPort stream ready port s.ports.items y.ports.items) (some_same (get slab place) a x was is)
-      (subst (λ (s : Session S). ConnectsPort stream ready port a.ports.items s.ports.items) (put_there slab place a b y was now) connects)
+  pub connects_at : (stream : S) (begun : Sending) (slab : Slab (Session S)) (place port : ℕ) (a b : Session S) → get slab place ≡ Some a → ConnectsPort stream begun port a.ports.items b.ports.items → Connects stream begun place port slab (with_value slab place b)
+  connects_at stream begun slab place port a b was connects x y is now =
+      subst (λ (s : Session S). ConnectsPort stream begun port s.ports.items y.ports.items) (some_same (get slab place) a x was is)
+      (subst (λ (s : Session S). ConnectsPort stream begun port a.ports.items s.ports.items) (put_there slab place a b y was now) connects)
 
-  pub connects_none : (stream : S) (ready : Sending) (slab : Slab (Session S)) (place port : ℕ) → get slab place ≡ None → Connects stream ready place port slab slab
-  connects_none stream ready slab place port none x y is now = absurd (no_none (get slab place) x is none)
+  pub connects_none : (stream : S) (begun : Sending) (slab : Slab (Session S)) (place port : ℕ) → get slab place ≡ None → Connects stream begun place port slab slab
+  connects_none stream begun slab place port none x y is now = absurd (no_none (get slab place) x is none)
 
   pub deferred_at : (slab : Slab (Session S)) (place port : ℕ) (a b : Session S) → get slab place ≡ Some a → IsDeferredIn (with_value slab place b) place port → IsDeferredAt (slice_get b.ports.items port)
   deferred_at slab place port a b was (session, is, deferred) = subst (λ (x : Session S). IsDeferredAt (slice_get x.ports.items port)) (sym (put_there slab place a b session was is)) deferred

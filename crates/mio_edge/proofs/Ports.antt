@@ -1,5 +1,6 @@
 -- What a port tells once it has read, written, handed out or taken in.
 use Rattle.std.proofs.Common.{◌≡◌, ◌≢◌, ℕ, ◌<◌, ◌⊎◌, inl, inr, List, ◌++◌, length, take, Bool, true, false, true≢false, ◌||◌, if◌then◌else◌, Option, None, Some, IsSome, refl, sym, ap, ◌∙◌, subst, arith, append_assoc}
+use Rattle.std.specs.Coded.{le_prop}
 use Rattle.gate_io.specs.Buffer.{Buffer}
 use Rattle.gate_hub.specs.Meaning.{Link}
 use Rattle.gate_hub.specs.Hubs.{LinkReads, LinkWrites}
@@ -15,6 +16,24 @@ use Rattle.mio_edge.specs.declared.port.Receiving.{Receiving}
 use Rattle.mio_edge.specs.declared.port.Receiving.TheVariants as receiving
 use Rattle.mio_edge.specs.declared.port.Sending.{Sending}
 use Rattle.mio_edge.specs.declared.port.Sending.TheVariants as sending
+
+-- ports whose parts are the same, but for the proofs that their buffers have room
+pub port_same : {S : Type 0} (a b : Port S) → b.stream ≡ a.stream → b.receiving ≡ a.receiving → b.sending ≡ a.sending → b.incoming ≡ a.incoming → b.outgoing ≡ a.outgoing → b ≡ a
+port_same {S} a b stream receiving sending incoming outgoing =
+    ap (λ (x : Option S). record b { stream = x }) stream
+    ∙ (ap (λ (x : Receiving). record b { stream = a.stream; receiving = x }) receiving
+    ∙ (ap (λ (x : Sending). record b { stream = a.stream; receiving = a.receiving; sending = x }) sending
+    ∙ (subst (λ (x : Buffer). (room : 0 < x.room) → record b { stream = a.stream; receiving = a.receiving; sending = a.sending; incoming = x; room_in = room } ≡ record b { stream = a.stream; receiving = a.receiving; sending = a.sending; incoming = a.incoming; room_in = a.room_in }) (sym incoming)
+    (λ room. ap (λ (r : 0 < a.incoming.room). record b { stream = a.stream; receiving = a.receiving; sending = a.sending; incoming = a.incoming; room_in = r }) (le_prop room a.room_in)) b.room_in
+    ∙ subst (λ (x : Buffer). (room : 0 < x.room) → record a { outgoing = x; room_out = room } ≡ a) (sym outgoing) (λ room. ap (λ (r : 0 < a.outgoing.room). record a { room_out = r }) (le_prop room a.room_out)) b.room_out)))
+
+-- only what is held of what came in has changed
+pub only_incoming : {S : Type 0} (a b : Port S) → b.stream ≡ a.stream → b.receiving ≡ a.receiving → b.sending ≡ a.sending → b.outgoing ≡ a.outgoing → b ≡ record a { incoming = b.incoming; room_in = b.room_in }
+only_incoming a b stream receiving sending outgoing = port_same (record a { incoming = b.incoming; room_in = b.room_in }) b stream receiving sending refl outgoing
+
+-- only what is held of what was written has changed
+pub only_outgoing : {S : Type 0} (a b : Port S) → b.stream ≡ a.stream → b.receiving ≡ a.receiving → b.sending ≡ a.sending → b.incoming ≡ a.incoming → b ≡ record a { outgoing = b.outgoing; room_out = b.room_out }
+only_outgoing a b stream receiving sending incoming = port_same (record a { outgoing = b.outgoing; room_out = b.room_out }) b stream receiving sending incoming refl
 
 flag : (b : Bool) → (b ≡ true → ⊥) → b ≡ false
 flag true never = absurd (never refl)
@@ -53,15 +72,15 @@ no_took_failed : (n : ℕ) → Some (put.Took n) ≡ Some put.Failed → ⊥
 no_took_failed n e = absurd (cc)
 
 -- the first of the bytes that are held are handed out
-pub hands_out : {S : Type 0} (tells : S → Wire → Type 0) (a b : Port S) (into : List ℕ) (n : ℕ) → 0 < length a.incoming.bytes → take n into ++ b.incoming.bytes ≡ a.incoming.bytes → b.incoming.room ≡ a.incoming.room → b ≡ record a { incoming = b.incoming } → Moves (PortTells tells a) (PortTells tells b) (LinkReads into (got.Bytes n))
-hands_out {S} tells a b into n some is room same link told =
+pub hands_out : {S : Type 0} (tells : S → Wire → Type 0) (a b : Port S) (into : List ℕ) (n : ℕ) → 0 < length a.incoming.bytes → take n into ++ b.incoming.bytes ≡ a.incoming.bytes → b ≡ record a { incoming = b.incoming; room_in = b.room_in } → Moves (PortTells tells a) (PortTells tells b) (LinkReads into (got.Bytes n))
+hands_out {S} tells a b into n some is same link told =
     let next : Link = record link { received = link.received ++ take n into; last_read = Some (got.Bytes n) } in
     (next, subst (λ (p : Port S). PortTells tells p next) (sym same) (by a.stream told), (not_ended tells a link told (held_open tells a link told some), refl))
   where
     next : Link
     next = record link { received = link.received ++ take n into; last_read = Some (got.Bytes n) }
 
-    by : (o : Option S) → PortTellsBy tells o a link → PortTellsBy tells o (record a { incoming = b.incoming }) next
+    by : (o : Option S) → PortTellsBy tells o a link → PortTellsBy tells o (record a { incoming = b.incoming; room_in = b.room_in }) next
     by None untouched = absurd (omega (arith, some, ap length untouched.incoming))
     by (Some s) (wire, says, joins) = (
       wire,
@@ -79,8 +98,6 @@ hands_out {S} tells a b into n some is room same link told =
         blocked = joins.blocked;
         begun = joins.begun;
         shut = joins.shut;
-        room_in = subst (λ (n : ℕ). 0 < n) (sym room) joins.room_in;
-        room_out = joins.room_out;
       },
     )
 
@@ -117,8 +134,6 @@ keeps_link {S} tells a link answer blame told = by a.stream refl told
         blocked = joins.blocked;
         begun = joins.begun;
         shut = joins.shut;
-        room_in = joins.room_in;
-        room_out = joins.room_out;
       },
     )
 
@@ -155,8 +170,6 @@ reads_end {S} tells a into over link told = (next, by a.stream refl told, refl)
         blocked = joins.blocked;
         begun = joins.begun;
         shut = joins.shut;
-        room_in = joins.room_in;
-        room_out = joins.room_out;
       },
     )
 
@@ -172,7 +185,7 @@ then_moves x y z Step stays moves a told = moves a (stays a told)
 
 -- ---- what is taken in
 
-pub takes_in : {S : Type 0} (tells : S → Wire → Type 0) (a b : Port S) (from : List ℕ) (answer : LinkPut) → IsSome a.stream → TakesIn answer from a.outgoing b.outgoing → b ≡ record a { outgoing = b.outgoing } → Moves (PortTells tells a) (PortTells tells b) (LinkWrites from answer)
+pub takes_in : {S : Type 0} (tells : S → Wire → Type 0) (a b : Port S) (from : List ℕ) (answer : LinkPut) → IsSome a.stream → TakesIn answer from a.outgoing b.outgoing → b ≡ record a { outgoing = b.outgoing; room_out = b.room_out } → Moves (PortTells tells a) (PortTells tells b) (LinkWrites from answer)
 takes_in {S} tells a b from answer some takes same link told = by answer takes
   where
     took : (n : ℕ) → Link
@@ -184,7 +197,7 @@ takes_in {S} tells a b from answer some takes same link told = by answer takes
     no_wait_failed : Some put.NotReady ≡ Some put.Failed → ⊥
     no_wait_failed e = absurd (cc)
 
-    sends : (n : ℕ) → b.outgoing ≡ record (a.outgoing) { bytes = a.outgoing.bytes ++ take n from } → (o : Option S) → IsSome o → PortTellsBy tells o a link → PortTellsBy tells o (record a { outgoing = b.outgoing }) (took n)
+    sends : (n : ℕ) → b.outgoing ≡ record (a.outgoing) { bytes = a.outgoing.bytes ++ take n from } → (o : Option S) → IsSome o → PortTellsBy tells o a link → PortTellsBy tells o (record a { outgoing = b.outgoing; room_out = b.room_out }) (took n)
     sends n is None some untouched = absurd (none_there S some)
     sends n is (Some s) some (wire, says, joins) = (
       wire,
@@ -202,12 +215,10 @@ takes_in {S} tells a b from answer some takes same link told = by answer takes
         blocked = joins.blocked;
         begun = joins.begun;
         shut = joins.shut;
-        room_in = joins.room_in;
-        room_out = subst (λ (x : Buffer). 0 < x.room) (sym is) joins.room_out;
       },
     )
 
-    keeps : b.outgoing ≡ a.outgoing → (o : Option S) → PortTellsBy tells o a link → PortTellsBy tells o (record a { outgoing = b.outgoing }) waits
+    keeps : b.outgoing ≡ a.outgoing → (o : Option S) → PortTellsBy tells o a link → PortTellsBy tells o (record a { outgoing = b.outgoing; room_out = b.room_out }) waits
     keeps is None untouched = record { received = untouched.received; sent = untouched.sent; ended = untouched.ended; incoming = untouched.incoming; outgoing = ap (λ (x : Buffer). x.bytes) is ∙ untouched.outgoing }
     keeps is (Some s) (wire, says, joins) = (
       wire,
@@ -225,12 +236,10 @@ takes_in {S} tells a b from answer some takes same link told = by answer takes
         blocked = joins.blocked;
         begun = joins.begun;
         shut = joins.shut;
-        room_in = joins.room_in;
-        room_out = subst (λ (x : Buffer). 0 < x.room) (sym is) joins.room_out;
       },
     )
 
-    back : (l : Link) → PortTells tells (record a { outgoing = b.outgoing }) l → PortTells tells b l
+    back : (l : Link) → PortTells tells (record a { outgoing = b.outgoing; room_out = b.room_out }) l → PortTells tells b l
     back l = subst (λ (p : Port S). PortTells tells p l) (sym same)
 
     by : (r : LinkPut) → TakesIn r from a.outgoing b.outgoing → (l : Link) × PortTells tells b l × LinkWrites from r link l
@@ -270,8 +279,6 @@ keeps_sent {S} tells a link answer blame told = by a.stream refl told
         blocked = joins.blocked;
         begun = joins.begun;
         shut = joins.shut;
-        room_in = joins.room_in;
-        room_out = joins.room_out;
       },
     )
 
@@ -403,8 +410,6 @@ hears_news {S} tells hears news a link told = by a.stream told
         blocked = λ e. let before = blocked_before news a.sending e in or_both wire.writable news.is_writable (joins.blocked before.0) before.1;
         begun = λ e. joins.begun (deferred_before news a.sending e);
         shut = λ e. joins.shut (shut_before news a.sending e);
-        room_in = joins.room_in;
-        room_out = joins.room_out;
       },
       (λ r. or_right wire.readable news.is_readable r),
       (λ w. or_right wire.writable news.is_writable w),

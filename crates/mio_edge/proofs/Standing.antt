@@ -109,7 +109,7 @@ module _ {S : Type 0} (tells : S → Wire → Type 0) where
 
   -- ---- a table of which no place is used
 
-  no_session : (slab : Slab (Session S)) → slab.slots ≡ [] → (place : ℕ) (s : Session S) → get slab place ≡ Some s → ⊥
+  pub no_session : (slab : Slab (Session S)) → slab.slots ≡ [] → (place : ℕ) (s : Session S) → get slab place ≡ Some s → ⊥
   no_session slab none place s is = by (sym (ap (λ (xs : List (Option (Session S))). get_or xs place None) none) ∙ is)
     where
       by : None ≡ Some s → ⊥

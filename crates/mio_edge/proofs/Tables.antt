@@ -422,8 +422,6 @@ module _ {S : Type 0} (tells : S → Wire → Type 0) where
           blocked = joins.blocked;
           begun = joins.begun;
           shut = joins.shut;
-          room_in = joins.room_in;
-          room_out = joins.room_out;
         },
       )
 

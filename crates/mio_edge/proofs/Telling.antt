@@ -220,13 +220,13 @@ reopened_agrees told links agrees = (
 stopped_too : {W S : Type 0} (A B : Type 0) → (A → B) → (sockets : Sockets W S) → HasStopped A sockets → HasStopped B sockets
 stopped_too A B follows sockets has = record { stopped = has.stopped; ended = by has.ended }
   where
-    by : AllAnnounced sockets.accept sockets.announced ⊎ A → AllAnnounced sockets.accept sockets.announced ⊎ B
+    by : AllAnnounced sockets.accept sockets.serving.announced ⊎ A → AllAnnounced sockets.accept sockets.serving.announced ⊎ B
     by (inl all) = inl all
     by (inr a) = inr (follows a)
 
 module _ {W S : Type 0} (Is : Type 0) (tells : S → Wire → Type 0) where
   sockets_bytes : ((s : S) (wire : Wire) → tells s wire → AreBytes wire.received) → (sockets : Sockets W S) (world : World) → SocketsTell Is tells sockets world → (k : ℕ) (links : Links) → world k ≡ Some links → (p : ℕ) → AreBytes (links p).received
-  sockets_bytes are sockets world told k links is p = by sockets.listening told.sessions
+  sockets_bytes are sockets world told k links is p = by sockets.serving.listening told.sessions
     where
       by : (o : Option (Listening S)) → ListeningTells tells o world → AreBytes (links p).received
       by None none = absurd (no_links (sym (none k) ∙ is))
@@ -236,7 +236,7 @@ module _ {W S : Type 0} (Is : Type 0) (tells : S → Wire → Type 0) where
       by (Some l) t = received_bytes tells are l.table.sessions l.table.entries.items l.table.closed.items l.table.spare.items world t.1.0 k links is p
 
   pub call_leads : ((s : S) (wire : Wire) → tells s wire → AreBytes wire.received) → (a b : MioHub W S) (k : ℕ) (s : Side) (call : HubCall) (Step : Link → Link → Type 0) → Follows Step
-      → MovesAt k (SocketsTell Is tells a.sockets) (SocketsTell Is tells b.sockets) (AtSession k (port_number s) Step) → b.sockets.announced ≡ a.sockets.announced → (HasStopped ⊥ a.sockets → HasStopped ⊥ b.sockets)
+      → MovesAt k (SocketsTell Is tells a.sockets) (SocketsTell Is tells b.sockets) (AtSession k (port_number s) Step) → b.sockets.serving.announced ≡ a.sockets.serving.announced → (HasStopped ⊥ a.sockets → HasStopped ⊥ b.sockets)
       → Leads (HubTells Is tells a) (HubTells Is tells b) (IsOpen k) (Changes k call (AtSide s Step))
   call_leads are a b k s call Step follows moves count still m told can =
       let some = open_there (m.session k) (told.world k) (told.sessions.sides k) can.0 can.1 in
@@ -248,9 +248,9 @@ module _ {W S : Type 0} (Is : Type 0) (tells : S → Wire → Type 0) where
         record {
           world = moved.0;
           sockets = moved.1;
-          sessions = same_sessions b.sockets.announced moved.0 (with_session k next.0 m) (m.calls ++ call ∷ [])
+          sessions = same_sessions b.sockets.serving.announced moved.0 (with_session k next.0 m) (m.calls ++ call ∷ [])
               (subst (λ (n : ℕ). Matches n moved.0 (with_session k next.0 m)) (sym count)
-              (matches_with a.sockets.announced told.world moved.0 m k next.0 told.sessions at.others (subst (λ (o : Option Links). Agrees next.0 o) (sym at.now) next.2) (next.3 ∙ told.sessions.announced k) (open_bytes next.0 at.after next.2 (sockets_bytes are b.sockets moved.0 moved.1 k at.after at.now))));
+              (matches_with a.sockets.serving.announced told.world moved.0 m k next.0 told.sessions at.others (subst (λ (o : Option Links). Agrees next.0 o) (sym at.now) next.2) (next.3 ∙ told.sessions.announced k) (open_bytes next.0 at.after next.2 (sockets_bytes are b.sockets moved.0 moved.1 k at.after at.now))));
           fresh = λ none. count ∙ told.fresh none;
           stopped = λ e. still (told.stopped e);
         },
@@ -269,12 +269,12 @@ module _ {W S : Type 0} (Is : Type 0) (tells : S → Wire → Type 0) where
 
   -- ---- a close
 
-  pub close_leads : (a b : MioHub W S) (k : ℕ) → MovesAt k (SocketsTell Is tells a.sockets) (SocketsTell Is tells b.sockets) (Shuts k) → b.sockets.announced ≡ a.sockets.announced → (HasStopped ⊥ a.sockets → HasStopped ⊥ b.sockets) → Leads (HubTells Is tells a) (HubTells Is tells b) (IsOpen k) (CloseLeads k)
+  pub close_leads : (a b : MioHub W S) (k : ℕ) → MovesAt k (SocketsTell Is tells a.sockets) (SocketsTell Is tells b.sockets) (Shuts k) → b.sockets.serving.announced ≡ a.sockets.serving.announced → (HasStopped ⊥ a.sockets → HasStopped ⊥ b.sockets) → Leads (HubTells Is tells a) (HubTells Is tells b) (IsOpen k) (CloseLeads k)
   close_leads a b k moves count still m told can =
       let some = open_there (m.session k) (told.world k) (told.sessions.sides k) can.0 can.1 in
       let moved = moves told.world told.sockets some in
       let next : Told = record (m.session k) { closed = true } in
-      let matches = matches_with a.sockets.announced told.world moved.0 m k next told.sessions moved.2.others (subst (λ (o : Option Links). Agrees next o) (sym moved.2.closed) (λ announced. refl)) (told.sessions.announced k) (λ s. same_bytes s (m.session k) (told.sessions.bytes k s)) in (
+      let matches = matches_with a.sockets.serving.announced told.world moved.0 m k next told.sessions moved.2.others (subst (λ (o : Option Links). Agrees next o) (sym moved.2.closed) (λ announced. refl)) (told.sessions.announced k) (λ s. same_bytes s (m.session k) (told.sessions.bytes k s)) in (
         record (with_session k next m) { calls = m.calls ++ Closed k ∷ [] },
         record {
           world = moved.0;
@@ -303,7 +303,7 @@ module _ {W S : Type 0} (Is : Type 0) (tells : S → Wire → Type 0) where
 
   -- ---- a start
 
-  pub start_leads : (a b : MioHub W S) (started : Started) (r : Began) → (r ≡ began.Done → Moves (SocketsTell Is tells a.sockets) (SocketsTell Is tells b.sockets) (λ x y. y ≡ empty_world)) → ((r ≡ began.Done → ⊥) → Stays (SocketsTell Is tells a.sockets) (SocketsTell Is tells b.sockets)) → b.sockets.announced ≡ a.sockets.announced → Leads (HubTells Is tells a) (HubTells Is tells b) NotStarted (StartLeads started r)
+  pub start_leads : (a b : MioHub W S) (started : Started) (r : Began) → (r ≡ began.Done → Moves (SocketsTell Is tells a.sockets) (SocketsTell Is tells b.sockets) (λ x y. y ≡ empty_world)) → ((r ≡ began.Done → ⊥) → Stays (SocketsTell Is tells a.sockets) (SocketsTell Is tells b.sockets)) → b.sockets.serving.announced ≡ a.sockets.serving.announced → Leads (HubTells Is tells a) (HubTells Is tells b) NotStarted (StartLeads started r)
   start_leads a b started r begins keeps count m told can = by r begins keeps
     where
       kept : Stays (SocketsTell Is tells a.sockets) (SocketsTell Is tells b.sockets) → HubTells Is tells b m
@@ -326,7 +326,7 @@ module _ {W S : Type 0} (Is : Type 0) (tells : S → Wire → Type 0) where
               world = moved.0;
               sockets = moved.1;
               sessions = record {
-                sides = λ j. subst (λ (w : World). Agrees (m.session j) (w j)) (sym moved.2) (λ announced. absurd (none_is_less j a.sockets.announced (sym (told.sessions.announced j) ∙ announced) (told.fresh can.0)));
+                sides = λ j. subst (λ (w : World). Agrees (m.session j) (w j)) (sym moved.2) (λ announced. absurd (none_is_less j a.sockets.serving.announced (sym (told.sessions.announced j) ∙ announced) (told.fresh can.0)));
                 announced = λ j. told.sessions.announced j ∙ ap (nat_lt j) (sym count);
                 bytes = told.sessions.bytes;
               };
@@ -342,16 +342,16 @@ module _ {W S : Type 0} (Is : Type 0) (tells : S → Wire → Type 0) where
   -- ---- an event
 
   pub next_leads : (Shared : Type 0) → (Is → Shared → ⊥) → (a b : MioHub W S) (r : HubNext) → Moves (SocketsTell Is tells a.sockets) (SocketsTell Is tells b.sockets) (EventMoves r)
-      → (HasStopped Shared a.sockets → r ≡ event.Stopped) → (r ≡ event.Stopped → HasStopped Shared b.sockets) → Numbers Shared r a.sockets.announced b.sockets.announced
+      → (HasStopped Shared a.sockets → r ≡ event.Stopped) → (r ≡ event.Stopped → HasStopped Shared b.sockets) → Numbers Shared r a.sockets.serving.announced b.sockets.serving.announced
       → Leads (HubTells Is tells a) (HubTells Is tells b) HasStarted (NextLeads r)
   next_leads Shared alone a b r moves still stops numbers m told can =
       by r (λ e. still (stopped_too ⊥ Shared (λ none. absurd none) a.sockets (told.stopped e))) moves (λ e. stopped_too Shared ⊥ none b.sockets (stops e))
-      (numbers_alone Shared none r a.sockets.announced b.sockets.announced numbers)
+      (numbers_alone Shared none r a.sockets.serving.announced b.sockets.serving.announced numbers)
     where
       none : Shared → ⊥
       none shared = alone told.sockets.is_telling shared
 
-      quiet : (e : HubNext) → (w : World) → SocketsTell Is tells b.sockets w → w ≡ told.world → b.sockets.announced ≡ a.sockets.announced → (e ≡ event.Stopped → HasStopped ⊥ b.sockets) → HubTells Is tells b (record m { last_event = Some e; calls = m.calls ++ Asked e ∷ [] })
+      quiet : (e : HubNext) → (w : World) → SocketsTell Is tells b.sockets w → w ≡ told.world → b.sockets.serving.announced ≡ a.sockets.serving.announced → (e ≡ event.Stopped → HasStopped ⊥ b.sockets) → HubTells Is tells b (record m { last_event = Some e; calls = m.calls ++ Asked e ∷ [] })
       quiet e w sockets same count stops = record {
         world = w;
         sockets = sockets;
@@ -376,7 +376,7 @@ module _ {W S : Type 0} (Is : Type 0) (tells : S → Wire → Type 0) where
           by None e some = absurd (cc)
           by (Some s) e some = absurd (cc)
 
-      by : (r : HubNext) → (m.last_event ≡ Some event.Stopped → r ≡ event.Stopped) → Moves (SocketsTell Is tells a.sockets) (SocketsTell Is tells b.sockets) (EventMoves r) → (r ≡ event.Stopped → HasStopped ⊥ b.sockets) → AloneNumbers r a.sockets.announced b.sockets.announced → (m' : Meaning) × HubTells Is tells b m' × NextLeads r m m'
+      by : (r : HubNext) → (m.last_event ≡ Some event.Stopped → r ≡ event.Stopped) → Moves (SocketsTell Is tells a.sockets) (SocketsTell Is tells b.sockets) (EventMoves r) → (r ≡ event.Stopped → HasStopped ⊥ b.sockets) → AloneNumbers r a.sockets.serving.announced b.sockets.serving.announced → (m' : Meaning) × HubTells Is tells b m' × NextLeads r m m'
       by (event.Opened k) last moves stops numbers =
           let moved = moves told.world told.sockets in (
             record (with_session k new_session m) { last_event = Some (event.Opened k); events = one_more m.events; calls = m.calls ++ Asked (event.Opened k) ∷ [] },
@@ -394,7 +394,7 @@ module _ {W S : Type 0} (Is : Type 0) (tells : S → Wire → Type 0) where
             (
               last,
               (
-                (λ j announced. omega (arith, is_below j a.sockets.announced (sym (told.sessions.announced j) ∙ announced), numbers.0)),
+                (λ j announced. omega (arith, is_below j a.sockets.serving.announced (sym (told.sessions.announced j) ∙ announced), numbers.0)),
                 record {
                   session = pick_here (decide k k) new_session (m.session k);
                   others = λ j off. pick_other (decide j k) new_session (m.session j) off;
@@ -411,9 +411,9 @@ module _ {W S : Type 0} (Is : Type 0) (tells : S → Wire → Type 0) where
           sides j (inl e) w opens = subst (λ (o : Option Links). Agrees new_session o) (sym (ap w e ∙ opens.here)) (refl, refl, record { received = refl; sent = refl; ended = refl; last_read = refl; last_write = refl }, record { received = refl; sent = refl; ended = refl; last_read = refl; last_write = refl })
           sides j (inr off) w opens = subst (λ (o : Option Links). Agrees (m.session j) o) (sym (opens.others j off)) (told.sessions.sides j)
 
-          all : (j : ℕ) (d : (j ≡ k) ⊎ (j ≢ k)) → (pick d new_session (m.session j)).announced ≡ nat_lt j b.sockets.announced
-          all j (inl e) = sym (test_below j b.sockets.announced (omega (arith, e, numbers.0, numbers.1)))
-          all j (inr off) = told.sessions.announced j ∙ (same_below j a.sockets.announced (λ e. off (e ∙ sym numbers.0)) ∙ ap (nat_lt j) (sym numbers.1))
+          all : (j : ℕ) (d : (j ≡ k) ⊎ (j ≢ k)) → (pick d new_session (m.session j)).announced ≡ nat_lt j b.sockets.serving.announced
+          all j (inl e) = sym (test_below j b.sockets.serving.announced (omega (arith, e, numbers.0, numbers.1)))
+          all j (inr off) = told.sessions.announced j ∙ (same_below j a.sockets.serving.announced (λ e. off (e ∙ sym numbers.0)) ∙ ap (nat_lt j) (sym numbers.1))
 
           are : (j : ℕ) (s : Side) (d : (j ≡ k) ⊎ (j ≢ k)) → AreBytes (link_of (pick d new_session (m.session j)) s).received
           are j side.Client (inl e) = tt
@@ -423,7 +423,7 @@ module _ {W S : Type 0} (Is : Type 0) (tells : S → Wire → Type 0) where
           let moved = moves told.world told.sockets in
           let agrees : Agrees (m.session k) (Some moved.2.links) = subst (λ (o : Option Links). Agrees (m.session k) o) moved.2.was (told.sessions.sides k) in
           let open_is = open_in (m.session k) (Some moved.2.links) agrees refl in
-          let matches = matches_with a.sockets.announced told.world moved.0 m k (reopened (m.session k)) told.sessions moved.2.others (subst (λ (o : Option Links). Agrees (reopened (m.session k)) o) (sym moved.2.now) (reopened_agrees (m.session k) moved.2.links agrees)) (told.sessions.announced k) (λ s. same_bytes s (m.session k) (told.sessions.bytes k s)) in (
+          let matches = matches_with a.sockets.serving.announced told.world moved.0 m k (reopened (m.session k)) told.sessions moved.2.others (subst (λ (o : Option Links). Agrees (reopened (m.session k)) o) (sym moved.2.now) (reopened_agrees (m.session k) moved.2.links agrees)) (told.sessions.announced k) (λ s. same_bytes s (m.session k) (told.sessions.bytes k s)) in (
             record (with_session k (reopened (m.session k)) m) { last_event = Some (event.Ready k); events = one_more m.events; calls = m.calls ++ Asked (event.Ready k) ∷ [] },
             record {
               world = moved.0;
@@ -460,15 +460,15 @@ module _ {W S : Type 0} (Is : Type 0) (tells : S → Wire → Type 0) where
 
   -- ---- as the functions of the hub ask
 
-  pub still_stopped : (a b : Sockets W S) → b.has_stopped ≡ a.has_stopped → b.accept ≡ a.accept → b.announced ≡ a.announced → HasStopped ⊥ a → HasStopped ⊥ b
-  still_stopped a b stopped accept count h = record { stopped = stopped ∙ h.stopped; ended = ended_same ⊥ a.accept a.announced b.accept b.announced accept count h.ended }
+  pub still_stopped : (a b : Sockets W S) → b.has_stopped ≡ a.has_stopped → b.accept ≡ a.accept → b.serving.announced ≡ a.serving.announced → HasStopped ⊥ a → HasStopped ⊥ b
+  still_stopped a b stopped accept count h = record { stopped = stopped ∙ h.stopped; ended = ended_same ⊥ a.accept a.serving.announced b.accept b.serving.announced accept count h.ended }
 
   pub call_leads_over : ((s : S) (wire : Wire) → tells s wire → AreBytes wire.received) → (a b : MioHub W S) (sockets : Sockets W S) (k : ℕ) (s : Side) (port : ℕ) (call : HubCall) (Step : Link → Link → Type 0) → Follows Step → b.sockets ≡ sockets → port ≡ port_number s
-      → MovesAt k (SocketsTell Is tells a.sockets) (SocketsTell Is tells sockets) (AtSession k port Step) → sockets.has_stopped ≡ a.sockets.has_stopped → sockets.accept ≡ a.sockets.accept → sockets.announced ≡ a.sockets.announced
+      → MovesAt k (SocketsTell Is tells a.sockets) (SocketsTell Is tells sockets) (AtSession k port Step) → sockets.has_stopped ≡ a.sockets.has_stopped → sockets.accept ≡ a.sockets.accept → sockets.serving.announced ≡ a.sockets.serving.announced
       → Leads (HubTells Is tells a) (HubTells Is tells b) (IsOpen k) (Changes k call (AtSide s Step))
   call_leads_over are a b sockets k s port call Step follows is port_is moves stopped accept count =
       call_leads are a b k s call Step follows
       (subst (λ (x : Sockets W S). MovesAt k (SocketsTell Is tells a.sockets) (SocketsTell Is tells x) (AtSession k (port_number s) Step)) (sym is)
       (subst (λ (p : ℕ). MovesAt k (SocketsTell Is tells a.sockets) (SocketsTell Is tells sockets) (AtSession k p Step)) port_is moves))
-      (ap (λ (x : Sockets W S). x.announced) is ∙ count)
+      (ap (λ (x : Sockets W S). x.serving.announced) is ∙ count)
       (λ h. subst (λ (x : Sockets W S). HasStopped ⊥ x) (sym is) (still_stopped a.sockets sockets stopped accept count h))

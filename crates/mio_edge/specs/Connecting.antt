@@ -8,11 +8,6 @@ use Rattle.mio_edge.specs.declared.port.Sending.{Sending}
 use Rattle.mio_edge.specs.declared.port.Sending.TheVariants as sending
 use Rattle.mio_edge.specs.declared.session.Session.{Session}
 
--- both buffers have room
-pub record HasBuffers {S : Type 0} (port : Port S) : Type 0 where
-  pub incoming : 0 < port.incoming.room
-  pub outgoing : 0 < port.outgoing.room
-
 -- the port has this connection, and holds it to be begun so
 pub record IsConnected {S : Type 0} (stream : S) (begun : Sending) (port : Port S) : Type 0 where
   pub has : port.stream ≡ Some stream
@@ -23,9 +18,9 @@ abbrev pub IsConnectedAt : {S : Type 0} → S → Sending → Option (Port S) �
 IsConnectedAt stream begun None = ⊥
 IsConnectedAt stream begun (Some port) = IsConnected stream begun port
 
--- the port that was read there has this connection, and holds it to be begun so, where its buffers have room
+-- the port that was read there has this connection, and holds it to be begun so
 abbrev pub ConnectsPort : {S : Type 0} → S → Sending → ℕ → List (Port S) → List (Port S) → Type 0
-ConnectsPort {S} stream begun port a b = (x : Port S) → slice_get a port ≡ Some x → HasBuffers x → IsConnectedAt stream begun (slice_get b port)
+ConnectsPort {S} stream begun port a b = (x : Port S) → slice_get a port ≡ Some x → IsConnectedAt stream begun (slice_get b port)
 
 -- the same of the session at a place, which is another one by now
 abbrev pub Connects : {S : Type 0} → S → Sending → (place port : ℕ) → Slab (Session S) → Slab (Session S) → Type 0

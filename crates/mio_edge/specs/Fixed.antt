@@ -24,7 +24,7 @@ fixed_in (Some listening) = Some (fixed_of listening)
 
 -- the sockets hold fixed what they held
 pub record SocketsSame {W S : Type 0} (a b : Sockets W S) : Type 0 where
-  pub on : fixed_in b.listening ≡ fixed_in a.listening
+  pub on : fixed_in b.serving.listening ≡ fixed_in a.serving.listening
 
 -- ---- nothing below has to be believed
 
@@ -44,14 +44,14 @@ fixed_kept a b targets connecting settings =
     ∙ (ap (λ (c : Connecting). with_settings a.targets c b.table.settings) connecting ∙ ap (λ (s : Settings). with_settings a.targets a.connecting s) settings)
 
 -- nothing was done to the listener
-pub fixed_same : {W S : Type 0} (a b : Sockets W S) → b.listening ≡ a.listening → SocketsSame a b
+pub fixed_same : {W S : Type 0} (a b : Sockets W S) → b.serving.listening ≡ a.serving.listening → SocketsSame a b
 fixed_same {W} {S} a b same = record { on = ap (λ (o : Option (Listening S)). fixed_in o) same }
 
 pub fixed_on : {W S : Type 0} (a b c : Sockets W S) → SocketsSame a b → SocketsSame b c → SocketsSame a c
 fixed_on a b c first second = record { on = second.on ∙ first.on }
 
 -- the listener holds fixed what it held
-pub fixed_there : {W S : Type 0} (a b : Sockets W S) (l l' : Listening S) → a.listening ≡ Some l → b.listening ≡ Some l' → fixed_of l' ≡ fixed_of l → SocketsSame a b
+pub fixed_there : {W S : Type 0} (a b : Sockets W S) (l l' : Listening S) → a.serving.listening ≡ Some l → b.serving.listening ≡ Some l' → fixed_of l' ≡ fixed_of l → SocketsSame a b
 fixed_there {W} {S} a b l l' was now same = record {
   on = ap (λ (o : Option (Listening S)). fixed_in o) now ∙ (ap (λ (f : Fixed). Some f) same ∙ sym (ap (λ (o : Option (Listening S)). fixed_in o) was));
 }

@@ -6,12 +6,15 @@ pub mod Counting
 pub mod Fixed
 pub mod Lines
 pub mod Moving
+pub mod Numbered
 pub mod Numbers
 pub mod Order
 pub mod Places
 pub mod Sessions
+pub mod Stepping
 pub mod Steps
 pub mod Tables
+pub mod Targets
 pub mod Telling
 pub mod Turning
 pub mod Turns

@@ -36,7 +36,7 @@ TakesIn put.Failed from a b = ⊥
 -- The link of a port over a stream that tells this wire: it received what the stream did but for what is held, and was sent
 -- what the stream was and what waits. It has ended only where the stream has, and all that came before that was handed out. A
 -- call failed only where the stream did. The port is held to be not ready only where the stream isn't, and to have told its end only
--- where the stream did. Both buffers have room.
+-- where the stream did.
 pub record Joins {S : Type 0} (wire : Wire) (port : Port S) (link : Link) : Type 0 where
   pub received : wire.received ≡ link.received ++ port.incoming.bytes
   pub sent : link.sent ≡ wire.sent ++ port.outgoing.bytes
@@ -50,8 +50,6 @@ pub record Joins {S : Type 0} (wire : Wire) (port : Port S) (link : Link) : Type
   pub blocked : port.sending ≡ sending.Blocked → wire.writable ≡ false
   pub begun : port.sending ≢ sending.Deferred
   pub shut : port.sending ≡ sending.Shut → wire.shut ≡ true
-  pub room_in : 0 < port.incoming.room
-  pub room_out : 0 < port.outgoing.room
 
 -- over a port that has no stream nothing went
 pub record IsUntouched {S : Type 0} (port : Port S) (link : Link) : Type 0 where
@@ -106,10 +104,6 @@ IsUnsent port = IsSome port.stream × (0 < length port.outgoing.bytes) × (port.
 -- no more room is left for what is written
 abbrev pub IsFull : {S : Type 0} → Port S → Type 0
 IsFull port = port.outgoing.room ≤ length port.outgoing.bytes
-
--- no room is left for what comes in
-abbrev pub IsFullIn : {S : Type 0} → Port S → Type 0
-IsFullIn port = port.incoming.room ≤ length port.incoming.bytes
 
 -- nothing can be done at a port that couldn't before
 pub record IsCalm {S : Type 0} (a b : Port S) : Type 0 where

@@ -47,7 +47,7 @@ HasNoPlaceWhere table = 0 < vec_capacity table.spare → HasNoPlace table
 
 -- the closed sessions of a server that listens have sent everything, or can't
 pub record AllHaveSent {W S : Type 0} (sockets : Sockets W S) : Type 0 where
-  pub each : (listening : Listening S) → sockets.listening ≡ Some listening → AllSent listening.table
+  pub each : (listening : Listening S) → sockets.serving.listening ≡ Some listening → AllSent listening.table
 
 -- this place is listed last among those of the closed sessions, where the list has room
 abbrev pub ListsClosed : {S : Type 0} → ℕ → Table S → Table S → Type 0

@@ -92,11 +92,12 @@ pub record Calms {S : Type 0} (tells : S → Wire → Type 0) (a b : Port S) : T
   pub keeps : Stays (PortTells tells a) (PortTells tells b)
   pub calm : IsCalm a b
 
--- the same, and nothing waits that its stream may take
+-- the same, and nothing waits that its stream may take; where nothing did the port is the same
 pub record Flushes {S : Type 0} (tells : S → Wire → Type 0) (a b : Port S) : Type 0 where
   pub keeps : Stays (PortTells tells a) (PortTells tells b)
   pub calm : IsCalm a b
   pub sent : IsUnsent b → ⊥
+  pub still : (IsUnsent a → ⊥) → b ≡ a
 
 -- where a session that moved all that it may is to have a turn, it may answer that it isn't ready
 abbrev pub MayWait : {S : Type 0} → Session S → Type 0

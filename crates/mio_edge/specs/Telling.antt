@@ -41,8 +41,8 @@ pub record Matches (count : ℕ) (world : World) (m : Meaning) : Type 0 where
 pub record HubTells {W S : Type 0} (IsTelling : Type 0) (tells : S → Wire → Type 0) (hub : MioHub W S) (m : Meaning) : Type 0 where
   pub world : World
   pub sockets : SocketsTell IsTelling tells hub.sockets world
-  pub sessions : Matches hub.sockets.announced world m
-  pub fresh : m.started ≡ None → hub.sockets.announced ≡ 0
+  pub sessions : Matches hub.sockets.serving.announced world m
+  pub fresh : m.started ≡ None → hub.sockets.serving.announced ≡ 0
   pub stopped : m.last_event ≡ Some event.Stopped → HasStopped ⊥ hub.sockets
 
 -- what the hub told leads so to what it tells

@@ -17,7 +17,7 @@ ListeningTurn named (Some x) (Some y) = InTurn named x.table y.table
 
 -- the first of the sessions that are to have a turn and are open is the one that is named, if one is; no one has overtaken another
 pub record SocketsTurn {W S : Type 0} (named : Option ℕ) (a b : Sockets W S) : Type 0 where
-  pub on : ListeningTurn named a.listening b.listening
+  pub on : ListeningTurn named a.serving.listening b.serving.listening
 
 -- the same where the sockets tell their sessions
 abbrev pub SocketsTurnIfTold : {W S : Type 0} → Type 0 → (S → Wire → Type 0) → Option ℕ → Sockets W S → Sockets W S → Type 0
@@ -38,4 +38,4 @@ ListeningJoins (Some x) (Some y) = JoinsBehind x.table y.table
 
 -- those that are to have a turn are the same in the same order, and some may have come behind them all
 pub record SocketsJoin {W S : Type 0} (a b : Sockets W S) : Type 0 where
-  pub on : ListeningJoins a.listening b.listening
+  pub on : ListeningJoins a.serving.listening b.serving.listening

@@ -16,7 +16,7 @@ ListeningWinds tells (Some x) (Some y) = Winds tells x.table.sessions y.table.se
 
 -- each session of the sockets that is closed has gone on
 pub record SocketsWind {W S : Type 0} (tells : S → Wire → Type 0) (a b : Sockets W S) : Type 0 where
-  pub on : ListeningWinds tells a.listening b.listening
+  pub on : ListeningWinds tells a.serving.listening b.serving.listening
 
 -- the same where the sockets tell their sessions
 abbrev pub SocketsWindIfTold : {W S : Type 0} → Type 0 → (S → Wire → Type 0) → Sockets W S → Sockets W S → Type 0
@@ -25,4 +25,4 @@ SocketsWindIfTold Is tells a b = (world : World) → SocketsTell Is tells a worl
 -- Session k, which is open, is closed: it stands at a place still or was let go, and all that was written to it is told still.
 abbrev pub SocketsClose : {W S : Type 0} → Type 0 → (S → Wire → Type 0) → ℕ → Sockets W S → Sockets W S → Type 0
 SocketsClose {W} {S} Is tells k a b =
-    (world : World) (links : Links) → SocketsTell Is tells a world → world k ≡ Some links → (listening : Listening S) × (b.listening ≡ Some listening) × HasClosed tells listening.table.sessions k links
+    (world : World) (links : Links) → SocketsTell Is tells a world → world k ≡ Some links → (listening : Listening S) × (b.serving.listening ≡ Some listening) × HasClosed tells listening.table.sessions k links

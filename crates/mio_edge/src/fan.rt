@@ -7,6 +7,7 @@ ghost use Rattle.gate_hub.specs.declared.hub.Began.TheVariants as began;
 ghost use Rattle.gate_hub.specs.declared.hub.HubNext.TheVariants as event;
 ghost use Rattle.mio_edge.specs.Counting.{fan_counts};
 ghost use Rattle.mio_edge.specs.Numbers.{AllAnnounced, Numbers};
+ghost use Rattle.mio_edge.specs.Targets.{LeadsSessions, ListensAt, words_of};
 
 use crate::Sockets;
 use crate::hub::SideCounts;
@@ -101,6 +102,8 @@ impl<W: Network> Fan for MioFan<W> {
         ensures unfound { (at : ℕ) → result ≡ began.NotFound at → Rose self.old.sockets.faults self.new.sockets.faults }
         ensures place { (at : ℕ) → result ≡ began.NotFound at → at < length targets.now }
         ensures accept { result ≡ began.Done → self.new.sockets.accept ≡ accept }
+        ensures each { result ≡ began.Done → LeadsSessions W.names (words_of targets.now) self.new.sockets.serving.listening }
+        ensures listens { result ≡ began.Done → ListensAt W.listens listen.now self.new.sockets.network }
     {
         let Ok(addresses) = addresses_of(alloc, targets) else {
             return Began::OutOfMemory;
@@ -115,8 +118,8 @@ impl<W: Network> Fan for MioFan<W> {
         ensures targets { self.new.targets ≡ self.old.targets }
         ensures later { Later (fan_counts self.old.sockets.faults self.old.links) (fan_counts self.new.sockets.faults self.new.links) }
         ensures cause { result ≡ event.Failed → Rose self.old.sockets.faults self.new.sockets.faults }
-        ensures numbers { Numbers W.is_shared result self.old.sockets.announced self.new.sockets.announced }
-        ensures stopped { result ≡ event.Stopped → AllAnnounced self.new.sockets.accept self.new.sockets.announced ⊎ W.is_shared }
+        ensures numbers { Numbers W.is_shared result self.old.sockets.serving.announced self.new.sockets.serving.announced }
+        ensures stopped { result ≡ event.Stopped → AllAnnounced self.new.sockets.accept self.new.sockets.serving.announced ⊎ W.is_shared }
     {
         self.sockets.next()
     }
@@ -152,7 +155,7 @@ impl<W: Network> Fan for MioFan<W> {
 
 // Copies of the targets' addresses.
 fn addresses_of(alloc: Global, targets: &[Target]) -> Result<Vec<Text>, OutOfMemory>
-    ensures { IfOk result (λ addresses. length addresses.items ≡ length targets.now) }
+    ensures { IfOk result (λ addresses. addresses.items ≡ words_of targets.now) }
 {
     let mut addresses = Vec::with_capacity(alloc, targets.len())?;
     for target in targets {

@@ -1,6 +1,6 @@
 //! The hub of sessions with one upstream. It tells what its network's streams tell, and counts what
 //! failed and what wasn't ready.
-ghost use Rattle.std.specs.Prelude.{◌≡◌, ◌<◌, ◌≤◌, ◌⊎◌, ℕ, length, false, Some};
+ghost use Rattle.std.specs.Prelude.{◌≡◌, ◌<◌, ◌≤◌, ◌⊎◌, ◌∷◌, [], ℕ, length, false, Some};
 ghost use Rattle.gate_base.specs.Causes.{Rose};
 ghost use Rattle.gate_hub.specs.Hubs.{CloseLeads, GotWithin, HasStarted, Later, Leads, NextLeads, NotStarted, ReadLeads, StartLeads, TookWithin, WriteLeads, started_with};
 ghost use Rattle.gate_hub.specs.Meaning.{IsOpen};
@@ -10,9 +10,11 @@ ghost use Rattle.mio_edge.specs.Counting.{FaultRose, WaitRose, counts_in};
 ghost use Rattle.mio_edge.specs.Fixed.{SocketsSame};
 ghost use Rattle.mio_edge.specs.Numbers.{AllAnnounced, Numbers};
 ghost use Rattle.mio_edge.specs.Places.{AllHaveSent};
+ghost use Rattle.mio_edge.specs.Targets.{LeadsSessions, ListensAt};
 ghost use Rattle.mio_edge.specs.Telling.{HubTells, HubLeads, port_number};
 ghost use Rattle.mio_edge.specs.Turning.{EventTurn, SocketsJoin};
 ghost use Rattle.mio_edge.specs.Winding.{SocketsClose, SocketsWind, SocketsWindIfTold};
+ghost use Rattle.mio_edge.specs.Worlds.{SocketsStepped};
 
 use crate::Sockets;
 use crate::mio_network::MioNetwork;
@@ -143,6 +145,8 @@ impl<W: Network> Hub for MioHub<W> {
         ensures cause { result ≡ began.Failed → Rose self.old.sockets.faults self.new.sockets.faults }
         ensures unfound { (at : ℕ) → result ≡ began.NotFound at → Rose self.old.sockets.faults self.new.sockets.faults }
         ensures accept { result ≡ began.Done → self.new.sockets.accept ≡ accept }
+        ensures each { result ≡ began.Done → LeadsSessions W.names (upstream.now ∷ []) self.new.sockets.serving.listening }
+        ensures listens { result ≡ began.Done → ListensAt W.listens listen.now self.new.sockets.network }
     {
         match Text::new(alloc, upstream) {
             Ok(upstream) => self
@@ -156,11 +160,12 @@ impl<W: Network> Hub for MioHub<W> {
         ensures leads { Leads (HubTells W.is_telling W.Stream.tells self.old) (HubTells W.is_telling W.Stream.tells self.new) HasStarted (NextLeads result) }
         ensures later { Later (counts_in self.old) (counts_in self.new) }
         ensures cause { result ≡ event.Failed → Rose self.old.sockets.faults self.new.sockets.faults }
-        ensures numbers { Numbers W.is_shared result self.old.sockets.announced self.new.sockets.announced }
-        ensures stopped { result ≡ event.Stopped → AllAnnounced self.new.sockets.accept self.new.sockets.announced ⊎ W.is_shared }
+        ensures numbers { Numbers W.is_shared result self.old.sockets.serving.announced self.new.sockets.serving.announced }
+        ensures stopped { result ≡ event.Stopped → AllAnnounced self.new.sockets.accept self.new.sockets.serving.announced ⊎ W.is_shared }
         ensures sent { result ≡ event.Stopped → self.old.sockets.has_stopped ≡ false → AllHaveSent self.new.sockets ⊎ W.is_shared }
         ensures winds { SocketsWind W.Stream.tells self.old.sockets self.new.sockets }
         ensures turn { EventTurn W.is_telling W.Stream.tells (Some result) self.old.sockets self.new.sockets }
+        ensures stepped { SocketsStepped W.is_telling W.Stream.tells self.new.sockets }
         ensures same { SocketsSame self.old.sockets self.new.sockets }
     {
         self.sockets.next()

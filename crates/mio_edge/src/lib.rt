@@ -20,6 +20,7 @@
 //! nothing.
 #![tactic(auto)]
 
+mod buffers;
 mod fan;
 mod hub;
 mod listening;
@@ -29,10 +30,12 @@ mod network;
 mod polling;
 mod port;
 mod queue;
+mod serving;
 mod session;
 mod sockets;
 mod stream;
 mod table;
+mod targets;
 
 pub use fan::MioFan;
 pub use hub::{MioHub, SideCounts};

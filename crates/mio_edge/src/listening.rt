@@ -1,13 +1,15 @@
 //! The sessions of a server that listens, and its wait for what comes of them.
-ghost use Rattle.std.specs.Prelude.{◌≡◌, ◌≢◌, ◌<◌, ◌-◌, ◌^◌, [], ℕ, None, true, false};
+ghost use Rattle.std.specs.Prelude.{◌≡◌, ◌≢◌, ◌<◌, ◌≤◌, ◌+◌, ◌-◌, ◌^◌, [], ℕ, None, true, false};
 ghost use Rattle.mio_edge.specs.Closing.{Winds, OthersStay};
 ghost use Rattle.mio_edge.specs.Fixed.{fixed_of};
 ghost use Rattle.mio_edge.specs.Order.{SameTurns, TurnsIfTold};
 ghost use Rattle.mio_edge.specs.Wire.{Stays, new_wire};
+ghost use Rattle.mio_edge.specs.Numbered.{AreBelow, ComesBelow, StayBelow};
 ghost use Rattle.mio_edge.specs.Numbers.{Passes};
 ghost use Rattle.mio_edge.specs.Admitting.{IfHere, IfNotHere};
 ghost use Rattle.mio_edge.specs.Moving.{IsBegun};
 ghost use Rattle.mio_edge.specs.Places.{AllSent};
+ghost use Rattle.mio_edge.specs.Stepping.{AreStepped, StayStepped};
 ghost use Rattle.mio_edge.specs.Tables.{TableTells, IsPrepared, IsClosedAt, KeepsIdle, TableAnnounces};
 
 use crate::Stream;
@@ -61,7 +63,7 @@ pub(crate) enum Connecting {
 
 /// What a server that listens has.
 #[derive(Drop)]
-pub(crate) struct Listening<S: Stream> {
+pub(crate) struct Listening<S> {
     /// Later connections are accepted.
     is_accepting: bool,
     accepting: Accepting,
@@ -115,18 +117,26 @@ impl<S: Stream> Listening<S> {
         self.table.is_done() && (self.patience == 0 || self.table.is_empty())
     }
 
-    /// Accepts the next connection that waits, where `next` is the next number, and begins one to each target, or has it
+    /// Accepts the next connection that waits, where `next` is the next number, which it raises, and begins one to each target, or has it
     /// begun later. One that finds no place here is accepted only where it may be handed on. An accept that fails is passed over.
     #[tactic(auto, using(crate::specs::Closing::winds_nowhere))]
-    pub(crate) fn accept<W: Network<Stream = S>>(&mut self, network: &mut W, next: u64) -> Admitted
-        requires { next < 2 ^ 64 - 1 }
+    pub(crate) fn accept<W: Network<Stream = S>>(
+        &mut self,
+        network: &mut W,
+        next: &mut u64,
+    ) -> Admitted
+        requires { next.old < 2 ^ 64 - 1 }
         ensures opens { IfHere result (λ k. W.is_telling → TableAnnounces S.tells k self.old.table self.new.table) }
         ensures kept { IfNotHere result (Stays (TableTells S.tells self.old.table) (TableTells S.tells self.new.table)) }
-        ensures number { IfHere result (λ k. Passes W.is_shared next k × (k < 2 ^ 64 - 1)) }
+        ensures number { IfHere result (λ k. Passes W.is_shared next.old k × (k < 2 ^ 64 - 1)) }
         ensures handed { result ≡ Admitted.Handed → W.is_shared }
         ensures connecting { self.new.connecting ≡ self.old.connecting }
         ensures winds { Winds S.tells self.old.table.sessions self.new.table.sessions }
         ensures turns { IfNotHere result (SameTurns self.old.table self.new.table) }
+        ensures raised { IfHere result (λ k. next.new ≡ k + 1) }
+        ensures waits { IfNotHere result (next.new ≡ next.old) }
+        ensures below { AreBelow next.old self.old.table.sessions → AreBelow next.new self.new.table.sessions }
+        ensures stepped { AreStepped self.old.table.sessions → AreStepped self.new.table.sessions }
         ensures same { fixed_of self.new ≡ fixed_of self.old }
     {
         if self.accepting != Accepting::Ready || self.accepts_left == 0 {
@@ -137,24 +147,28 @@ impl<S: Stream> Listening<S> {
             return Admitted::Nothing;
         }
         self.accepts_left = self.accepts_left.saturating_sub(1);
-        let next = match network.accept(next, has_place) {
-            Accepted::Came { stream, number } => return self.open_session(network, number, stream),
+        let accepting = match network.accept(*next, has_place) {
+            Accepted::Came { stream, number } => {
+                return self.open_session(network, number, stream, next);
+            }
             Accepted::Handed => return Admitted::Handed,
             Accepted::Nothing => Accepting::Idle,
             Accepted::Gone => Accepting::Ready,
             Accepted::Failed => Accepting::Short,
         };
-        self.accepting = next;
+        self.accepting = accepting;
         Admitted::Nothing
     }
 
-    // Makes a session of a connection. Where that can't be, its place may be given to another.
+    // Makes a session of a connection, and raises the next number. Where that can't be, its place may be given to another.
     fn open_session<W: Network<Stream = S>>(
         &mut self,
         network: &mut W,
         number: u64,
         client: S,
+        next: &mut u64,
     ) -> Admitted
+        requires { number < 2 ^ 64 - 1 }
         ensures opens { IfHere result (λ k. W.is_telling → S.tells client new_wire → TableAnnounces S.tells k self.old.table self.new.table) }
         ensures kept { IfNotHere result (Stays (TableTells S.tells self.old.table) (TableTells S.tells self.new.table)) }
         ensures number { IfHere result (λ k. k ≡ number) }
@@ -162,9 +176,14 @@ impl<S: Stream> Listening<S> {
         ensures connecting { self.new.connecting ≡ self.old.connecting }
         ensures winds { Winds S.tells self.old.table.sessions self.new.table.sessions }
         ensures turns { IfNotHere result (SameTurns self.old.table self.new.table) }
+        ensures raised { IfHere result (λ k. next.new ≡ k + 1) }
+        ensures waits { IfNotHere result (next.new ≡ next.old) }
+        ensures below { next.old ≤ number → AreBelow next.old self.old.table.sessions → AreBelow next.new self.new.table.sessions }
+        ensures stepped { AreStepped self.old.table.sessions → AreStepped self.new.table.sessions }
         ensures same { fixed_of self.new ≡ fixed_of self.old }
     {
         if self.admit(network, number, client) {
+            *next = number + 1;
             return Admitted::Here(number);
         }
         network.free_place();
@@ -178,6 +197,9 @@ impl<S: Stream> Listening<S> {
         ensures connecting { self.new.connecting ≡ self.old.connecting }
         ensures winds { Winds S.tells self.old.table.sessions self.new.table.sessions }
         ensures turns { result ≡ false → SameTurns self.old.table self.new.table }
+        ensures below { ComesBelow number self.old.table.sessions self.new.table.sessions }
+        ensures refused { result ≡ false → StayBelow self.old.table.sessions self.new.table.sessions }
+        ensures stepped { AreStepped self.old.table.sessions → AreStepped self.new.table.sessions }
         ensures same { fixed_of self.new ≡ fixed_of self.old }
     {
         let Some(place) = self.table.begin(number) else {
@@ -202,6 +224,7 @@ impl<S: Stream> Listening<S> {
         ensures connecting { self.new.connecting ≡ self.old.connecting }
         ensures others { OthersStay place self.old.table.sessions self.new.table.sessions }
         ensures turns { SameTurns self.old.table self.new.table }
+        ensures below { StayBelow self.old.table.sessions self.new.table.sessions }
         ensures same { fixed_of self.new ≡ fixed_of self.old }
     {
         if self.connecting == Connecting::OnDemand {
@@ -231,6 +254,7 @@ impl<S: Stream> Listening<S> {
         ensures connecting { self.new.connecting ≡ self.old.connecting }
         ensures others { OthersStay place self.old.table.sessions self.new.table.sessions }
         ensures turns { SameTurns self.old.table self.new.table }
+        ensures below { StayBelow self.old.table.sessions self.new.table.sessions }
         ensures same { fixed_of self.new ≡ fixed_of self.old }
     {
         let token = self.table.token(place, port);
@@ -245,6 +269,7 @@ impl<S: Stream> Listening<S> {
         ensures connecting { self.new.connecting ≡ self.old.connecting }
         ensures others { OthersStay place self.old.table.sessions self.new.table.sessions }
         ensures turns { SameTurns self.old.table self.new.table }
+        ensures below { StayBelow self.old.table.sessions self.new.table.sessions }
         ensures same { fixed_of self.new ≡ fixed_of self.old }
     {
         for at in 0..self.targets.len() {
@@ -265,6 +290,7 @@ impl<S: Stream> Listening<S> {
         ensures connecting { self.new.connecting ≡ self.old.connecting }
         ensures others { OthersStay place self.old.table.sessions self.new.table.sessions }
         ensures turns { SameTurns self.old.table self.new.table }
+        ensures below { StayBelow self.old.table.sessions self.new.table.sessions }
         ensures same { fixed_of self.new ≡ fixed_of self.old }
     {
         let Some(target) = self.targets.get(port.wrapping_sub(1)) else {
@@ -286,14 +312,16 @@ impl<S: Stream> Listening<S> {
     )
         ensures at_once { self.old.connecting ≡ Connecting.AtOnce → self.new ≡ self.old }
         ensures turns { SameTurns self.old.table self.new.table }
+        ensures below { StayBelow self.old.table.sessions self.new.table.sessions }
         ensures same { fixed_of self.new ≡ fixed_of self.old }
     {
         if self.connecting == Connecting::AtOnce {
             return;
         }
-        if let Some(place) = self.table.find_deferred(number, port)
-            && !self.connect(network, place, port)
-        {
+        let Some(place) = self.table.find_deferred(number, port) else {
+            return;
+        };
+        if !self.connect(network, place, port) {
             self.table.give_up(place, port);
         }
     }
@@ -305,6 +333,8 @@ impl<S: Stream> Listening<S> {
         ensures connecting { self.new.connecting ≡ self.old.connecting }
         ensures winds { Winds S.tells self.old.table.sessions self.new.table.sessions }
         ensures turn { TurnsIfTold S.tells None self.old.table self.new.table }
+        ensures below { StayBelow self.old.table.sessions self.new.table.sessions }
+        ensures stepped { StayStepped S.tells self.old.table self.new.table }
         ensures same { fixed_of self.new ≡ fixed_of self.old }
     {
         self.table.send();
@@ -323,6 +353,8 @@ impl<S: Stream> Listening<S> {
         ensures connecting { self.new.connecting ≡ self.old.connecting }
         ensures winds { Winds S.tells self.old.table.sessions self.new.table.sessions }
         ensures turn { TurnsIfTold S.tells None self.old.table self.new.table }
+        ensures below { StayBelow self.old.table.sessions self.new.table.sessions }
+        ensures stepped { StayStepped S.tells self.old.table self.new.table }
         ensures same { fixed_of self.new ≡ fixed_of self.old }
     {
         let timeout = self.timeout(network.handing());

@@ -1,5 +1,7 @@
 //! What the sockets of a server stand on: a listener, connections to targets, and the wait for what comes of them.
-ghost use Rattle.std.specs.Prelude.{◌≡◌, ◌<◌, ◌-◌, ◌^◌, ℕ, true, false, IfSome};
+ghost use Rattle.std.specs.Prelude.{◌≡◌, ◌<◌, ◌-◌, ◌^◌, ℕ, List, true, false, Some, IfSome};
+ghost use Rattle.std.specs.declared.net.socket_addr.SocketAddr.{SocketAddr};
+ghost use Rattle.gate_hub.specs.declared.hub.Began.TheVariants as began;
 ghost use Rattle.mio_edge.specs.Wire.{Stays, IfCame, new_wire};
 ghost use Rattle.mio_edge.specs.Numbers.{Passes, IfNumbered};
 ghost use Rattle.mio_edge.specs.declared.network.Readiness.{Readiness};
@@ -89,13 +91,21 @@ pub trait Network: Drop {
     /// It is one of several at an address.
     ghost is_shared: { Type 0 };
 
+    /// Which addresses it may know for a host's name and a port: any, unless it says more.
+    ghost names: { List ℕ → ℕ → SocketAddr → Type 0 } = { λ _ _ _. Unit {0} };
+
+    /// It listens at this address, as far as it tells that.
+    ghost listens: { Self → SocketAddr → Type 0 } = { λ _ _. Unit {0} };
+
     /// The first address that is known for a host's name, with this port: none where none is known.
-    fn look_up(&mut self, name: &[u8], port: u16) -> Option<SocketAddr>;
+    fn look_up(&mut self, name: &[u8], port: u16) -> Option<SocketAddr>
+        ensures { (address : SocketAddr) → result ≡ Some address → names name.now port address };
 
     /// Begins to listen at an address, for so many sessions at a time.
     ///
     /// `Failed`: the system refused.
-    fn listen(&mut self, alloc: Global, address: SocketAddr, sessions: usize) -> Began;
+    fn listen(&mut self, alloc: Global, address: SocketAddr, sessions: usize) -> Began
+        ensures { result ≡ began.Done → listens self.new address };
 
     /// Lets the listener go: later connections are refused. The others at the address get no more from here.
     fn stop_listening(&mut self);

@@ -2,16 +2,11 @@
 ghost use Rattle.std.specs.Prelude.{◌≡◌, ◌≢◌, ◌⊎◌, true, false, ◌<◌, ◌≤◌, [], ◌++◌, length, take, None, IsSome, IfOk};
 ghost use Rattle.gate_hub.specs.Hubs.{GotWithin, TookWithin, LinkReads, LinkWrites};
 ghost use Rattle.gate_hub.specs.Meaning.{Link, new_link};
-ghost use Rattle.mio_edge.specs.Closing.{IsSettled, KeepsSent, TellsItsEnd};
-ghost use Rattle.mio_edge.specs.Connecting.{HasBuffers, IsConnected, WaitsForWrite};
-ghost use Rattle.mio_edge.specs.Places.{HoldsUnsent};
 ghost use Rattle.mio_edge.specs.Wire.{Moves, Stays, new_wire};
-ghost use Rattle.mio_edge.specs.Moving.{PortTells, PortHears, IsOver, Finds, Notes, HasSent, TakesIn, after_failure};
-ghost use Rattle.mio_edge.specs.Moving.{IsCalm, IsBegun, IsFull, IsFullIn, IsUnsent, CanRead, CanWrite, after_news, then_sending, begins_receiving, begins_sending, is_news, noted};
 
 use crate::Stream;
+use crate::buffers::{hand_out, receive_from, send_from, take_in};
 use crate::network::Readiness;
-use crate::stream::{receive_from, send_from};
 use gate_base::OutOfMemory;
 use gate_hub::{LinkGot, LinkPut};
 use gate_io::Out;
@@ -29,6 +24,8 @@ enum Receiving {
 }
 
 impl Receiving {
+    ghost use Rattle.mio_edge.specs.Moving.{after_news, begins_receiving};
+
     // The same once this was reported. A failure shows at the next read.
     fn after(self, news: Readiness) -> Receiving
         ensures { result ≡ after_news news self }
@@ -61,6 +58,8 @@ pub(crate) enum Sending {
 }
 
 impl Sending {
+    ghost use Rattle.mio_edge.specs.Moving.{then_sending, begins_sending};
+
     // The same once this was reported. A failure shows at the next write.
     fn after(self, news: Readiness) -> Sending
         ensures { result ≡ then_sending news self }
@@ -89,26 +88,35 @@ pub(crate) enum Rest {
     Gone,
 }
 
-/// A connection with its buffers. Where it never came to be there is no stream.
+/// A connection with its buffers, of which both have room. Where it never came to be there is no stream.
 ///
 /// Readiness is reported once, at a change. So it is kept here until a read or a write shows that it
 /// is over: one that would have to wait, or that moved less than it could. A stream that failed is
 /// kept until the session is over, and not used again.
 #[derive(Drop)]
-pub(crate) struct Port<S: Stream> {
+pub(crate) struct Port<S> {
     stream: Option<S>,
     receiving: Receiving,
     sending: Sending,
     incoming: Out,
     outgoing: Out,
+    ghost room_in: { 0 < incoming.room },
+    ghost room_out: { 0 < outgoing.room },
 }
 
 impl<S: Stream> Port<S> {
-    /// A port without a connection. It takes the memory of both buffers, each of so many bytes.
+    ghost use Rattle.mio_edge.specs.Closing.{IsSettled, KeepsSent, TellsItsEnd};
+    ghost use Rattle.mio_edge.specs.Connecting.{IsConnected, WaitsForWrite};
+    ghost use Rattle.mio_edge.specs.Places.{HoldsUnsent};
+    ghost use Rattle.mio_edge.specs.Moving.{PortTells, PortHears, IsOver, Finds, Notes, HasSent, after_failure};
+    ghost use Rattle.mio_edge.specs.Moving.{IsCalm, IsBegun, IsFull, IsUnsent, CanRead, CanWrite, is_news, noted};
+
+    /// A port without a connection. It takes the memory of both buffers, each of so many bytes, which are some.
     ///
     /// A read is offered all room for what comes in, since one that leaves room has found the last of
     /// what came.
     pub(crate) fn open(alloc: Global, room: usize) -> Result<Port<S>, OutOfMemory>
+        requires { 0 < room }
         ensures { IfOk result (λ port. PortTells S.tells port new_link) }
     {
         Ok(Port {
@@ -120,29 +128,17 @@ impl<S: Stream> Port<S> {
         })
     }
 
-    /// Gives the port a connection, over which nothing went. One whose buffers have no room gets none.
+    /// Gives the port a connection, over which nothing went.
     pub(crate) fn attach(&mut self, stream: S, sending: Sending)
         requires { IsBegun sending }
         ensures tells { S.tells stream new_wire → PortTells S.tells self.new new_link }
-        ensures connects { HasBuffers self.old → IsConnected stream sending self.new }
+        ensures connects { IsConnected stream sending self.new }
     {
-        self.stream = None;
+        self.stream = Some(stream);
         self.receiving = Receiving::Idle;
-        self.sending = Sending::Blocked;
+        self.sending = sending;
         self.incoming.clear();
         self.outgoing.clear();
-        if self.has_room() {
-            self.stream = Some(stream);
-            self.sending = sending;
-        }
-    }
-
-    // Whether both buffers have room for more.
-    fn has_room(&self) -> bool
-        ensures room { result ≡ true → HasBuffers self.now }
-        ensures none { result ≡ false → IsFullIn self.now ⊎ IsFull self.now }
-    {
-        self.incoming.spare() > 0 && self.outgoing.spare() > 0
     }
 
     /// Has the connection begun at the first write, where there is none. Until then nothing can be read.
@@ -273,6 +269,7 @@ impl<S: Stream> Port<S> {
     pub(crate) fn send_unsent(&mut self) -> bool
         ensures keeps { Stays (PortTells S.tells self.old) (PortTells S.tells self.new) }
         ensures sent { IsUnsent self.new → ⊥ }
+        ensures still { (IsUnsent self.old → ⊥) → self.new ≡ self.old }
         ensures calm { IsCalm self.old self.new }
     {
         if !self.has_unsent() {
@@ -286,6 +283,7 @@ impl<S: Stream> Port<S> {
     pub(crate) fn send(&mut self)
         ensures keeps { Stays (PortTells S.tells self.old) (PortTells S.tells self.new) }
         ensures sent { HasSent self.new }
+        ensures still { (IsUnsent self.old → ⊥) → self.new ≡ self.old }
         ensures calm { IsCalm self.old self.new }
     {
         if self.sending != Sending::Ready || self.outgoing.bytes().is_empty() {
@@ -393,9 +391,6 @@ impl<S: Stream> Port<S> {
             Receiving::Lost => return LinkGot::Failed,
             Receiving::Ready | Receiving::Closing => (),
         }
-        if self.incoming.spare() == 0 {
-            return LinkGot::NotReady;
-        }
         let got = receive_from(stream, &mut self.incoming);
         self.note(got);
         got
@@ -427,34 +422,4 @@ impl<S: Stream> Port<S> {
             self.receiving = Receiving::Lost;
         }
     }
-}
-
-// Hands out the first of the bytes that are held, of which there are some.
-fn hand_out(held: &mut Out, into: &mut [u8]) -> usize
-    requires room { 0 < length into.old }
-    requires held { 0 < length held.old.bytes }
-    ensures some { 0 < result }
-    ensures within { result ≤ length into.new }
-    ensures bytes { take result into.new ++ held.new.bytes ≡ held.old.bytes }
-    ensures room { held.new.room ≡ held.old.room }
-{
-    let count = held.bytes().len().min(into.len());
-    into[..count].copy_from_slice(&held.bytes()[..count]);
-    held.drop_front(count);
-    count
-}
-
-// Takes as many of the bytes as there is room for.
-fn take_in(held: &mut Out, from: &[u8]) -> LinkPut
-    requires { 0 < length from.now }
-    ensures within { TookWithin from.now result }
-    ensures bytes { TakesIn result from.now held.old held.new }
-    ensures full { result ≡ LinkPut.NotReady → held.old.room ≤ length held.old.bytes }
-{
-    let count = from.len().min(held.spare());
-    if count == 0 {
-        return LinkPut::NotReady;
-    }
-    held.push(&from[..count]);
-    LinkPut::Took(count)
 }

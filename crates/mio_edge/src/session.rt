@@ -10,6 +10,7 @@ ghost use Rattle.mio_edge.specs.Sessions.{SessionTells, EachPort, PortsTell, AtP
 ghost use Rattle.mio_edge.specs.Sessions.{PortsAre, Calms, Flushes, TellsUnsent, MayWait, MayWrite, WaitsToRead, WaitsToWrite, count_read, count_written};
 ghost use Rattle.mio_edge.specs.Order.{Grows};
 ghost use Rattle.mio_edge.specs.Places.{HasUnsent};
+ghost use Rattle.mio_edge.specs.Stepping.{HasStepped};
 ghost use Rattle.mio_edge.specs.Turns.{HasRoom, Pushes};
 ghost use Rattle.mio_edge.specs.declared.port.Port.{Port};
 
@@ -21,7 +22,7 @@ use gate_hub::{LinkGot, LinkPut};
 
 /// The ports of one accepted connection.
 #[derive(Drop)]
-pub(crate) struct Session<S: Stream> {
+pub(crate) struct Session<S> {
     pub(crate) number: u64,
     pub(crate) ports: Vec<Port<S>>,
     allowance: usize,
@@ -111,6 +112,7 @@ impl<S: Stream> Session<S> {
         ensures news { (x : Port S) → slice_get self.old.ports.items port ≡ Some x → result ≡ is_news news x }
         ensures keeps { Stays (PortsTell S.tells self.old.ports.items) (PortsTell S.tells self.new.ports.items) }
         ensures calm { result ≡ false → Stays (SessionTells S.tells self.old) (SessionTells S.tells self.new) }
+        ensures stepped { result ≡ false → EachPort HasStepped self.old.ports.items → EachPort HasStepped self.new.ports.items }
         ensures still { IsStill self.old self.new }
         ensures same { self.new.allowance ≡ self.old.allowance }
     {
@@ -141,6 +143,7 @@ impl<S: Stream> Session<S> {
         ensures was { self.old.is_written ≡ true → (self.new ≡ self.old) × (queue.new ≡ queue.old) }
         ensures stands { self.old.is_written ≡ false → result ≡ true → Pushes place queue.old queue.new }
         ensures kept { result ≡ false → queue.new ≡ queue.old }
+        ensures room { HasRoom queue.old → result ≡ true }
         ensures rest { self.new ≡ record self.old { is_written = self.new.is_written } }
     {
         if !self.is_written {
@@ -228,6 +231,7 @@ impl<S: Stream> Session<S> {
     pub(crate) fn send(&mut self) -> bool
         ensures keeps { Stays (TellsUnsent S.tells self.old) (SessionTells S.tells self.new) }
         ensures ports { Stays (PortsTell S.tells self.old.ports.items) (PortsTell S.tells self.new.ports.items) }
+        ensures stepped { EachPort HasStepped self.old.ports.items → EachPort HasStepped self.new.ports.items }
         ensures still { IsStill self.old self.new }
         ensures same { self.new.allowance ≡ self.old.allowance }
     {
@@ -249,7 +253,8 @@ impl<S: Stream> Session<S> {
 
     /// Lets all connections go, and gives back the ports.
     pub(crate) fn into_ports(mut self) -> Vec<Port<S>>
-        ensures { PortsTell S.tells result.items new_links }
+        ensures new { PortsTell S.tells result.items new_links }
+        ensures count { length result.items ≡ length self.ports.items }
     {
         detach_all(&mut self.ports);
         self.ports
@@ -300,7 +305,8 @@ fn wind_up_all<S: Stream>(ports: &mut [Port<S>]) -> Rest
 
 // The one that has more left to do. One with bytes to pass over calls for a turn of its own.
 fn further_back(a: Rest, b: Rest) -> Rest
-    ensures { result ≡ Rest.Gone → (a ≡ Rest.Gone) × (b ≡ Rest.Gone) }
+    ensures gone { result ≡ Rest.Gone → (a ≡ Rest.Gone) × (b ≡ Rest.Gone) }
+    ensures all { a ≡ Rest.Gone → b ≡ Rest.Gone → result ≡ Rest.Gone }
 {
     match (a, b) {
         (Rest::Unread, _) | (_, Rest::Unread) => Rest::Unread,

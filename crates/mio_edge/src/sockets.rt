@@ -9,20 +9,22 @@ ghost use Rattle.mio_edge.specs.Admitting.{IfHere, IfNotHere};
 ghost use Rattle.mio_edge.specs.Fixed.{SocketsSame};
 ghost use Rattle.mio_edge.specs.Numbers.{AllAnnounced, Numbers, NumbersIfAny, Passes};
 ghost use Rattle.mio_edge.specs.Places.{AllHaveSent};
-ghost use Rattle.mio_edge.specs.Tables.{AtSession, Shuts, NamesIfAny, empty_world};
+ghost use Rattle.mio_edge.specs.Tables.{AtSession, Opens, Shuts, NamesIfAny, empty_world};
+ghost use Rattle.mio_edge.specs.Targets.{LeadsSessions, ListensAt};
 ghost use Rattle.mio_edge.specs.Turning.{EventTurn, SocketsJoin, SocketsTurnIfTold};
 ghost use Rattle.mio_edge.specs.Winding.{SocketsWind, SocketsWindIfTold, SocketsClose};
-ghost use Rattle.mio_edge.specs.Worlds.{SocketsStay, SocketsMove, SocketsMoveAt, NoneOpen, OpensAs, EventMoves, EventMovesIfAny, HasStopped};
+ghost use Rattle.mio_edge.specs.Worlds.{SocketsStay, SocketsStepped, SocketsMove, SocketsMoveAt, NoneOpen, EventMoves, EventMovesIfAny, HasStopped};
 
 use crate::listening::{Admitted, Connecting, Listening};
 use crate::mio_network::MioNetwork;
 use crate::network::Network;
+use crate::serving::Serving;
 use crate::table::Table;
+use crate::targets::{find_targets, listener_address};
 use gate_base::{OutOfMemory, Text};
 use gate_hub::{Began, HubNext, LinkGot, LinkPut};
-use peer_addresses::{Address, name_in, read_address};
 use std::alloc::Global;
-use std::net::{IpAddr, Ipv4Addr, Ipv6Addr, Net, SocketAddr};
+use std::net::Net;
 
 /// Real sockets: a listener, and for each session a port 0 to the client that connected and a port
 /// to each upstream.
@@ -40,10 +42,8 @@ use std::net::{IpAddr, Ipv4Addr, Ipv6Addr, Net, SocketAddr};
 pub struct Sockets<W: Network> {
     network: W,
     connecting: Connecting,
-    listening: Option<Listening<W::Stream>>,
+    serving: Serving<W::Stream>,
     accept: u64,
-    /// The next number: where the network is alone at its address, how many sessions were announced.
-    announced: u64,
     /// `next` has answered that no event will follow.
     has_stopped: bool,
     faults: u64,
@@ -54,7 +54,7 @@ impl<'n, N: Net> Sockets<MioNetwork<'n, N>> {
     pub fn new(net: &'n N) -> Sockets<MioNetwork<'n, N>>
         ensures faults { result.faults ≡ 0 }
         ensures accept { result.accept ≡ 0 }
-        ensures announced { result.announced ≡ 0 }
+        ensures announced { result.serving.announced ≡ 0 }
     {
         Sockets::over(MioNetwork::new(net))
     }
@@ -65,7 +65,7 @@ impl<W: Network> Sockets<W> {
     pub fn over(network: W) -> Sockets<W>
         ensures faults { result.faults ≡ 0 }
         ensures accept { result.accept ≡ 0 }
-        ensures announced { result.announced ≡ 0 }
+        ensures announced { result.serving.announced ≡ 0 }
     {
         Sockets::connecting(network, Connecting::AtOnce)
     }
@@ -75,7 +75,7 @@ impl<W: Network> Sockets<W> {
     pub fn on_demand(network: W) -> Sockets<W>
         ensures faults { result.faults ≡ 0 }
         ensures accept { result.accept ≡ 0 }
-        ensures announced { result.announced ≡ 0 }
+        ensures announced { result.serving.announced ≡ 0 }
     {
         Sockets::connecting(network, Connecting::OnDemand)
     }
@@ -83,14 +83,16 @@ impl<W: Network> Sockets<W> {
     fn connecting(network: W, connecting: Connecting) -> Sockets<W>
         ensures faults { result.faults ≡ 0 }
         ensures accept { result.accept ≡ 0 }
-        ensures announced { result.announced ≡ 0 }
+        ensures announced { result.serving.announced ≡ 0 }
     {
         Sockets {
             network,
             connecting,
-            listening: None,
+            serving: Serving {
+                announced: 0,
+                listening: None,
+            },
             accept: 0,
-            announced: 0,
             has_stopped: false,
             faults: 0,
         }
@@ -104,6 +106,8 @@ impl<W: Network> Sockets<W> {
     /// One place more than `sessions` is reserved, so that a connection beyond them can be announced.
     /// `Failed`: the count of `start` and `next` rose; an address isn't one, or the system refused.
     /// `NotFound`: that count rose; the network knows no address for the name of this upstream.
+    /// `Done`: it listens at the address that `listen` spells, and each session has a port to the address that each
+    /// upstream's word spells, or that the network answered for its name, in the order of the upstreams.
     pub fn start(
         &mut self,
         alloc: Global,
@@ -114,13 +118,15 @@ impl<W: Network> Sockets<W> {
     ) -> Began
         ensures begins { result ≡ began.Done → SocketsMove W.is_telling W.Stream.tells (λ a b. b ≡ empty_world) self.old self.new }
         ensures keeps { result ≢ began.Done → SocketsStay W.is_telling W.Stream.tells self.old self.new }
-        ensures announced { self.new.announced ≡ self.old.announced }
+        ensures announced { self.new.serving.announced ≡ self.old.serving.announced }
         ensures accept { result ≡ began.Done → self.new.accept ≡ accept }
         ensures kept { result ≢ began.Done → self.new.accept ≡ self.old.accept }
         ensures later { self.old.faults ≤ self.new.faults }
         ensures cause { result ≡ began.Failed → Rose self.old.faults self.new.faults }
         ensures unfound { (at : ℕ) → result ≡ began.NotFound at → Rose self.old.faults self.new.faults }
         ensures place { (at : ℕ) → result ≡ began.NotFound at → at < length upstreams.now }
+        ensures leads { result ≡ began.Done → LeadsSessions W.names upstreams.now self.new.serving.listening }
+        ensures listens { result ≡ began.Done → ListensAt W.listens listen.now self.new.network }
     {
         match self.open(alloc, listen, upstreams, sessions) {
             Ok(Began::Done) => {
@@ -149,12 +155,14 @@ impl<W: Network> Sockets<W> {
     ) -> Result<Began, OutOfMemory>
         ensures begins { result ≡ Ok began.Done → SocketsMove W.is_telling W.Stream.tells (λ a b. b ≡ empty_world) self.old self.new }
         ensures keeps { result ≢ Ok began.Done → SocketsStay W.is_telling W.Stream.tells self.old self.new }
-        ensures announced { self.new.announced ≡ self.old.announced }
+        ensures announced { self.new.serving.announced ≡ self.old.serving.announced }
         ensures accept { self.new.accept ≡ self.old.accept }
         ensures faults { self.new.faults ≡ self.old.faults }
         ensures place { (at : ℕ) → result ≡ Ok (began.NotFound at) → at < length upstreams.now }
+        ensures leads { result ≡ Ok began.Done → LeadsSessions W.names upstreams.now self.new.serving.listening }
+        ensures listens { result ≡ Ok began.Done → ListensAt W.listens listen.now self.new.network }
     {
-        let Some(listen) = listener_address(listen) else {
+        let Some(address) = listener_address(listen) else {
             return Ok(Began::Failed);
         };
         let mut targets = Vec::with_capacity(alloc, upstreams.len())?;
@@ -164,11 +172,11 @@ impl<W: Network> Sockets<W> {
         }
         let width = targets.len().saturating_add(1);
         let table = Table::open(alloc, sessions.saturating_add(1), width)?;
-        let began = without_place(self.network.listen(alloc, listen, sessions));
+        let began = without_place(self.network.listen(alloc, address, sessions));
         if began != Began::Done {
             return Ok(began);
         }
-        self.listening = Some(Listening::new(targets, self.connecting, table));
+        self.serving.listening = Some(Listening::new(targets, self.connecting, table));
         Ok(Began::Done)
     }
 
@@ -188,13 +196,14 @@ impl<W: Network> Sockets<W> {
         ensures sent { result ≡ event.Stopped → self.old.has_stopped ≡ false → AllHaveSent self.new ⊎ W.is_shared }
         ensures still { HasStopped W.is_shared self.old → result ≡ event.Stopped }
         ensures told { result ≡ event.Stopped → HasStopped W.is_shared self.new }
-        ensures numbers { Numbers W.is_shared result self.old.announced self.new.announced }
-        ensures stopped { result ≡ event.Stopped → AllAnnounced self.new.accept self.new.announced ⊎ W.is_shared }
+        ensures numbers { Numbers W.is_shared result self.old.serving.announced self.new.serving.announced }
+        ensures stopped { result ≡ event.Stopped → AllAnnounced self.new.accept self.new.serving.announced ⊎ W.is_shared }
         ensures accept { self.new.accept ≡ self.old.accept }
         ensures later { self.old.faults ≤ self.new.faults }
         ensures cause { result ≡ event.Failed → Rose self.old.faults self.new.faults }
         ensures winds { SocketsWind W.Stream.tells self.old self.new }
         ensures turn { EventTurn W.is_telling W.Stream.tells (Some result) self.old self.new }
+        ensures stepped { SocketsStepped W.is_telling W.Stream.tells self.new }
         ensures same { SocketsSame self.old self.new }
     {
         if self.has_ended() {
@@ -219,14 +228,14 @@ impl<W: Network> Sockets<W> {
         ensures within { GotWithin into.new result }
         ensures leads { SocketsMoveAt W.is_telling W.Stream.tells k (AtSession k port (LinkReads into.new result)) self.old self.new }
         ensures stopped { self.new.has_stopped ≡ self.old.has_stopped }
-        ensures announced { self.new.announced ≡ self.old.announced }
+        ensures announced { self.new.serving.announced ≡ self.old.serving.announced }
         ensures accept { self.new.accept ≡ self.old.accept }
         ensures faults { self.new.faults ≡ self.old.faults }
         ensures winds { SocketsWindIfTold W.is_telling W.Stream.tells self.old self.new }
         ensures joins { SocketsJoin self.old self.new }
         ensures same { SocketsSame self.old self.new }
     {
-        match &mut self.listening {
+        match &mut self.serving.listening {
             Some(listening) => listening.table.read(k, port, into),
             None => LinkGot::Failed,
         }
@@ -244,14 +253,14 @@ impl<W: Network> Sockets<W> {
         ensures within { TookWithin from.now result }
         ensures leads { SocketsMoveAt W.is_telling W.Stream.tells k (AtSession k port (LinkWrites from.now result)) self.old self.new }
         ensures stopped { self.new.has_stopped ≡ self.old.has_stopped }
-        ensures announced { self.new.announced ≡ self.old.announced }
+        ensures announced { self.new.serving.announced ≡ self.old.serving.announced }
         ensures accept { self.new.accept ≡ self.old.accept }
         ensures faults { self.new.faults ≡ self.old.faults }
         ensures winds { SocketsWindIfTold W.is_telling W.Stream.tells self.old self.new }
         ensures joins { SocketsJoin self.old self.new }
         ensures same { SocketsSame self.old self.new }
     {
-        match &mut self.listening {
+        match &mut self.serving.listening {
             Some(listening) => {
                 listening.connect_for_write(&mut self.network, k, port);
                 listening.table.write(k, port, from)
@@ -265,7 +274,7 @@ impl<W: Network> Sockets<W> {
     pub fn close(&mut self, k: u64)
         ensures leads { SocketsMoveAt W.is_telling W.Stream.tells k (Shuts k) self.old self.new }
         ensures stopped { self.new.has_stopped ≡ self.old.has_stopped }
-        ensures announced { self.new.announced ≡ self.old.announced }
+        ensures announced { self.new.serving.announced ≡ self.old.serving.announced }
         ensures accept { self.new.accept ≡ self.old.accept }
         ensures faults { self.new.faults ≡ self.old.faults }
         ensures sends { SocketsClose W.is_telling W.Stream.tells k self.old self.new }
@@ -274,7 +283,7 @@ impl<W: Network> Sockets<W> {
         ensures same { SocketsSame self.old self.new }
     {
         // The place is given away before the peer sees the end: one that connects again then finds it.
-        if let Some(listening) = &mut self.listening {
+        if let Some(listening) = &mut self.serving.listening {
             self.network.free_place();
             listening.table.close(k);
         }
@@ -287,7 +296,7 @@ impl<W: Network> Sockets<W> {
         ensures over { result ≡ Some event.Stopped → NoneOpen W.is_telling W.Stream.tells self.old }
         ensures sent { result ≡ Some event.Stopped → AllHaveSent self.new ⊎ W.is_shared }
         ensures told { result ≡ Some event.Stopped → HasStopped W.is_shared self.new }
-        ensures numbers { NumbersIfAny W.is_shared result self.old.announced self.new.announced }
+        ensures numbers { NumbersIfAny W.is_shared result self.old.serving.announced self.new.serving.announced }
         ensures accept { self.new.accept ≡ self.old.accept }
         ensures later { self.old.faults ≤ self.new.faults }
         ensures cause { result ≡ Some event.Failed → Rose self.old.faults self.new.faults }
@@ -302,7 +311,7 @@ impl<W: Network> Sockets<W> {
         if self.is_complete() {
             return self.finish();
         }
-        if self.announced == u64::MAX {
+        if self.serving.announced == u64::MAX {
             return Some(self.fails());
         }
         self.go_on()
@@ -311,9 +320,9 @@ impl<W: Network> Sockets<W> {
     // A step where connections may be accepted.
     #[tactic(auto, using(crate::proofs::Winding::sockets_same, crate::proofs::Winding::sockets_on, crate::specs::Fixed::fixed_same, crate::specs::Fixed::fixed_on, crate::proofs::Turning::sockets_turn_same, crate::proofs::Turning::sockets_join_same))]
     fn go_on(&mut self) -> Option<HubNext>
-        requires { self.old.announced < 2 ^ 64 - 1 }
+        requires { self.old.serving.announced < 2 ^ 64 - 1 }
         ensures moves { SocketsMove W.is_telling W.Stream.tells (EventMovesIfAny result) self.old self.new }
-        ensures numbers { NumbersIfAny W.is_shared result self.old.announced self.new.announced }
+        ensures numbers { NumbersIfAny W.is_shared result self.old.serving.announced self.new.serving.announced }
         ensures running { result ≢ Some event.Stopped }
         ensures accept { self.new.accept ≡ self.old.accept }
         ensures later { self.old.faults ≤ self.new.faults }
@@ -323,7 +332,7 @@ impl<W: Network> Sockets<W> {
         ensures same { SocketsSame self.old self.new }
     {
         match self.accept_next() {
-            Admitted::Here(number) => Some(self.opened(number)),
+            Admitted::Here(number) => Some(HubNext::Opened(number)),
             Admitted::Handed => {
                 self.pass_over();
                 None
@@ -335,12 +344,12 @@ impl<W: Network> Sockets<W> {
     // A step once no more connections are accepted.
     #[tactic(auto, using(crate::proofs::Winding::sockets_same, crate::proofs::Winding::sockets_on, crate::specs::Fixed::fixed_same, crate::specs::Fixed::fixed_on, crate::proofs::Turning::sockets_turn_same, crate::proofs::Turning::sockets_join_same))]
     fn finish(&mut self) -> Option<HubNext>
-        requires { AllAnnounced self.old.accept self.old.announced ⊎ W.is_shared }
+        requires { AllAnnounced self.old.accept self.old.serving.announced ⊎ W.is_shared }
         ensures moves { SocketsMove W.is_telling W.Stream.tells (EventMovesIfAny result) self.old self.new }
         ensures over { result ≡ Some event.Stopped → NoneOpen W.is_telling W.Stream.tells self.old }
         ensures sent { result ≡ Some event.Stopped → AllHaveSent self.new }
         ensures told { result ≡ Some event.Stopped → HasStopped W.is_shared self.new }
-        ensures numbers { NumbersIfAny W.is_shared result self.old.announced self.new.announced }
+        ensures numbers { NumbersIfAny W.is_shared result self.old.serving.announced self.new.serving.announced }
         ensures accept { self.new.accept ≡ self.old.accept }
         ensures later { self.old.faults ≤ self.new.faults }
         ensures cause { result ≡ Some event.Failed → Rose self.old.faults self.new.faults }
@@ -357,12 +366,12 @@ impl<W: Network> Sockets<W> {
     // No event follows.
     #[tactic(auto, using(crate::proofs::Winding::sockets_same, crate::proofs::Winding::sockets_on, crate::specs::Fixed::fixed_same, crate::specs::Fixed::fixed_on, crate::proofs::Turning::sockets_turn_same, crate::proofs::Turning::sockets_join_same))]
     fn stops(&mut self) -> HubNext
-        requires { AllAnnounced self.old.accept self.old.announced ⊎ W.is_shared }
+        requires { AllAnnounced self.old.accept self.old.serving.announced ⊎ W.is_shared }
         ensures keeps { SocketsStay W.is_telling W.Stream.tells self.old self.new }
         ensures result { result ≡ event.Stopped }
         ensures told { HasStopped W.is_shared self.new }
-        ensures listening { self.new.listening ≡ self.old.listening }
-        ensures announced { self.new.announced ≡ self.old.announced }
+        ensures listening { self.new.serving.listening ≡ self.old.serving.listening }
+        ensures announced { self.new.serving.announced ≡ self.old.serving.announced }
         ensures accept { self.new.accept ≡ self.old.accept }
         ensures faults { self.new.faults ≡ self.old.faults }
         ensures winds { SocketsWind W.Stream.tells self.old self.new }
@@ -374,15 +383,15 @@ impl<W: Network> Sockets<W> {
 
     // Whether all was announced that is to be accepted.
     fn has_announced_all(&self) -> bool
-        ensures some { result ≡ true → AllAnnounced self.now.accept self.now.announced }
-        ensures all { AllAnnounced self.now.accept self.now.announced → result ≡ true }
+        ensures some { result ≡ true → AllAnnounced self.now.accept self.now.serving.announced }
+        ensures all { AllAnnounced self.now.accept self.now.serving.announced → result ≡ true }
     {
-        self.accept > 0 && self.announced >= self.accept
+        self.accept > 0 && self.serving.announced >= self.accept
     }
 
     // Whether no connection comes any more.
     fn is_complete(&self) -> bool
-        ensures { result ≡ true → AllAnnounced self.now.accept self.now.announced ⊎ W.is_shared }
+        ensures { result ≡ true → AllAnnounced self.now.accept self.now.serving.announced ⊎ W.is_shared }
     {
         self.has_announced_all() || !self.network.may_accept()
     }
@@ -397,8 +406,8 @@ impl<W: Network> Sockets<W> {
 
     // Whether that may have been told.
     fn may_stop(&self) -> bool
-        ensures some { result ≡ true → AllAnnounced self.now.accept self.now.announced ⊎ W.is_shared }
-        ensures all { AllAnnounced self.now.accept self.now.announced ⊎ W.is_shared → result ≡ true }
+        ensures some { result ≡ true → AllAnnounced self.now.accept self.now.serving.announced ⊎ W.is_shared }
+        ensures all { AllAnnounced self.now.accept self.now.serving.announced ⊎ W.is_shared → result ≡ true }
     {
         self.has_announced_all() || self.network.has_fellows()
     }
@@ -409,14 +418,14 @@ impl<W: Network> Sockets<W> {
         ensures keeps { SocketsStay W.is_telling W.Stream.tells self.old self.new }
         ensures over { result ≡ true → NoneOpen W.is_telling W.Stream.tells self.old }
         ensures sent { result ≡ true → AllHaveSent self.new }
-        ensures announced { self.new.announced ≡ self.old.announced }
+        ensures announced { self.new.serving.announced ≡ self.old.serving.announced }
         ensures accept { self.new.accept ≡ self.old.accept }
         ensures faults { self.new.faults ≡ self.old.faults }
         ensures winds { SocketsWind W.Stream.tells self.old self.new }
         ensures turn { SocketsTurnIfTold W.is_telling W.Stream.tells None self.old self.new }
         ensures same { SocketsSame self.old self.new }
     {
-        match &mut self.listening {
+        match &mut self.serving.listening {
             Some(listening) => {
                 listening.stop_accepting(&mut self.network);
                 listening.is_over()
@@ -429,73 +438,53 @@ impl<W: Network> Sockets<W> {
     #[tactic(auto, using(crate::proofs::Winding::sockets_same, crate::proofs::Winding::sockets_on, crate::specs::Fixed::fixed_same, crate::specs::Fixed::fixed_on, crate::proofs::Turning::sockets_turn_same, crate::proofs::Turning::sockets_join_same))]
     fn send_where_many(&mut self)
         ensures keeps { SocketsStay W.is_telling W.Stream.tells self.old self.new }
-        ensures announced { self.new.announced ≡ self.old.announced }
+        ensures announced { self.new.serving.announced ≡ self.old.serving.announced }
         ensures accept { self.new.accept ≡ self.old.accept }
         ensures faults { self.new.faults ≡ self.old.faults }
         ensures winds { SocketsWind W.Stream.tells self.old self.new }
         ensures turn { SocketsTurnIfTold W.is_telling W.Stream.tells None self.old self.new }
         ensures same { SocketsSame self.old self.new }
     {
-        if let Some(listening) = &mut self.listening {
+        if let Some(listening) = &mut self.serving.listening {
             listening.table.send_where_many();
         }
     }
 
-    // Accepts the next connection, if there is one.
+    // Accepts the next connection, if there is one, and raises the next number where it is a session here.
     #[tactic(auto, using(crate::proofs::Winding::sockets_same, crate::proofs::Winding::sockets_on, crate::specs::Fixed::fixed_same, crate::specs::Fixed::fixed_on, crate::proofs::Turning::sockets_turn_same, crate::proofs::Turning::sockets_join_same))]
     fn accept_next(&mut self) -> Admitted
-        requires { self.old.announced < 2 ^ 64 - 1 }
-        ensures opens { IfHere result (λ k. OpensAs W.is_telling W.Stream.tells k self.old self.new) }
+        requires { self.old.serving.announced < 2 ^ 64 - 1 }
+        ensures opens { IfHere result (λ k. SocketsMove W.is_telling W.Stream.tells (Opens k) self.old self.new) }
         ensures keeps { IfNotHere result (SocketsStay W.is_telling W.Stream.tells self.old self.new) }
-        ensures number { IfHere result (λ k. Passes W.is_shared self.old.announced k × (k < 2 ^ 64 - 1)) }
+        ensures number { IfHere result (λ k. Passes W.is_shared self.old.serving.announced k × (k < 2 ^ 64 - 1)) }
         ensures handed { result ≡ Admitted.Handed → W.is_shared }
-        ensures announced { self.new.announced ≡ self.old.announced }
+        ensures announced { IfHere result (λ k. self.new.serving.announced ≡ k + 1) }
+        ensures waits { IfNotHere result (self.new.serving.announced ≡ self.old.serving.announced) }
         ensures accept { self.new.accept ≡ self.old.accept }
         ensures faults { self.new.faults ≡ self.old.faults }
         ensures winds { SocketsWind W.Stream.tells self.old self.new }
         ensures turn { IfNotHere result (SocketsTurnIfTold W.is_telling W.Stream.tells None self.old self.new) }
         ensures same { SocketsSame self.old self.new }
     {
-        match &mut self.listening {
-            Some(listening) => listening.accept(&mut self.network, self.announced),
+        match &mut self.serving.listening {
+            Some(listening) => listening.accept(&mut self.network, &mut self.serving.announced),
             None => Admitted::Nothing,
         }
-    }
-
-    // The same where that session was announced, as each is.
-    #[tactic(auto, using(crate::proofs::Winding::sockets_same, crate::proofs::Winding::sockets_on, crate::specs::Fixed::fixed_same, crate::specs::Fixed::fixed_on))]
-    fn next_announced(&mut self) -> Option<u64>
-        ensures names { SocketsMove W.is_telling W.Stream.tells (NamesIfAny result) self.old self.new }
-        ensures below { IfSome result (λ number. number < self.old.announced) }
-        ensures announced { self.new.announced ≡ self.old.announced }
-        ensures accept { self.new.accept ≡ self.old.accept }
-        ensures faults { self.new.faults ≡ self.old.faults }
-        ensures winds { SocketsWind W.Stream.tells self.old self.new }
-        ensures turn { SocketsTurnIfTold W.is_telling W.Stream.tells result self.old self.new }
-        ensures same { SocketsSame self.old self.new }
-    {
-        let Some(number) = self.next_named() else {
-            return None;
-        };
-        // One comparison a turn says that the session was announced, also where nothing is told.
-        if number < self.announced {
-            return Some(number);
-        }
-        None
     }
 
     // The number of the session that is to have a turn next.
     #[tactic(auto, using(crate::proofs::Winding::sockets_same, crate::proofs::Winding::sockets_on, crate::specs::Fixed::fixed_same, crate::specs::Fixed::fixed_on, crate::proofs::Turning::sockets_turn_same, crate::proofs::Turning::sockets_join_same))]
     fn next_named(&mut self) -> Option<u64>
         ensures names { SocketsMove W.is_telling W.Stream.tells (NamesIfAny result) self.old self.new }
-        ensures announced { self.new.announced ≡ self.old.announced }
+        ensures below { IfSome result (λ number. number < self.old.serving.announced) }
+        ensures announced { self.new.serving.announced ≡ self.old.serving.announced }
         ensures accept { self.new.accept ≡ self.old.accept }
         ensures faults { self.new.faults ≡ self.old.faults }
         ensures winds { SocketsWind W.Stream.tells self.old self.new }
         ensures turn { SocketsTurnIfTold W.is_telling W.Stream.tells result self.old self.new }
         ensures same { SocketsSame self.old self.new }
     {
-        match &mut self.listening {
+        match &mut self.serving.listening {
             Some(listening) => listening.table.next_ready(),
             None => None,
         }
@@ -505,51 +494,41 @@ impl<W: Network> Sockets<W> {
     #[tactic(auto, using(crate::proofs::Winding::sockets_same, crate::proofs::Winding::sockets_on, crate::specs::Fixed::fixed_same, crate::specs::Fixed::fixed_on, crate::proofs::Turning::sockets_turn_same, crate::proofs::Turning::sockets_join_same))]
     fn rest(&mut self) -> bool
         ensures keeps { SocketsStay W.is_telling W.Stream.tells self.old self.new }
-        ensures announced { self.new.announced ≡ self.old.announced }
+        ensures announced { self.new.serving.announced ≡ self.old.serving.announced }
         ensures accept { self.new.accept ≡ self.old.accept }
         ensures faults { self.new.faults ≡ self.old.faults }
         ensures winds { SocketsWind W.Stream.tells self.old self.new }
         ensures turn { SocketsTurnIfTold W.is_telling W.Stream.tells None self.old self.new }
         ensures same { SocketsSame self.old self.new }
     {
-        match &mut self.listening {
+        match &mut self.serving.listening {
             Some(listening) => listening.rest(&mut self.network),
             None => true,
         }
     }
 
-    // The session that was accepted.
-    fn opened(&mut self, number: u64) -> HubNext
-        requires { number < 2 ^ 64 - 1 }
-        ensures result { result ≡ event.Opened number }
-        ensures after { self.new ≡ record self.old { announced = number + 1 } }
-    {
-        self.announced = number + 1;
-        HubNext::Opened(number)
-    }
-
     // The next number is another's.
     #[tactic(auto, using(crate::proofs::Winding::sockets_same, crate::proofs::Winding::sockets_on, crate::specs::Fixed::fixed_same, crate::specs::Fixed::fixed_on, crate::proofs::Turning::sockets_turn_same, crate::proofs::Turning::sockets_join_same))]
     fn pass_over(&mut self)
-        requires { self.old.announced < 2 ^ 64 - 1 }
+        requires { self.old.serving.announced < 2 ^ 64 - 1 }
         ensures keeps { SocketsStay W.is_telling W.Stream.tells self.old self.new }
-        ensures announced { self.new.announced ≡ self.old.announced + 1 }
+        ensures announced { self.new.serving.announced ≡ self.old.serving.announced + 1 }
         ensures accept { self.new.accept ≡ self.old.accept }
         ensures faults { self.new.faults ≡ self.old.faults }
         ensures winds { SocketsWind W.Stream.tells self.old self.new }
         ensures turn { SocketsTurnIfTold W.is_telling W.Stream.tells None self.old self.new }
         ensures same { SocketsSame self.old self.new }
     {
-        self.announced += 1;
+        self.serving.announced += 1;
     }
 
     // A session that is to have a turn: none after a wait.
     #[tactic(auto, using(crate::proofs::Winding::sockets_same, crate::proofs::Winding::sockets_on, crate::specs::Fixed::fixed_same, crate::specs::Fixed::fixed_on, crate::proofs::Turning::sockets_turn_same, crate::proofs::Turning::sockets_join_same))]
     fn ready(&mut self) -> Option<HubNext>
         ensures moves { SocketsMove W.is_telling W.Stream.tells (EventMovesIfAny result) self.old self.new }
-        ensures numbers { NumbersIfAny W.is_shared result self.old.announced self.new.announced }
+        ensures numbers { NumbersIfAny W.is_shared result self.old.serving.announced self.new.serving.announced }
         ensures running { result ≢ Some event.Stopped }
-        ensures announced { self.new.announced ≡ self.old.announced }
+        ensures announced { self.new.serving.announced ≡ self.old.serving.announced }
         ensures accept { self.new.accept ≡ self.old.accept }
         ensures later { self.old.faults ≤ self.new.faults }
         ensures cause { result ≡ Some event.Failed → Rose self.old.faults self.new.faults }
@@ -557,7 +536,7 @@ impl<W: Network> Sockets<W> {
         ensures turn { EventTurn W.is_telling W.Stream.tells result self.old self.new }
         ensures same { SocketsSame self.old self.new }
     {
-        if let Some(number) = self.next_announced() {
+        if let Some(number) = self.next_named() {
             return Some(HubNext::Ready(number));
         }
         if self.rest() {
@@ -571,7 +550,7 @@ impl<W: Network> Sockets<W> {
     fn fails(&mut self) -> HubNext
         ensures keeps { SocketsStay W.is_telling W.Stream.tells self.old self.new }
         ensures result { result ≡ event.Failed }
-        ensures announced { self.new.announced ≡ self.old.announced }
+        ensures announced { self.new.serving.announced ≡ self.old.serving.announced }
         ensures accept { self.new.accept ≡ self.old.accept }
         ensures later { self.old.faults ≤ self.new.faults }
         ensures cause { Rose self.old.faults self.new.faults }
@@ -589,59 +568,6 @@ impl<W: Network> Sockets<W> {
         ensures cause { Rose self.old.faults self.new.faults }
     {
         self.faults = self.faults.saturating_add(1);
-    }
-}
-
-// The addresses of the upstreams, in their order. It says whether all are found.
-fn find_targets<W: Network>(
-    network: &mut W,
-    upstreams: &[Text],
-    targets: &mut Vec<SocketAddr>,
-) -> Result<Began, OutOfMemory>
-    ensures place { (at : ℕ) → result ≡ Ok (began.NotFound at) → at < length upstreams.now }
-{
-    for (at, upstream) in upstreams.iter().enumerate() {
-        let word = upstream.as_slice();
-        let Some(address) = read_address(word) else {
-            return Ok(Began::Failed);
-        };
-        let Some(target) = target_address(network, word, address) else {
-            return Ok(Began::NotFound(at));
-        };
-        targets.push(target)?;
-    }
-    Ok(Began::Done)
-}
-
-// The address of a target for the system: none where the network knows none for its name.
-fn target_address<W: Network>(
-    network: &mut W,
-    word: &[u8],
-    address: Address,
-) -> Option<SocketAddr> {
-    match address {
-        Address::Name { port } => network.look_up(name_in(word), port),
-        _ => socket_address(address),
-    }
-}
-
-// The address that a listener's word spells, for the system.
-fn listener_address(word: &[u8]) -> Option<SocketAddr> {
-    socket_address(read_address(word)?)
-}
-
-// An address of the Internet Protocol, for the system.
-fn socket_address(address: Address) -> Option<SocketAddr> {
-    match address {
-        Address::V4 { octets, port } => {
-            let ip = Ipv4Addr::from_octets(octets);
-            Some(SocketAddr::new(IpAddr::V4(ip), port))
-        }
-        Address::V6 { segments, port } => {
-            let ip = Ipv6Addr::from_segments(segments);
-            Some(SocketAddr::new(IpAddr::V6(ip), port))
-        }
-        Address::Name { .. } => None,
     }
 }
 

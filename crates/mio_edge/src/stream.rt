@@ -1,12 +1,10 @@
-//! A connection that is read and written without waiting, and how the buffers of a port move over it.
-ghost use Rattle.std.specs.Prelude.{◌≡◌, ◌<◌, [], length, Bool};
+//! A connection that is read and written without waiting.
+ghost use Rattle.std.specs.Prelude.{◌<◌, length, Bool};
 ghost use Rattle.gate_base.specs.Bytes.{AreBytes};
 ghost use Rattle.gate_hub.specs.Hubs.{GotWithin, TookWithin};
 ghost use Rattle.mio_edge.specs.Wire.{Wire, Moves, WireReads, WireWrites, WireShuts, heard};
-ghost use Rattle.mio_edge.specs.Moving.{Receives, Sends};
 
 use gate_hub::{LinkGot, LinkPut};
-use gate_io::Out;
 
 /// A connection to a peer. No call of it waits.
 pub trait Stream: Drop {
@@ -38,33 +36,4 @@ pub trait Stream: Drop {
 
     /// That it is readable or writable may be reported at any time.
     ghost hears: { (stream : Self) (wire : Wire) (r w : Bool) → tells stream wire → tells stream (heard r w wire) };
-}
-
-/// Reads once into all the room of a buffer that is empty. It has some.
-pub(crate) fn receive_from<S: Stream>(stream: &mut S, buffer: &mut Out) -> LinkGot
-    requires empty { buffer.old.bytes ≡ [] }
-    requires room { 0 < buffer.old.room }
-    ensures some { Receives result buffer.old buffer.new }
-    ensures moves { Moves (S.tells stream.old) (S.tells stream.new) (WireReads buffer.old.room buffer.new.bytes result) }
-{
-    let room = buffer.spare();
-    let got = stream.receive(buffer.tail(room));
-    match got {
-        LinkGot::Bytes(count) => buffer.cut(count),
-        LinkGot::NotReady | LinkGot::End | LinkGot::Failed => buffer.clear(),
-    }
-    got
-}
-
-/// Writes once what a buffer holds, which is something, and lets go what was taken.
-pub(crate) fn send_from<S: Stream>(stream: &mut S, buffer: &mut Out) -> LinkPut
-    requires some { 0 < length buffer.old.bytes }
-    ensures front { Sends result buffer.old buffer.new }
-    ensures moves { Moves (S.tells stream.old) (S.tells stream.new) (WireWrites buffer.old.bytes result) }
-{
-    let put = stream.send(buffer.bytes());
-    if let LinkPut::Took(count) = put {
-        buffer.drop_front(count);
-    }
-    put
 }

@@ -10,12 +10,14 @@ ghost use Rattle.mio_edge.specs.Connecting.{Connects, EachPortAt, HasPortAt, IsD
 ghost use Rattle.mio_edge.specs.Order.{Grows, JoinsBehind, MovesOn, SameTurns, TurnsIfTold};
 ghost use Rattle.mio_edge.specs.Fixed.{settings_on, settings_same};
 ghost use Rattle.mio_edge.specs.Lines.{moves_still, moves_on_further};
+ghost use Rattle.mio_edge.specs.Stepping.{AreStepped, HoldsOpen, OthersStepped, OthersSteppedIfAny, StayStepped};
 ghost use Rattle.mio_edge.specs.Steps.{StaysShut, TakesTurns};
 ghost use Rattle.mio_edge.specs.Wire.{Moves, Stays, new_wire};
 ghost use Rattle.mio_edge.specs.Tables.{World, TableTells, IsNew, IsPrepared, IsClosedAt, AtSession, Shuts, MovesAt, RisesFrom, SpareTells, place_of, empty_world};
 ghost use Rattle.mio_edge.specs.Tables.{IfPrepared, TableAnnounces};
 ghost use Rattle.mio_edge.specs.Tables.{HasVacancy, IsEntry, NamesIfAny, NotesToken};
 ghost use Rattle.mio_edge.specs.Moving.{IsBegun};
+ghost use Rattle.mio_edge.specs.Numbered.{AreBelow, IsOneOf, StayBelow, StayBelowBeside};
 ghost use Rattle.mio_edge.specs.Places.{AllSent, HasNoPlace, HasNoPlaceWhere, ListsClosed, NoneGives, quantum_for};
 ghost use Rattle.mio_edge.specs.Sessions.{PortsTell, new_links};
 ghost use Rattle.mio_edge.specs.Turns.{IsIdleAt, IsQueuedAt, TakesFirst, turns_of};
@@ -69,7 +71,7 @@ struct Settings {
 /// written to it is sent or can't be. After that it waits for the peers' ends, but gives its place to
 /// a new connection.
 #[derive(Drop)]
-pub(crate) struct Table<S: Stream> {
+pub(crate) struct Table<S> {
     settings: Settings,
     sessions: Slab<Session<S>>,
     /// The ports, with their buffers, of the places that are free.
@@ -93,6 +95,7 @@ impl<S: Stream> Table<S> {
     pub(crate) fn open(alloc: Global, places: usize, width: usize) -> Result<Table<S>, OutOfMemory>
         ensures empty { IfOk result (λ table. TableTells S.tells table empty_world) }
         ensures width { IfOk result (λ table. table.settings.width ≡ width) }
+        ensures below { IfOk result (λ table. AreBelow 0 table.sessions) }
         ensures quantum { IfOk result (λ table. table.settings.quantum ≡ quantum_for places) }
     {
         let quantum = if places <= FEW_PLACES {
@@ -172,6 +175,8 @@ impl<S: Stream> Table<S> {
         ensures winds { WindsBesideIfAny S.tells result self.old.sessions self.new.sessions }
         ensures turns { SameTurns self.old self.new }
         ensures none { (world : World) → TableTells S.tells self.old world → result ≡ None → HasNoPlaceWhere self.old }
+        ensures below { StayBelowBeside number result self.old.sessions self.new.sessions }
+        ensures stepped { AreStepped self.old.sessions → OthersSteppedIfAny result self.new.sessions }
         ensures same { self.new.settings ≡ self.old.settings }
     {
         self.make_place();
@@ -188,6 +193,8 @@ impl<S: Stream> Table<S> {
         ensures winds { Winds S.tells self.old.sessions self.new.sessions }
         ensures turns { SameTurns self.old self.new }
         ensures none { self.new.spare.items ≡ [] → HasNoPlaceWhere self.old }
+        ensures below { StayBelow self.old.sessions self.new.sessions }
+        ensures stepped { AreStepped self.old.sessions → AreStepped self.new.sessions }
         ensures same { self.new.settings ≡ self.old.settings }
     {
         if self.spare.is_empty() {
@@ -202,6 +209,7 @@ impl<S: Stream> Table<S> {
         ensures puts { PutsAt result self.old.sessions self.new.sessions }
         ensures full { result ≡ None → HasRoomFor self.old.sessions 1 → ⊥ }
         ensures turns { SameTurns self.old self.new }
+        ensures below { StayBelowBeside session.number result self.old.sessions self.new.sessions }
         ensures same { self.new.settings ≡ self.old.settings }
     {
         self.sessions.insert(session).ok()
@@ -226,6 +234,7 @@ impl<S: Stream> Table<S> {
         ensures there { result ≡ true → HasPortAt self.old.sessions place port }
         ensures all { HasPortAt self.old.sessions place port → result ≡ true }
         ensures connects { Connects stream sending place port self.old.sessions self.new.sessions }
+        ensures below { StayBelow self.old.sessions self.new.sessions }
         ensures same { self.new.settings ≡ self.old.settings }
     {
         match self.sessions.get_mut(place) {
@@ -243,6 +252,7 @@ impl<S: Stream> Table<S> {
         ensures others { OthersStay place self.old.sessions self.new.sessions }
         ensures turns { SameTurns self.old self.new }
         ensures deferred { EachPortAt WaitsForWrite self.new.sessions place }
+        ensures below { StayBelow self.old.sessions self.new.sessions }
         ensures same { self.new.settings ≡ self.old.settings }
     {
         if let Some(session) = self.sessions.get_mut(place) {
@@ -269,6 +279,7 @@ impl<S: Stream> Table<S> {
         ensures keeps { Stays (TableTells S.tells self.old) (TableTells S.tells self.new) }
         ensures turns { SameTurns self.old self.new }
         ensures given_up { IsDeferredIn self.new.sessions place port → ⊥ }
+        ensures below { StayBelow self.old.sessions self.new.sessions }
         ensures same { self.new.settings ≡ self.old.settings }
     {
         if let Some(session) = self.sessions.get_mut(place) {
@@ -283,6 +294,8 @@ impl<S: Stream> Table<S> {
         ensures kept { result ≡ false → self.new ≡ self.old }
         ensures others { OthersStay place self.old.sessions self.new.sessions }
         ensures refused { result ≡ false → (vec_capacity self.old.entries ≤ vec_len self.old.entries) ⊎ (get self.old.sessions place ≡ None) }
+        ensures below { StayBelow self.old.sessions self.new.sessions }
+        ensures stepped { result ≡ true → HoldsOpen self.new.sessions place }
         ensures same { self.new.settings ≡ self.old.settings }
     {
         if self.entries.len() >= self.entries.capacity() {
@@ -329,6 +342,9 @@ impl<S: Stream> Table<S> {
         ensures turn { TurnsIfTold S.tells result self.old self.new }
         ensures steps { TakesTurns self.old self.new }
         ensures none { result ≡ None → self.new.ready.places.items ≡ [] }
+        ensures below { StayBelow self.old.sessions self.new.sessions }
+        ensures number { IsOneOf result self.old.sessions }
+        ensures stepped { StayStepped S.tells self.old self.new }
         ensures same { self.new.settings ≡ self.old.settings }
     {
         for _ in 0..self.ready.len() {
@@ -348,6 +364,9 @@ impl<S: Stream> Table<S> {
         ensures turn { TurnsIfTold S.tells result self.old self.new }
         ensures steps { TakesTurns self.old self.new }
         ensures taken { self.new.ready.places.items ≡ drop 1 self.old.ready.places.items }
+        ensures below { StayBelow self.old.sessions self.new.sessions }
+        ensures number { IsOneOf result self.old.sessions }
+        ensures stepped { StayStepped S.tells self.old self.new }
         ensures same { self.new.settings ≡ self.old.settings }
     {
         let Some(place) = self.ready.pop() else {
@@ -381,6 +400,8 @@ impl<S: Stream> Table<S> {
         ensures winds { Winds S.tells self.old.sessions self.new.sessions }
         ensures turn { MovesOn [] self.old self.new }
         ensures few { deque_len self.new.written.places < MOST_WRITTEN }
+        ensures below { StayBelow self.old.sessions self.new.sessions }
+        ensures stepped { StayStepped S.tells self.old self.new }
         ensures same { self.new.settings ≡ self.old.settings }
     {
         if self.written.len() >= MOST_WRITTEN {
@@ -395,6 +416,8 @@ impl<S: Stream> Table<S> {
         ensures sent { self.new.written.places.items ≡ [] }
         ensures winds { Winds S.tells self.old.sessions self.new.sessions }
         ensures turn { MovesOn [] self.old self.new }
+        ensures below { StayBelow self.old.sessions self.new.sessions }
+        ensures stepped { StayStepped S.tells self.old self.new }
         ensures same { self.new.settings ≡ self.old.settings }
     {
         for _ in 0..self.written.len() {
@@ -409,6 +432,8 @@ impl<S: Stream> Table<S> {
         ensures taken { self.new.written.places.items ≡ drop 1 self.old.written.places.items }
         ensures winds { Winds S.tells self.old.sessions self.new.sessions }
         ensures turn { MovesOn [] self.old self.new }
+        ensures below { StayBelow self.old.sessions self.new.sessions }
+        ensures stepped { StayStepped S.tells self.old self.new }
         ensures same { self.new.settings ≡ self.old.settings }
     {
         let Some(place) = self.written.pop() else {
@@ -431,6 +456,8 @@ impl<S: Stream> Table<S> {
         ensures leads { MovesAt number (TableTells S.tells self.old) (TableTells S.tells self.new) (AtSession number port (LinkReads into.new result)) }
         ensures winds { (world : World) → TableTells S.tells self.old world → Winds S.tells self.old.sessions self.new.sessions }
         ensures joins { JoinsBehind self.old self.new }
+        ensures below { StayBelow self.old.sessions self.new.sessions }
+        ensures stepped { StayStepped S.tells self.old self.new }
         ensures same { self.new.settings ≡ self.old.settings }
     {
         let Some(place) = self.find(number) else {
@@ -454,6 +481,8 @@ impl<S: Stream> Table<S> {
         ensures leads { MovesAt number (TableTells S.tells self.old) (TableTells S.tells self.new) (AtSession number port (LinkWrites from.now result)) }
         ensures winds { (world : World) → TableTells S.tells self.old world → Winds S.tells self.old.sessions self.new.sessions }
         ensures joins { JoinsBehind self.old self.new }
+        ensures below { StayBelow self.old.sessions self.new.sessions }
+        ensures stepped { StayStepped S.tells self.old self.new }
         ensures same { self.new.settings ≡ self.old.settings }
     {
         let Some(place) = self.find(number) else {
@@ -480,6 +509,8 @@ impl<S: Stream> Table<S> {
         ensures sends { TableCloses S.tells number self.old self.new }
         ensures winds { Winds S.tells self.old.sessions self.new.sessions }
         ensures joins { JoinsBehind self.old self.new }
+        ensures below { StayBelow self.old.sessions self.new.sessions }
+        ensures stepped { AreStepped self.old.sessions → AreStepped self.new.sessions }
         ensures same { self.new.settings ≡ self.old.settings }
     {
         if let Some(at) = self.search(number) {
@@ -499,6 +530,8 @@ impl<S: Stream> Table<S> {
         ensures ready { self.new.ready ≡ self.old.ready }
         ensures behind { self.new.behind ≡ self.old.behind }
         ensures listed { get self.old.sessions result ≢ None → ListsClosed result self.old self.new }
+        ensures below { StayBelow self.old.sessions self.new.sessions }
+        ensures stepped { AreStepped self.old.sessions → OthersStepped result self.new.sessions }
         ensures same { self.new.settings ≡ self.old.settings }
     {
         let place = self.entries.remove(at).place;
@@ -524,6 +557,7 @@ impl<S: Stream> Table<S> {
         ensures shut { StaysShut place self.old.sessions self.new.sessions }
         ensures behind { Grows self.old.behind self.new.behind }
         ensures entries { self.new.entries ≡ self.old.entries }
+        ensures below { StayBelow self.old.sessions self.new.sessions }
         ensures same { self.new.settings ≡ self.old.settings }
     {
         let Some(session) = self.sessions.get_mut(place) else {
@@ -550,6 +584,7 @@ impl<S: Stream> Table<S> {
         ensures stands { (world : World) → TableTells S.tells self.old world → get self.old.sessions place ≢ None → IsQueuedAt self.new.sessions place }
         ensures behind { Grows self.old.behind self.new.behind }
         ensures entries { self.new.entries ≡ self.old.entries }
+        ensures below { StayBelow self.old.sessions self.new.sessions }
         ensures same { self.new.settings ≡ self.old.settings }
     {
         if let Some(session) = self.sessions.get_mut(place) {
@@ -567,6 +602,7 @@ impl<S: Stream> Table<S> {
         ensures winds { HoldsSettled self.old.sessions place → Winds S.tells self.old.sessions self.new.sessions }
         ensures spares { vec_len self.old.spare < vec_capacity self.old.spare → get self.old.sessions place ≢ None → self.new.spare.items ≢ [] }
         ensures turns { SameTurns self.old self.new }
+        ensures below { StayBelow self.old.sessions self.new.sessions }
         ensures same { self.new.settings ≡ self.old.settings }
     {
         forget(&mut self.closed, place);
@@ -585,6 +621,8 @@ impl<S: Stream> Table<S> {
         ensures winds { Winds S.tells self.old.sessions self.new.sessions }
         ensures turns { SameTurns self.old self.new }
         ensures none { vec_len self.old.spare < vec_capacity self.old.spare → self.new.spare.items ≡ [] → NoneGives self.old }
+        ensures below { StayBelow self.old.sessions self.new.sessions }
+        ensures stepped { AreStepped self.old.sessions → AreStepped self.new.sessions }
         ensures same { self.new.settings ≡ self.old.settings }
     {
         if let Some(place) = self.find_sent() {
@@ -639,7 +677,7 @@ impl<S: Stream> Table<S> {
 }
 
 impl<S: Stream> Reports for Table<S> {
-    ghost goes = { λ a b. Stays (TableTells S.tells a) (TableTells S.tells b) × Winds S.tells a.sessions b.sessions × MovesOn [] a b × (b.settings ≡ a.settings) };
+    ghost goes = { λ a b. Stays (TableTells S.tells a) (TableTells S.tells b) × Winds S.tells a.sessions b.sessions × MovesOn [] a b × (b.settings ≡ a.settings) × StayBelow a.sessions b.sessions × StayStepped S.tells a b };
 
     ghost notes = { λ token news a b. NotesToken S.tells token news a b };
 
@@ -659,9 +697,9 @@ impl<S: Stream> Reports for Table<S> {
         }
     }
 
-    ghost stays = { λ a. ((λ world told. told), winds_nowhere S.tells a.sessions, moves_still a, settings_same a.settings) };
+    ghost stays = { λ a. ((λ world told. told), winds_nowhere S.tells a.sessions, moves_still a, settings_same a.settings, (λ next below. below), (λ world told stepped. stepped)) };
 
-    ghost follows = { λ a b c first second. ((λ world told. second.0 world (first.0 world told)), winds_on S.tells a.sessions b.sessions c.sessions first.1 second.1, moves_on_further [] [] a b c first.2 second.2, settings_on a.settings b.settings c.settings first.3 second.3) };
+    ghost follows = { λ a b c first second. ((λ world told. second.0 world (first.0 world told)), winds_on S.tells a.sessions b.sessions c.sessions first.1 second.1, moves_on_further [] [] a b c first.2 second.2, settings_on a.settings b.settings c.settings first.3 second.3, (λ next below. second.4 next (first.4 next below)), (λ world told stepped. second.5 world (first.0 world told) (first.5 world told stepped))) };
 }
 
 // Takes a place out of a list.
@@ -694,7 +732,8 @@ fn open_ports<S: Stream>(
     width: usize,
     buffers: usize,
 ) -> Result<Vec<Port<S>>, OutOfMemory>
-    ensures { IfOk result (λ ports. PortsTell S.tells ports.items new_links) }
+    ensures new { IfOk result (λ ports. PortsTell S.tells ports.items new_links) }
+    ensures count { IfOk result (λ ports. length ports.items ≡ width) }
 {
     let room = (buffers / width.max(1)).max(LEAST_BUFFER);
     let mut ports = Vec::with_capacity(alloc, width)?;

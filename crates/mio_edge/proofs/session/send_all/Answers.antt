@@ -9,4 +9,4 @@ returns g c = all_moved (Flushes g.S.Stream.tells) c.loop-port.port-index c.args
 pub loop-port-preserved : goal.loop-port-preserved
 loop-port-preserved g c =
     moved_step (Flushes g.S.Stream.tells) c.loop-port.port-index c.args.ports.now c.loop-port.ports c.port-item.result c.send_unsent.new.self (omega arith) c.loop-port.invariant
-    (record { keeps = c.send_unsent.ensures.keeps; calm = c.send_unsent.ensures.calm; sent = c.send_unsent.ensures.sent })
+    (record { keeps = c.send_unsent.ensures.keeps; calm = c.send_unsent.ensures.calm; sent = c.send_unsent.ensures.sent; still = c.send_unsent.ensures.still })

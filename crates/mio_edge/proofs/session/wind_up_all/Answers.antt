@@ -21,7 +21,7 @@ pub loop-port-preserved : goal.loop-port-preserved
 loop-port-preserved g c = record {
   sends = moved_step (WindsUp g.S.Stream.tells) c.loop-port.port-index c.args.ports.now c.loop-port.ports c.port-item.result c.wind_up.new.self (omega arith) c.loop-port.invariant.sends (record { sends = c.wind_up.ensures.sends });
   gone = λ is.
-      let both = c.further_back-rest.ensures is in
+      let both = c.further_back-rest.ensures.gone is in
       settled_step c.loop-port.port-index c.loop-port.ports c.wind_up.new.self (omega arith) (c.loop-port.invariant.gone both.0) (c.wind_up.ensures.gone both.1);
   sent = flushed_step c.loop-port.port-index c.loop-port.ports c.wind_up.new.self (omega arith) c.loop-port.invariant.sent c.wind_up.ensures.sent;
   told = first_step (λ port. TellsItsEnd port) c.loop-port.port-index c.loop-port.ports c.wind_up.new.self (omega arith) c.loop-port.invariant.told c.wind_up.ensures.told;

@@ -2,11 +2,15 @@ use Rattle.std.proofs.Common.{subst, sym}
 use Rattle.mio_edge.specs.Tables.{TableTells}
 use Rattle.mio_edge.specs.Turns.{IsIdleAt}
 use Rattle.mio_edge.specs.Closing.{WindsBesideIfAny}
-use Rattle.mio_edge.proofs.Closing.{beside_winds, beside_stays}
+use Rattle.mio_edge.proofs.Closing.{beside_winds, beside_stays, others_on}
 use Rattle.mio_edge.specs.Lines.{same_turns_on}
 use Rattle.mio_edge.specs.Order.{SameTurns}
 use Rattle.std.proofs.Common.{refl, ◌∙◌}
 use Rattle.mio_edge.specs.Fixed.{fixed_kept}
+use Rattle.mio_edge.proofs.Numbered.{below_gone}
+use Rattle.mio_edge.specs.Numbered.{StayBelowBeside}
+use Rattle.mio_edge.proofs.Stepping.{stepped_further, free_stepped, opened_stepped}
+use Rattle.mio_edge.specs.Stepping.{OthersSteppedIfAny}
 use Rattle.mio_edge.proofs.listening.Listening.admit.Goals as goal
 
 pub returns-then-not-link-clause-kept : goal.returns-then-not-link-clause-kept
@@ -99,3 +103,60 @@ returns-clause-same g c =
     let d = c.link.new.self in
     fixed_kept d (record d { table = c.release-2.new.self }) refl refl (c.release-2.ensures.same ∙ c.announce.ensures.same)
     ∙ (c.link.ensures.same ∙ fixed_kept a (record a { table = c.begin.new.self }) refl refl c.begin.ensures.same)
+
+pub returns-in_default-clause-refused : goal.returns-in_default-clause-refused
+returns-in_default-clause-refused g c = λ refused. subst (λ o. StayBelowBeside c.args.number o c.args.self.now.table.sessions c.begin.new.self.sessions) c.in_default.is c.begin.ensures.below
+
+pub returns-in_default-clause-below : goal.returns-in_default-clause-below
+returns-in_default-clause-below g c = λ next less. subst (λ o. StayBelowBeside c.args.number o c.args.self.now.table.sessions c.begin.new.self.sessions) c.in_default.is c.begin.ensures.below next
+
+pub returns-then-not-link-clause-refused : goal.returns-then-not-link-clause-refused
+returns-then-not-link-clause-refused g c = λ refused.
+    let place = c.in-Some.place in
+    let b = c.begin.new.self.sessions in
+    let d = c.link.new.self.table.sessions in
+    let e = c.release.new.self.sessions in
+    below_gone place c.args.self.now.table.sessions b e c.in-Some.ensures.below.1 (others_on place b d e c.link.ensures.others c.release.ensures.others) c.release.ensures.free
+
+pub returns-then-not-link-clause-below : goal.returns-then-not-link-clause-below
+returns-then-not-link-clause-below g c = λ next less below. c.release.ensures.below next (c.link.ensures.below next (c.in-Some.ensures.below.0 next less below))
+
+pub returns-then-announce-clause-below : goal.returns-then-announce-clause-below
+returns-then-announce-clause-below g c = λ next less below. c.announce.ensures.below next (c.link.ensures.below next (c.in-Some.ensures.below.0 next less below))
+
+pub returns-clause-refused : goal.returns-clause-refused
+returns-clause-refused g c = λ refused.
+    let place = c.in-Some.place in
+    let b = c.begin.new.self.sessions in
+    let d = c.link.new.self.table.sessions in
+    let e = c.announce.new.self.sessions in
+    let f = c.release-2.new.self.sessions in
+    below_gone place c.args.self.now.table.sessions b f c.in-Some.ensures.below.1 (others_on place b e f (others_on place b d e c.link.ensures.others c.announce.ensures.others) c.release-2.ensures.others) c.release-2.ensures.free
+
+pub returns-clause-below : goal.returns-clause-below
+returns-clause-below g c = λ next less below. c.release-2.ensures.below next (c.announce.ensures.below next (c.link.ensures.below next (c.in-Some.ensures.below.0 next less below)))
+
+pub returns-in_default-clause-stepped : goal.returns-in_default-clause-stepped
+returns-in_default-clause-stepped g c = λ stepped. subst (λ o. OthersSteppedIfAny o c.begin.new.self.sessions) c.in_default.is (c.begin.ensures.stepped stepped)
+
+pub returns-then-not-link-clause-stepped : goal.returns-then-not-link-clause-stepped
+returns-then-not-link-clause-stepped g c = λ stepped.
+    let place = c.in-Some.place in
+    let b = c.begin.new.self.sessions in
+    let d = c.link.new.self.table.sessions in
+    free_stepped place d c.release.new.self.sessions (stepped_further place b d (c.in-Some.ensures.stepped stepped) c.link.ensures.others) c.release.ensures.others c.release.ensures.free
+
+pub returns-then-announce-clause-stepped : goal.returns-then-announce-clause-stepped
+returns-then-announce-clause-stepped g c = λ stepped.
+    let place = c.in-Some.place in
+    let b = c.begin.new.self.sessions in
+    let d = c.link.new.self.table.sessions in
+    opened_stepped place d c.announce.new.self.sessions (stepped_further place b d (c.in-Some.ensures.stepped stepped) c.link.ensures.others) c.announce.ensures.others (c.announce.ensures.stepped c.if-announce.true)
+
+pub returns-clause-stepped : goal.returns-clause-stepped
+returns-clause-stepped g c = λ stepped.
+    let place = c.in-Some.place in
+    let b = c.begin.new.self.sessions in
+    let d = c.link.new.self.table.sessions in
+    let e = c.announce.new.self.sessions in
+    free_stepped place e c.release-2.new.self.sessions (stepped_further place d e (stepped_further place b d (c.in-Some.ensures.stepped stepped) c.link.ensures.others) c.announce.ensures.others) c.release-2.ensures.others c.release-2.ensures.free

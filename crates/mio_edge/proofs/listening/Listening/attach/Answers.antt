@@ -11,3 +11,6 @@ returns-then-watch-clause-keeps g c = λ shut. (c.attach.ensures.idle shut, c.at
 
 pub returns-then-watch-clause-same : goal.returns-then-watch-clause-same
 returns-then-watch-clause-same g c = fixed_kept c.args.self.now (record c.args.self.now { table = c.attach.new.self }) refl refl c.attach.ensures.same
+
+pub returns-then-watch-clause-below : goal.returns-then-watch-clause-below
+returns-then-watch-clause-below g c = c.attach.ensures.below

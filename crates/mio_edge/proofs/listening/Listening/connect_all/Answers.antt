@@ -9,6 +9,7 @@ loop-at-preserved g c =
       prepared = λ k telling ready. c.connect.ensures.prepared k telling (c.loop-at.invariant.prepared k telling ready);
       keeps = λ shut. let first = c.loop-at.invariant.keeps shut in let second = c.connect.ensures.keeps first.0 in (second.0, λ world told. second.1 world (first.1 world told));
       turns = same_turns_on c.args.self.now.table c.loop-at.self.table c.connect.new.self.table c.loop-at.invariant.turns c.connect.ensures.turns;
+      below = λ next below. c.connect.ensures.below next (c.loop-at.invariant.below next below);
       others = others_on c.args.place c.args.self.now.table.sessions c.loop-at.self.table.sessions c.connect.new.self.table.sessions c.loop-at.invariant.others c.connect.ensures.others;
       same = c.connect.ensures.same ∙ c.loop-at.invariant.same;
       connecting = c.connect.ensures.connecting ∙ c.loop-at.invariant.connecting;

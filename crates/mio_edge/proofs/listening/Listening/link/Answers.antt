@@ -39,3 +39,9 @@ returns-then-eq-clause-same g c = c.attach.ensures.same ∙ fixed_kept c.args.se
 
 pub returns-clause-same : goal.returns-clause-same
 returns-clause-same g c = c.connect_all.ensures.same ∙ c.attach-2.ensures.same
+
+pub returns-then-eq-clause-below : goal.returns-then-eq-clause-below
+returns-then-eq-clause-below g c = λ next below. c.attach.ensures.below next (c.defer.ensures.below next below)
+
+pub returns-clause-below : goal.returns-clause-below
+returns-clause-below g c = λ next below. c.connect_all.ensures.below next (c.attach-2.ensures.below next below)

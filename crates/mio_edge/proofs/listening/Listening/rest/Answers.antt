@@ -22,3 +22,15 @@ returns-then-has_ready-clause-same g c = fixed_kept c.args.self.now (record c.ar
 
 pub returns-clause-same : goal.returns-clause-same
 returns-clause-same g c = c.wait.ensures.same ∙ fixed_kept c.args.self.now (record c.args.self.now { table = c.send.new.self }) refl refl c.send.ensures.same
+
+pub returns-then-has_ready-clause-below : goal.returns-then-has_ready-clause-below
+returns-then-has_ready-clause-below g c = c.send.ensures.below
+
+pub returns-clause-below : goal.returns-clause-below
+returns-clause-below g c = λ next below. c.wait.ensures.below next (c.send.ensures.below next below)
+
+pub returns-then-has_ready-clause-stepped : goal.returns-then-has_ready-clause-stepped
+returns-then-has_ready-clause-stepped g c = c.send.ensures.stepped
+
+pub returns-clause-stepped : goal.returns-clause-stepped
+returns-clause-stepped g c = λ world told stepped. c.wait.ensures.stepped world (c.send.ensures.keeps world told) (c.send.ensures.stepped world told stepped)

@@ -5,6 +5,8 @@ use Rattle.mio_edge.specs.Order.{MovesOn}
 use Rattle.mio_edge.specs.Lines.{moves_on_further, moves_on_recalled}
 use Rattle.std.proofs.Common.{refl}
 use Rattle.mio_edge.specs.Fixed.{fixed_kept}
+use Rattle.mio_edge.specs.Numbered.{StayBelow}
+use Rattle.mio_edge.specs.Stepping.{AreStepped}
 use Rattle.mio_edge.proofs.listening.Listening.wait.Goals as goal
 
 pub returns-clause-keeps : goal.returns-clause-keeps
@@ -28,3 +30,9 @@ returns-clause-same g c =
     let d = c.wake.new.self in
     fixed_kept d (record d { table = c.recall.new.self }) refl refl c.recall.ensures.same
     ∙ (c.wake.ensures.same ∙ fixed_kept a (record a { table = c.wait-waited.new.reports }) refl refl c.wait-waited.ensures.3)
+
+pub returns-clause-below : goal.returns-clause-below
+returns-clause-below g c = subst (λ slab. StayBelow c.args.self.now.table.sessions slab) (sym (c.recall.ensures.sessions ∙ ap (λ table. table.sessions) c.wake.ensures.table)) c.wait-waited.ensures.4
+
+pub returns-clause-stepped : goal.returns-clause-stepped
+returns-clause-stepped g c = λ world told stepped. subst (λ slab. AreStepped slab) (sym (c.recall.ensures.sessions ∙ ap (λ table. table.sessions) c.wake.ensures.table)) (c.wait-waited.ensures.5 world told stepped)

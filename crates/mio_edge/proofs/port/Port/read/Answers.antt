@@ -2,15 +2,15 @@ use Rattle.std.proofs.Common.{refl}
 use Rattle.gate_hub.specs.Hubs.{LinkReads}
 use Rattle.gate_hub.specs.declared.hub.LinkGot.TheVariants as got
 use Rattle.mio_edge.specs.Moving.{PortTells}
-use Rattle.mio_edge.proofs.Ports.{then_moves, hands_out, reads_nothing, reads_found}
+use Rattle.mio_edge.proofs.Ports.{then_moves, hands_out, only_incoming, reads_nothing, reads_found}
 use Rattle.mio_edge.proofs.port.Port.read.Goals as goal
 
 pub returns-in-Bytes-clause-leads : goal.returns-in-Bytes-clause-leads
 returns-in-Bytes-clause-leads g c =
     let t = g.S.Stream.tells in
     let port = c.receive.new.self in
-    then_moves (PortTells t c.args.self.now) (PortTells t port) (PortTells t (record port { incoming = c.hand_out-in-Bytes.new.held })) (LinkReads c.hand_out-in-Bytes.new.into (got.Bytes c.hand_out-in-Bytes.result)) c.receive.ensures.keeps
-    (hands_out t port (record port { incoming = c.hand_out-in-Bytes.new.held }) c.hand_out-in-Bytes.new.into c.hand_out-in-Bytes.result c.in-Bytes.ensures.finds c.hand_out-in-Bytes.ensures.bytes c.hand_out-in-Bytes.ensures.room refl)
+    then_moves (PortTells t c.args.self.now) (PortTells t port) _ (LinkReads c.hand_out-in-Bytes.new.into (got.Bytes c.hand_out-in-Bytes.result)) c.receive.ensures.keeps
+    (hands_out t port _ c.hand_out-in-Bytes.new.into c.hand_out-in-Bytes.result c.in-Bytes.ensures.finds c.hand_out-in-Bytes.ensures.bytes (only_incoming port _ refl refl refl refl))
 
 pub returns-in-Failed-clause-leads : goal.returns-in-Failed-clause-leads
 returns-in-Failed-clause-leads g c =

@@ -4,6 +4,8 @@ use Rattle.mio_edge.specs.Moving.{IsCalm}
 use Rattle.mio_edge.specs.Sessions.{Calms}
 use Rattle.mio_edge.proofs.Ports.{hears_told, calm_news}
 use Rattle.mio_edge.proofs.Sessions.{at_port_stays, at_one, calm_self, session_stays, here, past}
+use Rattle.mio_edge.proofs.Stepping.{each_moved, noted_stepped}
+use Rattle.mio_edge.specs.Stepping.{HasStepped}
 use Rattle.mio_edge.proofs.session.Session.report.Goals as goal
 
 pub returns-in-Some-clause-keeps : goal.returns-in-Some-clause-keeps
@@ -35,3 +37,11 @@ returns-in-None-clause-news g c = λ x is.
     let long : vec_len c.args.self.now.ports ≡ length c.args.self.now.ports.items = omega (arith, c.args.self.now.ports.ok.0) in
     let none = past c.args.self.now.ports.items _ c.args.port long c.in-None.ensures.variant.1 in
     absurd (cc)
+
+pub returns-in-Some-clause-stepped : goal.returns-in-Some-clause-stepped
+returns-in-Some-clause-stepped g c = λ none.
+    let long : vec_len c.args.self.now.ports ≡ length c.args.self.now.ports.items = omega (arith, c.args.self.now.ports.ok.0) in
+    let is = here c.args.self.now.ports.items _ c.args.port c.in-Some.port.now long (c.in-Some.ensures.variant.0 refl) c.in-Some.ensures.value in
+    each_moved (λ port. HasStepped port) (λ x y. HasStepped x → HasStepped y) (λ x y moved stepped. moved stepped) c.args.self.now.ports.items _
+    (at_one (λ x y. HasStepped x → HasStepped y) (λ x stepped. stepped) c.args.self.now.ports.items c.args.port c.in-Some.port.now c.report.new.self is
+    (λ stepped. subst (λ port. HasStepped port) (sym c.report.ensures.notes) (noted_stepped c.args.news c.in-Some.port.now (sym c.report.ensures.news ∙ none) stepped)))

@@ -1,4 +1,4 @@
-use Rattle.std.proofs.Common.{[], None, Some, refl, sym, ap, subst}
+use Rattle.std.proofs.Common.{[], None, refl, sym, ap, subst}
 use Rattle.mio_edge.specs.Closing.{Winds, winds_nowhere}
 use Rattle.mio_edge.specs.Lines.{moves_nowhere}
 use Rattle.mio_edge.proofs.Turning.{sockets_turned}
@@ -11,7 +11,7 @@ returns-in-Some-clause-winds g c =
     let t = g.W.Stream.Stream.tells in
     let l = c.in-Some.listening in
     let after = c.stop_accepting.new.self in
-    sockets_moved t c.args.self.now (record c.args.self.now { network = c.stop_accepting.new.network; listening = Some after }) l after c.in-Some.is refl
+    sockets_moved t c.args.self.now _ l after c.in-Some.is refl
     (subst (λ table. Winds t l.table.sessions table.sessions) (sym c.stop_accepting.ensures.table) (winds_nowhere t l.table.sessions))
 
 pub returns-in-Some-clause-turn : goal.returns-in-Some-clause-turn
@@ -19,10 +19,10 @@ returns-in-Some-clause-turn g c =
     let l = c.in-Some.listening in
     let after = c.stop_accepting.new.self in
     let same = c.stop_accepting.ensures.table in
-    sockets_turned g.W.Network.is_telling g.W.Stream.Stream.tells None c.args.self.now (record c.args.self.now { network = c.stop_accepting.new.network; listening = Some after }) l after c.in-Some.is refl
+    sockets_turned g.W.Network.is_telling g.W.Stream.Stream.tells None c.args.self.now _ l after c.in-Some.is refl
     (λ world told. ([], moves_nowhere l.table after.table (ap (λ table. table.ready) same) (ap (λ table. table.behind) same) (ap (λ table. table.entries) same)))
 
 pub returns-in-Some-clause-same : goal.returns-in-Some-clause-same
 returns-in-Some-clause-same g c =
     let l = c.stop_accepting.new.self in
-    fixed_there c.args.self.now (record c.args.self.now { network = c.stop_accepting.new.network; listening = Some l }) c.in-Some.listening l c.in-Some.is refl c.stop_accepting.ensures.same
+    fixed_there c.args.self.now _ c.in-Some.listening l c.in-Some.is refl c.stop_accepting.ensures.same

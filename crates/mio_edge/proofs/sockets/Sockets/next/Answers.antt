@@ -14,7 +14,7 @@ returns-in-Some-clause-over g c = λ is fresh world told. c.advance.ensures.over
 pub loop-init : goal.loop-init
 loop-init g c =
     let a = c.args.self.now in record {
-      numbers = passes_same g.W.Network.is_shared a.announced a.announced refl;
+      numbers = passes_same g.W.Network.is_shared a.serving.announced a.serving.announced refl;
       accept = refl;
       later = omega arith;
       turn = sockets_turn_same g.W.Network.is_telling g.W.Stream.Stream.tells a a refl;
@@ -29,7 +29,7 @@ loop-preserved g c =
     let b = c.loop.self in
     let d = c.advance.new.self in
     let so_far = c.loop.invariant in record {
-      numbers = passes_on g.W.Network.is_shared a.announced b.announced d.announced so_far.numbers (subst (λ o. NumbersIfAny g.W.Network.is_shared o b.announced d.announced) c.in_default.is c.advance.ensures.numbers);
+      numbers = passes_on g.W.Network.is_shared a.serving.announced b.serving.announced d.serving.announced so_far.numbers (subst (λ o. NumbersIfAny g.W.Network.is_shared o b.serving.announced d.serving.announced) c.in_default.is c.advance.ensures.numbers);
       accept = c.advance.ensures.accept ∙ so_far.accept;
       later = omega (arith, c.advance.ensures.later, so_far.later);
       turn = sockets_turn_on g.W.Network.is_telling g.W.Stream.Stream.tells None a b d so_far.keeps so_far.turn (subst (λ o. EventTurn g.W.Network.is_telling g.W.Stream.Stream.tells o b d) c.in_default.is c.advance.ensures.turn);

@@ -10,7 +10,7 @@ use Rattle.mio_edge.proofs.sockets.Sockets.next.Given as goal
 -- so far no session was opened, the settings are the same, no fault is forgotten, the closed ones have gone on, none that is open had its turn, and what was told is told still
 abbrev pub invariant-loop : goal.invariant-loop
 invariant-loop g l = record {
-  numbers : Passes g.W.Network.is_shared l.fn.self.announced l.self.announced;
+  numbers : Passes g.W.Network.is_shared l.fn.self.serving.announced l.self.serving.announced;
   accept : l.self.accept ≡ l.fn.self.accept;
   later : l.fn.self.faults ≤ l.self.faults;
   turn : SocketsTurnIfTold g.W.Network.is_telling g.W.Stream.Stream.tells None l.fn.self l.self;

@@ -1,20 +1,26 @@
-use Rattle.std.proofs.Common.{Some, refl}
+use Rattle.std.proofs.Common.{refl}
 use Rattle.mio_edge.proofs.Worlds.{listening_names}
 use Rattle.mio_edge.proofs.Winding.{sockets_moved}
 use Rattle.mio_edge.proofs.Turning.{sockets_turned}
 use Rattle.mio_edge.specs.Fixed.{fixed_there, fixed_kept}
+use Rattle.mio_edge.proofs.Numbered.{all_stay_below}
 use Rattle.mio_edge.proofs.sockets.Sockets.next_named.Goals as goal
 
 pub returns-in-Some-clause-names : goal.returns-in-Some-clause-names
-returns-in-Some-clause-names g c = listening_names g.W.Network.is_telling g.W.Stream.Stream.tells c.args.self.now (record c.args.self.now { listening = Some (record c.in-Some.listening { table = c.next_ready.new.self }) }) c.in-Some.listening (record c.in-Some.listening { table = c.next_ready.new.self }) c.next_ready.result c.in-Some.is refl refl c.next_ready.ensures.names refl refl
+returns-in-Some-clause-names g c = listening_names g.W.Network.is_telling g.W.Stream.Stream.tells c.args.self.now _ c.in-Some.listening (record c.in-Some.listening { table = c.next_ready.new.self }) c.next_ready.result c.in-Some.is refl refl c.next_ready.ensures.names c.next_ready.ensures.stepped refl refl
 
 pub returns-in-Some-clause-winds : goal.returns-in-Some-clause-winds
-returns-in-Some-clause-winds g c = sockets_moved g.W.Stream.Stream.tells c.args.self.now (record c.args.self.now { listening = Some (record c.in-Some.listening { table = c.next_ready.new.self }) }) c.in-Some.listening (record c.in-Some.listening { table = c.next_ready.new.self }) c.in-Some.is refl c.next_ready.ensures.winds
+returns-in-Some-clause-winds g c = sockets_moved g.W.Stream.Stream.tells c.args.self.now _ c.in-Some.listening (record c.in-Some.listening { table = c.next_ready.new.self }) c.in-Some.is refl c.next_ready.ensures.winds
 
 pub returns-in-Some-clause-turn : goal.returns-in-Some-clause-turn
-returns-in-Some-clause-turn g c = sockets_turned g.W.Network.is_telling g.W.Stream.Stream.tells c.next_ready.result c.args.self.now (record c.args.self.now { listening = Some (record c.in-Some.listening { table = c.next_ready.new.self }) }) c.in-Some.listening (record c.in-Some.listening { table = c.next_ready.new.self }) c.in-Some.is refl c.next_ready.ensures.turn
+returns-in-Some-clause-turn g c = sockets_turned g.W.Network.is_telling g.W.Stream.Stream.tells c.next_ready.result c.args.self.now _ c.in-Some.listening (record c.in-Some.listening { table = c.next_ready.new.self }) c.in-Some.is refl c.next_ready.ensures.turn
 
 pub returns-in-Some-clause-same : goal.returns-in-Some-clause-same
 returns-in-Some-clause-same g c =
     let l = record c.in-Some.listening { table = c.next_ready.new.self } in
-    fixed_there c.args.self.now (record c.args.self.now { listening = Some l }) c.in-Some.listening l c.in-Some.is refl (fixed_kept c.in-Some.listening l refl refl c.next_ready.ensures.same)
+    fixed_there c.args.self.now _ c.in-Some.listening l c.in-Some.is refl (fixed_kept c.in-Some.listening l refl refl c.next_ready.ensures.same)
+
+pub invariant_of-self : goal.invariant_of-self
+invariant_of-self g c =
+    let serving = c.args.self.now.serving in
+    record { numbered = all_stay_below serving.announced serving.listening c.in-Some.listening (record c.in-Some.listening { table = c.next_ready.new.self }) c.in-Some.is serving.numbered c.next_ready.ensures.below }

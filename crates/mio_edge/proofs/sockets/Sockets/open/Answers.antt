@@ -1,5 +1,12 @@
-use Rattle.std.proofs.Common.{true≢false, refl, sym, ◌∙◌, subst}
+use Rattle.std.proofs.Common.{true≢false, refl, sym, ◌∙◌, subst, arith, rules, ap, length, ◌≡◌, ◌++◌, Ok}
 use Rattle.mio_edge.specs.Tables.{TableTells, empty_world}
+use Rattle.mio_edge.proofs.Numbered.{all_below}
+use Rattle.mio_edge.specs.Numbered.{AreBelow}
+use Rattle.gate_hub.specs.declared.hub.Began.TheVariants as began
+use Rattle.std.specs.Vec.{vec_len}
+use Rattle.mio_edge.specs.Targets.{LeadTo}
+use Rattle.mio_edge.proofs.Leading.{leads_many}
+use Rattle.mio_edge.specs.Stepping.{AreStepped}
 use Rattle.mio_edge.proofs.sockets.Sockets.open.Goals as goal
 
 pub returns-clause-begins : goal.returns-clause-begins
@@ -10,6 +17,31 @@ returns-clause-begins g c = λ done world told. (
     at_once = told.at_once;
     sessions = (c.new.ensures.connecting ∙ told.at_once, subst (λ table. TableTells g.W.Stream.Stream.tells table empty_world) (sym c.new.ensures.table) c.in_ok-table.ensures.empty);
     below = λ k some. absurd (true≢false (sym some));
+    stepped = subst (λ table. AreStepped table.sessions) (sym c.new.ensures.table) (λ place session is. absurd (omega (arith, c.in_ok-table.ensures.below place session is)));
   },
   refl,
 )
+
+pub invariant_of-self : goal.invariant_of-self
+invariant_of-self g c =
+    let next = c.args.self.now.serving.announced in
+    record { numbered = all_below next c.new.result (subst (λ table. AreBelow next table.sessions) (sym c.new.ensures.table) (λ place session is. absurd (omega (arith, c.in_ok-table.ensures.below place session is)))) }
+
+pub returns-clause-leads : goal.returns-clause-leads
+returns-clause-leads g c = λ done.
+    let is : c.in_ok-found.found ≡ began.Done = search rules in
+    let adds = c.in_ok-found.ensures.finds (ap (λ found. Ok found) is) in
+    let all : c.find_targets.new.targets.items ≡ adds.0 = adds.1 ∙ ap (λ xs. xs ++ adds.0) c.in_ok-targets.ensures.items in
+    let lead = subst (λ xs. LeadTo g.W.Network.names c.args.upstreams.now xs) (sym all) adds.2 in
+    let many = leads_many g.W.Network.names c.args.upstreams.now c.find_targets.new.targets.items lead in
+    let long : vec_len c.find_targets.new.targets ≡ length c.find_targets.new.targets.items = omega (arith, c.find_targets.new.targets.ok.0) in
+    let settings = ap (λ table. table.settings.width) c.new.ensures.table ∙ c.in_ok-table.ensures.width in
+    record {
+      targets = subst (λ targets. LeadTo g.W.Network.names c.args.upstreams.now targets.items) (sym c.new.ensures.targets) lead;
+      width = λ few. omega (arith, few, many, long, settings, c.saturating_add-width.ensures, c.len.ensures);
+    }
+
+pub returns-clause-listens : goal.returns-clause-listens
+returns-clause-listens g c = λ done.
+    let is : c.without_place-began.result ≡ began.Done = search rules in
+    (c.in-Some.address, c.in-Some.ensures.address, c.listen.ensures (c.without_place-began.ensures.done is))

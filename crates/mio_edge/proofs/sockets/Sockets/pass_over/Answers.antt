@@ -7,4 +7,5 @@ returns-clause-keeps g c = λ world told. record {
   at_once = told.at_once;
   sessions = told.sessions;
   below = λ k some. omega (arith, told.below k some);
+  stepped = told.stepped;
 }

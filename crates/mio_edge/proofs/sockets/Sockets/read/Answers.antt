@@ -1,18 +1,31 @@
-use Rattle.std.proofs.Common.{Some, refl}
+use Rattle.std.proofs.Common.{refl}
 use Rattle.mio_edge.proofs.Winding.{sockets_told}
 use Rattle.mio_edge.proofs.Turning.{sockets_joined}
 use Rattle.mio_edge.specs.Fixed.{fixed_there, fixed_kept}
+use Rattle.mio_edge.proofs.Numbered.{all_stay_below}
+use Rattle.gate_hub.specs.Hubs.{LinkReads}
+use Rattle.mio_edge.proofs.Worlds.{listening_calls}
 use Rattle.mio_edge.proofs.sockets.Sockets.read.Goals as goal
 
 pub returns-in-Some-clause-winds : goal.returns-in-Some-clause-winds
 returns-in-Some-clause-winds g c =
     let l = record c.in-Some.listening { table = c.read.new.self } in
-    sockets_told g.W.Network.is_telling g.W.Stream.Stream.tells c.args.self.now (record c.args.self.now { listening = Some l }) c.in-Some.listening l c.in-Some.is refl c.read.ensures.winds
+    sockets_told g.W.Network.is_telling g.W.Stream.Stream.tells c.args.self.now _ c.in-Some.listening l c.in-Some.is refl c.read.ensures.winds
 
 pub returns-in-Some-clause-joins : goal.returns-in-Some-clause-joins
-returns-in-Some-clause-joins g c = sockets_joined c.args.self.now (record c.args.self.now { listening = Some (record c.in-Some.listening { table = c.read.new.self }) }) c.in-Some.listening (record c.in-Some.listening { table = c.read.new.self }) c.in-Some.is refl c.read.ensures.joins
+returns-in-Some-clause-joins g c = sockets_joined c.args.self.now _ c.in-Some.listening (record c.in-Some.listening { table = c.read.new.self }) c.in-Some.is refl c.read.ensures.joins
 
 pub returns-in-Some-clause-same : goal.returns-in-Some-clause-same
 returns-in-Some-clause-same g c =
     let l = record c.in-Some.listening { table = c.read.new.self } in
-    fixed_there c.args.self.now (record c.args.self.now { listening = Some l }) c.in-Some.listening l c.in-Some.is refl (fixed_kept c.in-Some.listening l refl refl c.read.ensures.same)
+    fixed_there c.args.self.now _ c.in-Some.listening l c.in-Some.is refl (fixed_kept c.in-Some.listening l refl refl c.read.ensures.same)
+
+pub invariant_of-self : goal.invariant_of-self
+invariant_of-self g c =
+    let serving = c.args.self.now.serving in
+    record { numbered = all_stay_below serving.announced serving.listening c.in-Some.listening (record c.in-Some.listening { table = c.read.new.self }) c.in-Some.is serving.numbered c.read.ensures.below }
+
+pub returns-in-Some-clause-leads : goal.returns-in-Some-clause-leads
+returns-in-Some-clause-leads g c =
+    let l = record c.in-Some.listening { table = c.read.new.self } in
+    listening_calls g.W.Network.is_telling g.W.Stream.Stream.tells c.args.self.now _ c.in-Some.listening l c.args.k c.args.port (LinkReads c.read.new.into c.read.result) c.in-Some.is refl (λ at_once. (refl, c.read.ensures.leads, c.read.ensures.stepped)) refl refl

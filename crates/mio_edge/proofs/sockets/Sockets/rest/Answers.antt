@@ -1,21 +1,27 @@
-use Rattle.std.proofs.Common.{Some, refl}
+use Rattle.std.proofs.Common.{refl}
 use Rattle.mio_edge.proofs.Worlds.{listening_moved}
 use Rattle.mio_edge.proofs.Winding.{sockets_moved}
 use Rattle.std.proofs.Common.{None}
 use Rattle.mio_edge.proofs.Turning.{sockets_turned}
 use Rattle.mio_edge.specs.Fixed.{fixed_there}
+use Rattle.mio_edge.proofs.Numbered.{all_stay_below}
 use Rattle.mio_edge.proofs.sockets.Sockets.rest.Goals as goal
 
 pub returns-in-Some-clause-keeps : goal.returns-in-Some-clause-keeps
-returns-in-Some-clause-keeps g c = listening_moved g.W.Network.is_telling g.W.Stream.Stream.tells c.args.self.now (record c.args.self.now { network = c.rest.new.network; listening = Some c.rest.new.self }) c.in-Some.listening c.rest.new.self c.in-Some.is refl c.rest.ensures.connecting c.rest.ensures.keeps refl refl
+returns-in-Some-clause-keeps g c = listening_moved g.W.Network.is_telling g.W.Stream.Stream.tells c.args.self.now _ c.in-Some.listening c.rest.new.self c.in-Some.is refl c.rest.ensures.connecting c.rest.ensures.keeps c.rest.ensures.stepped refl refl
 
 pub returns-in-Some-clause-winds : goal.returns-in-Some-clause-winds
-returns-in-Some-clause-winds g c = sockets_moved g.W.Stream.Stream.tells c.args.self.now (record c.args.self.now { network = c.rest.new.network; listening = Some c.rest.new.self }) c.in-Some.listening (c.rest.new.self) c.in-Some.is refl c.rest.ensures.winds
+returns-in-Some-clause-winds g c = sockets_moved g.W.Stream.Stream.tells c.args.self.now _ c.in-Some.listening (c.rest.new.self) c.in-Some.is refl c.rest.ensures.winds
 
 pub returns-in-Some-clause-turn : goal.returns-in-Some-clause-turn
-returns-in-Some-clause-turn g c = sockets_turned g.W.Network.is_telling g.W.Stream.Stream.tells None c.args.self.now (record c.args.self.now { network = c.rest.new.network; listening = Some c.rest.new.self }) c.in-Some.listening (c.rest.new.self) c.in-Some.is refl c.rest.ensures.turn
+returns-in-Some-clause-turn g c = sockets_turned g.W.Network.is_telling g.W.Stream.Stream.tells None c.args.self.now _ c.in-Some.listening (c.rest.new.self) c.in-Some.is refl c.rest.ensures.turn
 
 pub returns-in-Some-clause-same : goal.returns-in-Some-clause-same
 returns-in-Some-clause-same g c =
     let l = c.rest.new.self in
-    fixed_there c.args.self.now (record c.args.self.now { network = c.rest.new.network; listening = Some l }) c.in-Some.listening l c.in-Some.is refl c.rest.ensures.same
+    fixed_there c.args.self.now _ c.in-Some.listening l c.in-Some.is refl c.rest.ensures.same
+
+pub invariant_of-self : goal.invariant_of-self
+invariant_of-self g c =
+    let serving = c.args.self.now.serving in
+    record { numbered = all_stay_below serving.announced serving.listening c.in-Some.listening c.rest.new.self c.in-Some.is serving.numbered c.rest.ensures.below }

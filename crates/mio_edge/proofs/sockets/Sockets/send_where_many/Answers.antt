@@ -1,21 +1,27 @@
-use Rattle.std.proofs.Common.{Some, refl}
+use Rattle.std.proofs.Common.{refl}
 use Rattle.mio_edge.proofs.Worlds.{listening_moved}
 use Rattle.mio_edge.proofs.Winding.{sockets_moved}
 use Rattle.std.proofs.Common.{[], None}
 use Rattle.mio_edge.proofs.Turning.{sockets_turned}
 use Rattle.mio_edge.specs.Fixed.{fixed_there, fixed_kept}
+use Rattle.mio_edge.proofs.Numbered.{all_stay_below}
 use Rattle.mio_edge.proofs.sockets.Sockets.send_where_many.Goals as goal
 
 pub returns-in-Some-clause-keeps : goal.returns-in-Some-clause-keeps
-returns-in-Some-clause-keeps g c = listening_moved g.W.Network.is_telling g.W.Stream.Stream.tells c.args.self.now (record c.args.self.now { listening = Some (record c.in-Some.listening { table = c.send_where_many.new.self }) }) c.in-Some.listening (record c.in-Some.listening { table = c.send_where_many.new.self }) c.in-Some.is refl refl c.send_where_many.ensures.keeps refl refl
+returns-in-Some-clause-keeps g c = listening_moved g.W.Network.is_telling g.W.Stream.Stream.tells c.args.self.now _ c.in-Some.listening (record c.in-Some.listening { table = c.send_where_many.new.self }) c.in-Some.is refl refl c.send_where_many.ensures.keeps c.send_where_many.ensures.stepped refl refl
 
 pub returns-in-Some-clause-winds : goal.returns-in-Some-clause-winds
-returns-in-Some-clause-winds g c = sockets_moved g.W.Stream.Stream.tells c.args.self.now (record c.args.self.now { listening = Some (record c.in-Some.listening { table = c.send_where_many.new.self }) }) c.in-Some.listening (record c.in-Some.listening { table = c.send_where_many.new.self }) c.in-Some.is refl c.send_where_many.ensures.winds
+returns-in-Some-clause-winds g c = sockets_moved g.W.Stream.Stream.tells c.args.self.now _ c.in-Some.listening (record c.in-Some.listening { table = c.send_where_many.new.self }) c.in-Some.is refl c.send_where_many.ensures.winds
 
 pub returns-in-Some-clause-turn : goal.returns-in-Some-clause-turn
-returns-in-Some-clause-turn g c = sockets_turned g.W.Network.is_telling g.W.Stream.Stream.tells None c.args.self.now (record c.args.self.now { listening = Some (record c.in-Some.listening { table = c.send_where_many.new.self }) }) c.in-Some.listening (record c.in-Some.listening { table = c.send_where_many.new.self }) c.in-Some.is refl (λ world told. ([], c.send_where_many.ensures.turn))
+returns-in-Some-clause-turn g c = sockets_turned g.W.Network.is_telling g.W.Stream.Stream.tells None c.args.self.now _ c.in-Some.listening (record c.in-Some.listening { table = c.send_where_many.new.self }) c.in-Some.is refl (λ world told. ([], c.send_where_many.ensures.turn))
 
 pub returns-in-Some-clause-same : goal.returns-in-Some-clause-same
 returns-in-Some-clause-same g c =
     let l = record c.in-Some.listening { table = c.send_where_many.new.self } in
-    fixed_there c.args.self.now (record c.args.self.now { listening = Some l }) c.in-Some.listening l c.in-Some.is refl (fixed_kept c.in-Some.listening l refl refl c.send_where_many.ensures.same)
+    fixed_there c.args.self.now _ c.in-Some.listening l c.in-Some.is refl (fixed_kept c.in-Some.listening l refl refl c.send_where_many.ensures.same)
+
+pub invariant_of-self : goal.invariant_of-self
+invariant_of-self g c =
+    let serving = c.args.self.now.serving in
+    record { numbered = all_stay_below serving.announced serving.listening c.in-Some.listening (record c.in-Some.listening { table = c.send_where_many.new.self }) c.in-Some.is serving.numbered c.send_where_many.ensures.below }

@@ -1,7 +1,9 @@
-use Rattle.std.proofs.Common.{length, true, sym, refl}
+use Rattle.std.proofs.Common.{length, true, sym, refl, ap}
 use Rattle.mio_edge.proofs.Tables.{announces}
 use Rattle.mio_edge.proofs.Turns.{queues_still}
 use Rattle.mio_edge.proofs.Closing.{others_put}
+use Rattle.mio_edge.proofs.Numbered.{below_put}
+use Rattle.mio_edge.proofs.Places.{put_there}
 use Rattle.mio_edge.proofs.table.Table.announce.Goals as goal
 
 pub returns-clause-opens : goal.returns-clause-opens
@@ -13,3 +15,9 @@ returns-clause-opens g c = λ is ready world told above.
 
 pub returns-clause-others : goal.returns-clause-others
 returns-clause-others g c = others_put c.args.self.now.sessions c.args.place c.in-Some.session.now (record c.in-Some.session.now { is_open = true }) (sym c.in-Some.ensures.value)
+
+pub returns-clause-below : goal.returns-clause-below
+returns-clause-below g c = below_put c.args.self.now.sessions c.args.place c.in-Some.session.now (record c.in-Some.session.now { is_open = true }) (sym c.in-Some.ensures.value) refl
+
+pub returns-clause-stepped : goal.returns-clause-stepped
+returns-clause-stepped g c = λ is session at. ap (λ x. x.is_open) (sym (put_there c.args.self.now.sessions c.args.place c.in-Some.session.now (record c.in-Some.session.now { is_open = true }) session (sym c.in-Some.ensures.value) at))

@@ -4,6 +4,7 @@ use Rattle.mio_edge.proofs.Tables.{idle_closed, attached, still_idle}
 use Rattle.mio_edge.proofs.Closing.{others_put}
 use Rattle.slab.specs.Slab.{get}
 use Rattle.mio_edge.proofs.Places.{no_none, port_at, connects_at, connects_none}
+use Rattle.mio_edge.proofs.Numbered.{below_put}
 use Rattle.mio_edge.proofs.table.Table.attach.Goals as goal
 
 pub returns-in-Some-clause-keeps : goal.returns-in-Some-clause-keeps
@@ -33,3 +34,6 @@ returns-in-Some-clause-connects g c = connects_at c.args.stream c.args.sending c
 
 pub returns-in-None-clause-connects : goal.returns-in-None-clause-connects
 returns-in-None-clause-connects g c = connects_none c.args.stream c.args.sending c.args.self.now.sessions c.args.place c.args.port (sym c.in-None.ensures.value)
+
+pub returns-in-Some-clause-below : goal.returns-in-Some-clause-below
+returns-in-Some-clause-below g c = below_put c.args.self.now.sessions c.args.place c.in-Some.session.now c.attach.new.self (sym c.in-Some.ensures.value) c.attach.ensures.still.number

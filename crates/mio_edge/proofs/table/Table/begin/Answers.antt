@@ -7,6 +7,9 @@ use Rattle.mio_edge.proofs.Standing.{fewer_spare}
 use Rattle.mio_edge.proofs.Tables.{as_many, fewer, spare_popped}
 use Rattle.mio_edge.proofs.Closing.{put_beside}
 use Rattle.mio_edge.specs.Lines.{same_turns_on}
+use Rattle.mio_edge.proofs.Numbered.{then_beside}
+use Rattle.mio_edge.specs.Numbered.{StayBelowBeside}
+use Rattle.mio_edge.proofs.Stepping.{puts_stepped}
 use Rattle.mio_edge.proofs.table.Table.begin.Goals as goal
 
 pub returns-in_default-clause-keeps : goal.returns-in_default-clause-keeps
@@ -63,3 +66,18 @@ returns-clause-none g c = λ world told none room.
     let made = c.make_place.ensures.keeps world told in
     let long : length s.spare.items ≡ length c.pop.new.self.items + 1 = ap length c.in-Some.ensures.items ∙ length-append c.pop.new.self.items (c.in-Some.ports ∷ []) in
     absurd (c.insert.ensures.full none (omega (arith, made.1.fits, long)))
+
+pub returns-in_default-clause-below : goal.returns-in_default-clause-below
+returns-in_default-clause-below g c = c.make_place.ensures.below
+
+pub returns-clause-below : goal.returns-clause-below
+returns-clause-below g c =
+    let a = c.args.self.now.sessions in
+    let b = c.insert.new.self.sessions in
+    subst (λ (k : ℕ). StayBelowBeside k c.insert.result a b) c.over.ensures.number (then_beside c.over.result.number c.insert.result a c.make_place.new.self.sessions b c.make_place.ensures.below c.insert.ensures.below)
+
+pub returns-in_default-clause-stepped : goal.returns-in_default-clause-stepped
+returns-in_default-clause-stepped g c = c.make_place.ensures.stepped
+
+pub returns-clause-stepped : goal.returns-clause-stepped
+returns-clause-stepped g c = λ stepped. puts_stepped c.insert.result c.make_place.new.self.sessions c.insert.new.self.sessions (c.make_place.ensures.stepped stepped) c.insert.ensures.puts

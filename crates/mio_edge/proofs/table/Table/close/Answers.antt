@@ -2,6 +2,7 @@ use Rattle.std.proofs.Common.{ℕ, ap, ◌∙◌, subst}
 use Rattle.mio_edge.specs.Tables.{Shuts}
 use Rattle.mio_edge.specs.Closing.{WindsAt, winds_on}
 use Rattle.mio_edge.specs.Order.{Grows}
+use Rattle.mio_edge.proofs.Stepping.{wound_stepped}
 use Rattle.mio_edge.proofs.table.Table.close.Goals as goal
 
 pub returns-in-Some-clause-leads : goal.returns-in-Some-clause-leads
@@ -25,3 +26,9 @@ returns-in-Some-clause-joins g c = record {
   ready = c.wind_up.ensures.ready ∙ c.shut-place.ensures.ready;
   behind = subst (λ queue. Grows queue c.wind_up.new.self.behind) c.shut-place.ensures.behind c.wind_up.ensures.behind;
 }
+
+pub returns-in-Some-clause-below : goal.returns-in-Some-clause-below
+returns-in-Some-clause-below g c = λ next below. c.wind_up.ensures.below next (c.shut-place.ensures.below next below)
+
+pub returns-in-Some-clause-stepped : goal.returns-in-Some-clause-stepped
+returns-in-Some-clause-stepped g c = λ stepped. wound_stepped c.shut-place.result c.shut-place.new.self.sessions c.wind_up.new.self.sessions (c.shut-place.ensures.stepped stepped) c.wind_up.ensures.others c.wind_up.ensures.sent c.wind_up.ensures.told

@@ -6,6 +6,7 @@ use Rattle.mio_edge.proofs.Tables.{attached, still_idle}
 use Rattle.mio_edge.proofs.Closing.{others_put}
 use Rattle.mio_edge.specs.Connecting.{WaitsForWrite}
 use Rattle.mio_edge.proofs.Places.{each_at}
+use Rattle.mio_edge.proofs.Numbered.{below_put}
 use Rattle.mio_edge.proofs.table.Table.defer.Goals as goal
 
 pub returns-in-Some : goal.returns-in-Some
@@ -17,6 +18,7 @@ returns-in-Some g c =
       keeps = still_kept t c.args.self.now c.args.place c.in-Some.session.now c.defer.new.self (sym c.in-Some.ensures.value) c.defer.ensures.still c.defer.ensures.keeps;
       turns = record { ready = refl; behind = refl; entries = refl };
       same = refl;
+      below = below_put sessions c.args.place c.in-Some.session.now c.defer.new.self (sym c.in-Some.ensures.value) c.defer.ensures.still.number;
       deferred = each_at (λ port. WaitsForWrite port) sessions c.args.place c.in-Some.session.now c.defer.new.self (sym c.in-Some.ensures.value) c.defer.ensures.deferred;
       others = others_put sessions c.args.place c.in-Some.session.now c.defer.new.self (sym c.in-Some.ensures.value);
     }

@@ -1,3 +1,4 @@
+use Rattle.mio_edge.proofs.Stepping.{any_stepped, free_stepped}
 use Rattle.mio_edge.proofs.table.Table.give_up_one.Goals as goal
 
 pub returns-in-Some-clause-keeps : goal.returns-in-Some-clause-keeps
@@ -5,3 +6,11 @@ returns-in-Some-clause-keeps g c = λ world told. c.release.ensures.keeps (c.in-
 
 pub returns-in-Some-clause-winds : goal.returns-in-Some-clause-winds
 returns-in-Some-clause-winds g c = c.release.ensures.winds c.in-Some.ensures.settled
+
+pub returns-in-Some-clause-below : goal.returns-in-Some-clause-below
+returns-in-Some-clause-below g c = c.release.ensures.below
+
+pub returns-in-Some-clause-stepped : goal.returns-in-Some-clause-stepped
+returns-in-Some-clause-stepped g c = λ stepped.
+    let a = c.args.self.now.sessions in
+    free_stepped c.in-Some.place a c.release.new.self.sessions (any_stepped c.in-Some.place a stepped) c.release.ensures.others c.release.ensures.free

@@ -1,6 +1,7 @@
 use Rattle.mio_edge.proofs.Tables.{insert_keeps, insert_prepares}
 use Rattle.mio_edge.proofs.Closing.{puts_at}
 use Rattle.mio_edge.proofs.Places.{refused}
+use Rattle.mio_edge.proofs.Numbered.{below_inserted}
 use Rattle.mio_edge.proofs.table.Table.insert.Goals as goal
 
 pub returns-clause-keeps : goal.returns-clause-keeps
@@ -14,3 +15,6 @@ returns-clause-puts g c = puts_at c.args.self.now.sessions c.insert.new.self c.a
 
 pub returns-clause-full : goal.returns-clause-full
 returns-clause-full g c = refused _ c.insert.result c.ok.result c.ok.ensures.value c.insert.ensures.succeeds
+
+pub returns-clause-below : goal.returns-clause-below
+returns-clause-below g c = below_inserted c.args.self.now.sessions c.insert.new.self c.args.session c.insert.result c.ok.result c.ok.ensures.value c.insert.ensures.updates c.insert.ensures.err

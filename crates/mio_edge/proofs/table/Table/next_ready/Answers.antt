@@ -7,6 +7,7 @@ use Rattle.mio_edge.proofs.Steps.{no_turn, turns_on}
 use Rattle.mio_edge.specs.Lines.{moves_still}
 use Rattle.mio_edge.proofs.Order.{turn_on}
 use Rattle.mio_edge.proofs.Tables.{drop_one}
+use Rattle.mio_edge.specs.Numbered.{IsOneOf}
 use Rattle.mio_edge.proofs.table.Table.next_ready.Goals as goal
 
 pub returns-clause-names : goal.returns-clause-names
@@ -27,6 +28,8 @@ loop-preserved g c = record {
   turn = λ world told.
       turn_on None c.args.self.now c.loop.self c.turn_first.new.self (c.loop.invariant.turn world told)
       (subst (λ o. InTurn o c.loop.self c.turn_first.new.self) c.in_default.is (c.turn_first.ensures.turn world (c.loop.invariant.keeps world told)));
+  stepped = λ world told stepped. c.turn_first.ensures.stepped world (c.loop.invariant.keeps world told) (c.loop.invariant.stepped world told stepped);
+  below = λ next below. c.turn_first.ensures.below next (c.loop.invariant.below next below);
   winds = winds_on g.S.Stream.tells c.args.self.now.sessions c.loop.self.sessions c.turn_first.new.self.sessions c.loop.invariant.winds c.turn_first.ensures.winds;
 }
 
@@ -52,6 +55,8 @@ loop-init g c = record {
   keeps = λ world told. told;
   front = ([], refl);
   turn = λ world told. ([], moves_still c.args.self.now);
+  stepped = λ world told stepped. stepped;
+  below = λ next below. below;
   winds = winds_nowhere g.S.Stream.tells c.args.self.now.sessions;
 }
 
@@ -65,3 +70,12 @@ pub returns-in-Some-clause-names : goal.returns-in-Some-clause-names
 returns-in-Some-clause-names g c = λ world told.
     let moved = c.turn_first.ensures.names world (c.loop.invariant.keeps world told) in
     (moved.0, moved.1, subst (λ o. NamesIfAny o world moved.0) c.in-Some.is moved.2)
+
+pub returns-in-Some-clause-below : goal.returns-in-Some-clause-below
+returns-in-Some-clause-below g c = λ next below. c.turn_first.ensures.below next (c.loop.invariant.below next below)
+
+pub returns-in-Some-clause-number : goal.returns-in-Some-clause-number
+returns-in-Some-clause-number g c = λ next below. subst (λ o. IsOneOf o c.loop.self.sessions) c.in-Some.is c.turn_first.ensures.number next (c.loop.invariant.below next below)
+
+pub returns-in-Some-clause-stepped : goal.returns-in-Some-clause-stepped
+returns-in-Some-clause-stepped g c = λ world told stepped. c.turn_first.ensures.stepped world (c.loop.invariant.keeps world told) (c.loop.invariant.stepped world told stepped)

@@ -3,6 +3,8 @@ use Rattle.mio_edge.specs.Wire.{Stays}
 use Rattle.mio_edge.specs.Tables.{TableTells}
 use Rattle.mio_edge.specs.Turns.{TakesFirst}
 use Rattle.mio_edge.specs.Closing.{Winds}
+use Rattle.mio_edge.specs.Numbered.{StayBelow}
+use Rattle.mio_edge.specs.Stepping.{StayStepped}
 use Rattle.mio_edge.specs.Steps.{TakesTurns}
 use Rattle.mio_edge.specs.Order.{TurnsIfTold}
 use Rattle.mio_edge.proofs.table.Table.next_ready.Given as goal
@@ -16,5 +18,7 @@ invariant-loop g l = record {
   keeps : Stays (TableTells g.S.Stream.tells l.fn.self) (TableTells g.S.Stream.tells l.self);
   front : TakesFirst None l.fn.self l.self;
   turn : TurnsIfTold g.S.Stream.tells None l.fn.self l.self;
+  stepped : StayStepped g.S.Stream.tells l.fn.self l.self;
+  below : StayBelow l.fn.self.sessions l.self.sessions;
   winds : Winds g.S.Stream.tells l.fn.self.sessions l.self.sessions;
 }

@@ -7,6 +7,7 @@ use Rattle.mio_edge.specs.Closing.{AreFlushed}
 use Rattle.mio_edge.specs.Closing.{TellsItsEnd}
 use Rattle.mio_edge.specs.Sessions.{EachPort}
 use Rattle.mio_edge.proofs.Places.{each_at}
+use Rattle.mio_edge.proofs.Numbered.{below_put}
 use Rattle.mio_edge.proofs.table.Table.put_behind.Goals as goal
 
 pub returns-in-Some-clause-keeps : goal.returns-in-Some-clause-keeps
@@ -54,3 +55,6 @@ returns-in-Some-clause-told g c = λ told.
     let was = sym c.in-Some.ensures.value in
     each_at (λ port. TellsItsEnd port) c.args.self.now.sessions c.args.place c.in-Some.session.now c.stand_in.new.self was
     (subst (λ ports. EachPort (λ port. TellsItsEnd port) ports.items) (sym (ap (λ x. x.ports) c.stand_in.ensures.rest)) (told c.in-Some.session.now was))
+
+pub returns-in-Some-clause-below : goal.returns-in-Some-clause-below
+returns-in-Some-clause-below g c = below_put c.args.self.now.sessions c.args.place c.in-Some.session.now c.stand_in.new.self (sym c.in-Some.ensures.value) (ap (λ x. x.number) c.stand_in.ensures.rest)

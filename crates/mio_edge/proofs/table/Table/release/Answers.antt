@@ -2,6 +2,7 @@ use Rattle.std.proofs.Common.{length, sym, refl, ap, ◌∙◌, ◌∷◌, [], a
 use Rattle.std.proofs.lemmas.List.{length-append}
 use Rattle.mio_edge.proofs.Tables.{freed, freed_queues, spare_pushed}
 use Rattle.mio_edge.proofs.Closing.{winds_freed, others_freed}
+use Rattle.mio_edge.proofs.Numbered.{below_freed}
 use Rattle.mio_edge.proofs.table.Table.release.Goals as goal
 
 pub returns-then-len-capacity-clause-keeps : goal.returns-then-len-capacity-clause-keeps
@@ -9,7 +10,7 @@ returns-then-len-capacity-clause-keeps g c = λ idle world told.
     let t = g.S.Stream.tells in
     let s = c.args.self.now in (
       freed t s.sessions c.try_remove.new.self s.entries.items s.closed.items c.forget.new.places.items s.spare.items c.push_reserved.new.self.items c.args.place c.in-Some.session (sym c.in-Some.ensures.value) c.in-Some.ensures.updates c.forget.ensures
-          (spare_pushed t s.spare.items c.push_reserved.new.self.items c.into_ports-ports.result c.push_reserved.ensures.items c.into_ports-ports.ensures) idle world told.0,
+          (spare_pushed t s.spare.items c.push_reserved.new.self.items c.into_ports-ports.result c.push_reserved.ensures.items c.into_ports-ports.ensures.new) idle world told.0,
       freed_queues t s.sessions c.try_remove.new.self s c.args.place (length c.push_reserved.new.self.items) refl c.in-Some.ensures.updates c.in-Some.ensures.len c.in-Some.ensures.capacity (omega (arith, ap length c.push_reserved.ensures.items ∙ length-append s.spare.items (c.into_ports-ports.result ∷ []))) idle told.1,
     )
 
@@ -38,3 +39,9 @@ returns-then-len-capacity-clause-free g c = c.in-Some.ensures.updates.changed
 
 pub returns-else-len-capacity-clause-free : goal.returns-else-len-capacity-clause-free
 returns-else-len-capacity-clause-free g c = c.in-Some.ensures.updates.changed
+
+pub returns-then-len-capacity-clause-below : goal.returns-then-len-capacity-clause-below
+returns-then-len-capacity-clause-below g c = below_freed c.args.self.now.sessions c.try_remove.new.self c.args.place c.in-Some.ensures.updates
+
+pub returns-else-len-capacity-clause-below : goal.returns-else-len-capacity-clause-below
+returns-else-len-capacity-clause-below g c = below_freed c.args.self.now.sessions c.try_remove.new.self c.args.place c.in-Some.ensures.updates

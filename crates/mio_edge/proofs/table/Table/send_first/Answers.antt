@@ -1,4 +1,4 @@
-use Rattle.std.proofs.Common.{length, false, sym, refl, ap, ◌∙◌, subst}
+use Rattle.std.proofs.Common.{length, false, sym, refl, ap, ◌∙◌, subst, inl}
 use Rattle.slab.specs.Slab.{with_value}
 use Rattle.mio_edge.specs.Turns.{QueuesStand}
 use Rattle.mio_edge.proofs.Standing.{stood_ready, rest_same, put_twice, put_over}
@@ -7,6 +7,8 @@ use Rattle.mio_edge.proofs.Turns.{queues_taken}
 use Rattle.mio_edge.specs.Sessions.{PortsTell}
 use Rattle.mio_edge.proofs.Closing.{winds_stays}
 use Rattle.mio_edge.specs.Lines.{grows_same, line_grown, none_closed}
+use Rattle.mio_edge.proofs.Numbered.{below_put}
+use Rattle.mio_edge.proofs.Stepping.{stepped_put, still_stepped}
 use Rattle.mio_edge.proofs.table.Table.send_first.Goals as goal
 
 pub returns-then-send-clause-keeps : goal.returns-then-send-clause-keeps
@@ -56,3 +58,29 @@ pub returns-then-send-clause-turn : goal.returns-then-send-clause-turn
 returns-then-send-clause-turn g c =
     let s = c.args.self.now in
     record { line = line_grown s.ready s.behind c.stand_in.new.queue s.behind c.stand_in.ensures.grows (grows_same s.behind s.behind refl); closed = none_closed s.entries.items; entries = refl }
+
+pub returns-then-send-clause-below : goal.returns-then-send-clause-below
+returns-then-send-clause-below g c = below_put c.args.self.now.sessions c.in-Some.place c.in-Some-get_mut.session.now c.stand_in.new.self (sym c.in-Some-get_mut.ensures.value) (ap (λ x. x.number) c.stand_in.ensures.rest ∙ c.send.ensures.still.number)
+
+pub returns-else-send-clause-below : goal.returns-else-send-clause-below
+returns-else-send-clause-below g c = below_put c.args.self.now.sessions c.in-Some.place c.in-Some-get_mut.session.now c.send.new.self (sym c.in-Some-get_mut.ensures.value) c.send.ensures.still.number
+
+pub returns-then-send-clause-stepped : goal.returns-then-send-clause-stepped
+returns-then-send-clause-stepped g c = λ world told.
+    let t = g.S.Stream.tells in
+    let s = c.args.self.now in
+    let place = c.in-Some.place in
+    let a = c.in-Some-get_mut.session.now in
+    let b = c.send.new.self in
+    let d = c.stand_in.new.self in
+    let still = c.send.ensures.still in
+    let was = sym c.in-Some-get_mut.ensures.value in
+    let taken = queues_taken s.sessions s.ready s.behind s.written c.pop.new.self (length s.spare.items) place a b was still.queued still.written c.in-Some.ensures.first told.1 in
+    let stood = stood_ready t (with_value s.sessions place b) s.ready c.stand_in.new.queue s.behind c.pop.new.self (length s.spare.items) place b d (put_over t s.sessions place a b was) c.stand_in.ensures.was c.stand_in.ensures.stands c.stand_in.ensures.rest taken in
+    stepped_put s.sessions place a d was (λ before shut. inl stood.queued)
+
+pub returns-else-send-clause-stepped : goal.returns-else-send-clause-stepped
+returns-else-send-clause-stepped g c = λ world told.
+    let still = c.send.ensures.still in
+    stepped_put c.args.self.now.sessions c.in-Some.place c.in-Some-get_mut.session.now c.send.new.self (sym c.in-Some-get_mut.ensures.value)
+    (still_stepped c.in-Some-get_mut.session.now c.send.new.self still.is_open still.queued c.send.ensures.stepped)

@@ -5,6 +5,8 @@ use Rattle.mio_edge.proofs.Entries.{from_behind}
 use Rattle.mio_edge.proofs.Tables.{entry_holds, shuts_entry, written}
 use Rattle.mio_edge.proofs.Turns.{queues_still}
 use Rattle.mio_edge.proofs.Closing.{shut_winds, winds_same}
+use Rattle.mio_edge.proofs.Numbered.{below_put}
+use Rattle.mio_edge.proofs.Stepping.{any_stepped, others_stepped}
 use Rattle.mio_edge.proofs.table.Table.shut.Goals as goal
 
 pub returns-in_default-clause-closed : goal.returns-in_default-clause-closed
@@ -67,3 +69,18 @@ pub returns-else-len-capacity-clause-winds : goal.returns-else-len-capacity-clau
 returns-else-len-capacity-clause-winds g c =
     let a = c.in-Some.session.now in
     winds_same g.S.Stream.tells c.args.self.now.sessions c.remove-place.result.place a (record a { is_open = false }) (sym c.in-Some.ensures.value) refl (λ shut. refl) refl
+
+pub returns-then-len-capacity-clause-below : goal.returns-then-len-capacity-clause-below
+returns-then-len-capacity-clause-below g c = below_put c.args.self.now.sessions c.remove-place.result.place c.in-Some.session.now (record c.in-Some.session.now { is_open = false }) (sym c.in-Some.ensures.value) refl
+
+pub returns-else-len-capacity-clause-below : goal.returns-else-len-capacity-clause-below
+returns-else-len-capacity-clause-below g c = below_put c.args.self.now.sessions c.remove-place.result.place c.in-Some.session.now (record c.in-Some.session.now { is_open = false }) (sym c.in-Some.ensures.value) refl
+
+pub returns-in_default-clause-stepped : goal.returns-in_default-clause-stepped
+returns-in_default-clause-stepped g c = any_stepped c.remove-place.result.place c.args.self.now.sessions
+
+pub returns-then-len-capacity-clause-stepped : goal.returns-then-len-capacity-clause-stepped
+returns-then-len-capacity-clause-stepped g c = others_stepped c.args.self.now.sessions c.remove-place.result.place c.in-Some.session.now (record c.in-Some.session.now { is_open = false }) (sym c.in-Some.ensures.value)
+
+pub returns-else-len-capacity-clause-stepped : goal.returns-else-len-capacity-clause-stepped
+returns-else-len-capacity-clause-stepped g c = others_stepped c.args.self.now.sessions c.remove-place.result.place c.in-Some.session.now (record c.in-Some.session.now { is_open = false }) (sym c.in-Some.ensures.value)

@@ -1,4 +1,4 @@
-use Rattle.std.proofs.Common.{[], ◌∷◌, length, false, sym, refl, ◌∙◌, ap, subst, inl, inr}
+use Rattle.std.proofs.Common.{[], ◌∷◌, length, false, sym, refl, ◌∙◌, ap, subst, inl, inr, arith}
 use Rattle.std.specs.List.{slice_get}
 use Rattle.slab.specs.Slab.{with_value}
 use Rattle.mio_edge.specs.Sessions.{IsSame, IsUnsentAt}
@@ -14,6 +14,8 @@ use Rattle.mio_edge.proofs.Steps.{no_turn, one_turn, lost_turn, open_turn, stays
 use Rattle.mio_edge.specs.Lines.{grows_same, line_first, none_closed}
 use Rattle.mio_edge.specs.declared.queue.Queue.{Queue}
 use Rattle.mio_edge.proofs.Order.{one_closed}
+use Rattle.mio_edge.proofs.Numbered.{below_put}
+use Rattle.mio_edge.proofs.Stepping.{open_stepped, others_stepped, stepped_put, wound_stepped}
 use Rattle.mio_edge.proofs.table.Table.turn_first.Goals as goal
 
 pub returns-in_default-get_mut-clause-names : goal.returns-in_default-get_mut-clause-names
@@ -232,3 +234,47 @@ returns-clause-steps g c =
 
 pub returns-then-not-session-clause-taken : goal.returns-then-not-session-clause-taken
 returns-then-not-session-clause-taken g c = ap (λ (q : Queue). q.places.items) c.wind_up.ensures.ready ∙ c.in-Some.ensures.rest
+
+pub returns-then-not-session-clause-below : goal.returns-then-not-session-clause-below
+returns-then-not-session-clause-below g c = λ next below.
+    let s = c.args.self.now in
+    let a = c.in-Some-get_mut.session.now in
+    c.wind_up.ensures.below next (below_put s.sessions c.in-Some.place a (record a { is_queued = false }) (sym c.in-Some-get_mut.ensures.value) refl next below)
+
+pub returns-then-not-has_unsent-clause-below : goal.returns-then-not-has_unsent-clause-below
+returns-then-not-has_unsent-clause-below g c = below_put c.args.self.now.sessions c.in-Some.place c.in-Some-get_mut.session.now c.begin_turn.new.self (sym c.in-Some-get_mut.ensures.value) c.begin_turn.ensures.still.number
+
+pub returns-then-write_down-clause-below : goal.returns-then-write_down-clause-below
+returns-then-write_down-clause-below g c = below_put c.args.self.now.sessions c.in-Some.place c.in-Some-get_mut.session.now c.write_down.new.self (sym c.in-Some-get_mut.ensures.value) (ap (λ x. x.number) c.write_down.ensures.rest ∙ c.begin_turn.ensures.still.number)
+
+pub returns-clause-below : goal.returns-clause-below
+returns-clause-below g c =
+    below_put c.args.self.now.sessions c.in-Some.place c.in-Some-get_mut.session.now c.stand_in.new.self (sym c.in-Some-get_mut.ensures.value)
+    (ap (λ x. x.number) c.stand_in.ensures.rest ∙ (ap (λ x. x.number) c.write_down.ensures.rest ∙ c.begin_turn.ensures.still.number))
+
+pub returns-then-not-has_unsent-clause-number : goal.returns-then-not-has_unsent-clause-number
+returns-then-not-has_unsent-clause-number g c = λ next below. omega (arith, c.begin_turn.ensures.still.number, below c.in-Some.place c.in-Some-get_mut.session.now (sym c.in-Some-get_mut.ensures.value))
+
+pub returns-then-write_down-clause-number : goal.returns-then-write_down-clause-number
+returns-then-write_down-clause-number g c = λ next below. omega (arith, c.begin_turn.ensures.still.number, below c.in-Some.place c.in-Some-get_mut.session.now (sym c.in-Some-get_mut.ensures.value))
+
+pub returns-clause-number : goal.returns-clause-number
+returns-clause-number g c = λ next below. omega (arith, c.begin_turn.ensures.still.number, below c.in-Some.place c.in-Some-get_mut.session.now (sym c.in-Some-get_mut.ensures.value))
+
+pub returns-then-not-session-clause-stepped : goal.returns-then-not-session-clause-stepped
+returns-then-not-session-clause-stepped g c = λ world told stepped.
+    let s = c.args.self.now in
+    let place = c.in-Some.place in
+    let a = c.in-Some-get_mut.session.now in
+    let b : Session g.row.S.Denot = record a { is_queued = false } in
+    wound_stepped place (with_value s.sessions place b) c.wind_up.new.self.sessions (others_stepped s.sessions place a b (sym c.in-Some-get_mut.ensures.value) stepped) c.wind_up.ensures.others c.wind_up.ensures.sent c.wind_up.ensures.told
+
+pub returns-then-not-has_unsent-clause-stepped : goal.returns-then-not-has_unsent-clause-stepped
+returns-then-not-has_unsent-clause-stepped g c = λ world told. stepped_put c.args.self.now.sessions c.in-Some.place c.in-Some-get_mut.session.now c.begin_turn.new.self (sym c.in-Some-get_mut.ensures.value) (λ was. open_stepped c.begin_turn.new.self (c.begin_turn.ensures.still.is_open ∙ c.if-not-session.false))
+
+pub returns-then-write_down-clause-stepped : goal.returns-then-write_down-clause-stepped
+returns-then-write_down-clause-stepped g c = λ world told. stepped_put c.args.self.now.sessions c.in-Some.place c.in-Some-get_mut.session.now c.write_down.new.self (sym c.in-Some-get_mut.ensures.value) (λ was. open_stepped c.write_down.new.self (ap (λ x. x.is_open) c.write_down.ensures.rest ∙ (c.begin_turn.ensures.still.is_open ∙ c.if-not-session.false)))
+
+pub returns-clause-stepped : goal.returns-clause-stepped
+returns-clause-stepped g c =
+    λ world told. stepped_put c.args.self.now.sessions c.in-Some.place c.in-Some-get_mut.session.now c.stand_in.new.self (sym c.in-Some-get_mut.ensures.value) (λ was. open_stepped c.stand_in.new.self (ap (λ x. x.is_open) c.stand_in.ensures.rest ∙ (ap (λ x. x.is_open) c.write_down.ensures.rest ∙ (c.begin_turn.ensures.still.is_open ∙ c.if-not-session.false))))

@@ -7,6 +7,7 @@ use Rattle.mio_edge.proofs.Steps.{stays_put, stays_on, stays_free}
 use Rattle.mio_edge.specs.Lines.{grows_same}
 use Rattle.mio_edge.specs.Closing.{TellsItsEnd}
 use Rattle.mio_edge.proofs.Places.{each_at, each_free}
+use Rattle.mio_edge.proofs.Numbered.{below_put}
 use Rattle.mio_edge.proofs.table.Table.wind_up.Goals as goal
 
 pub returns-in-Unsent-clause-keeps : goal.returns-in-Unsent-clause-keeps
@@ -123,3 +124,15 @@ returns-in-Gone-clause-told g c = each_at (λ port. TellsItsEnd port) c.args.sel
 
 pub returns-in-Gone-2-clause-told : goal.returns-in-Gone-2-clause-told
 returns-in-Gone-2-clause-told g c = each_free (λ port. TellsItsEnd port) c.release.new.self.sessions c.args.place c.release.ensures.free
+
+pub returns-in-Unsent-clause-below : goal.returns-in-Unsent-clause-below
+returns-in-Unsent-clause-below g c = below_put c.args.self.now.sessions c.args.place c.in-Some.session.now c.wind_up.new.self (sym c.in-Some.ensures.value) c.wind_up.ensures.still.number
+
+pub returns-in-Gone-clause-below : goal.returns-in-Gone-clause-below
+returns-in-Gone-clause-below g c = below_put c.args.self.now.sessions c.args.place c.in-Some.session.now c.wind_up.new.self (sym c.in-Some.ensures.value) c.wind_up.ensures.still.number
+
+pub returns-in-Unread-clause-below : goal.returns-in-Unread-clause-below
+returns-in-Unread-clause-below g c = λ next below. c.put_behind.ensures.below next (below_put c.args.self.now.sessions c.args.place c.in-Some.session.now c.wind_up.new.self (sym c.in-Some.ensures.value) c.wind_up.ensures.still.number next below)
+
+pub returns-in-Gone-2-clause-below : goal.returns-in-Gone-2-clause-below
+returns-in-Gone-2-clause-below g c = λ next below. c.release.ensures.below next (below_put c.args.self.now.sessions c.args.place c.in-Some.session.now c.wind_up.new.self (sym c.in-Some.ensures.value) c.wind_up.ensures.still.number next below)

@@ -1,4 +1,4 @@
-use Rattle.std.proofs.Common.{length, sym, refl, ◌∙◌, subst, inl, inr}
+use Rattle.std.proofs.Common.{length, sym, refl, ◌∙◌, subst, inl, inr, ap}
 use Rattle.slab.specs.Slab.{with_value}
 use Rattle.gate_hub.specs.Hubs.{LinkWrites}
 use Rattle.mio_edge.specs.Turns.{QueuesStand}
@@ -7,6 +7,8 @@ use Rattle.mio_edge.proofs.Tables.{not_lost, not_empty, at_open, then_is, same_s
 use Rattle.mio_edge.specs.Closing.{winds_nowhere}
 use Rattle.mio_edge.proofs.Closing.{winds_open, open_at}
 use Rattle.mio_edge.specs.Lines.{grows_same}
+use Rattle.mio_edge.proofs.Numbered.{below_put}
+use Rattle.mio_edge.proofs.Stepping.{open_stepped, stepped_put}
 use Rattle.mio_edge.proofs.table.Table.write.Goals as goal
 
 pub returns-in_default-clause-leads : goal.returns-in_default-clause-leads
@@ -102,3 +104,44 @@ returns-in_default-clause-joins g c = record { ready = refl; behind = grows_same
 
 pub returns-in_default-get_mut-clause-joins : goal.returns-in_default-get_mut-clause-joins
 returns-in_default-get_mut-clause-joins g c = record { ready = refl; behind = grows_same c.args.self.now.behind c.args.self.now.behind refl }
+
+pub returns-then-is_spent-clause-below : goal.returns-then-is_spent-clause-below
+returns-then-is_spent-clause-below g c = below_put c.args.self.now.sessions c.in-Some.place c.in-Some-get_mut.session.now c.write.new.self (sym c.in-Some-get_mut.ensures.value) (c.write.ensures.still.number ∙ ap (λ x. x.number) c.stand_in.ensures.rest)
+
+pub returns-then-not-write_down-clause-below : goal.returns-then-not-write_down-clause-below
+returns-then-not-write_down-clause-below g c =
+    below_put c.args.self.now.sessions c.in-Some.place c.in-Some-get_mut.session.now c.write-then-not-write_down.new.self (sym c.in-Some-get_mut.ensures.value)
+    (c.write-then-not-write_down.ensures.still.number ∙ (ap (λ x. x.number) c.stand_in-then-not-write_down.ensures.rest ∙ ap (λ x. x.number) c.write_down.ensures.rest))
+
+pub returns-clause-below : goal.returns-clause-below
+returns-clause-below g c = below_put c.args.self.now.sessions c.in-Some.place c.in-Some-get_mut.session.now c.write-2.new.self (sym c.in-Some-get_mut.ensures.value) (c.write-2.ensures.still.number ∙ ap (λ x. x.number) c.write_down.ensures.rest)
+
+pub returns-in_default-clause-stepped : goal.returns-in_default-clause-stepped
+returns-in_default-clause-stepped g c = λ world told stepped. stepped
+
+pub returns-in_default-get_mut-clause-stepped : goal.returns-in_default-get_mut-clause-stepped
+returns-in_default-get_mut-clause-stepped g c = λ world told stepped. stepped
+
+pub returns-then-is_spent-clause-stepped : goal.returns-then-is_spent-clause-stepped
+returns-then-is_spent-clause-stepped g c = λ world told.
+    let s = c.args.self.now in
+    let a = c.in-Some-get_mut.session.now in
+    let was = sym c.in-Some-get_mut.ensures.value in
+    let is_open = open_at g.S.Stream.tells s.sessions s.entries.items s.closed.items s.spare.items world c.args.number c.in-Some.place a told.0 (sym (c.find.ensures world told) ∙ c.in-Some.is) was in
+    stepped_put s.sessions c.in-Some.place a c.write.new.self was (λ before. open_stepped c.write.new.self ((c.write.ensures.still.is_open ∙ ap (λ x. x.is_open) c.stand_in.ensures.rest) ∙ is_open))
+
+pub returns-then-not-write_down-clause-stepped : goal.returns-then-not-write_down-clause-stepped
+returns-then-not-write_down-clause-stepped g c = λ world told.
+    let s = c.args.self.now in
+    let a = c.in-Some-get_mut.session.now in
+    let was = sym c.in-Some-get_mut.ensures.value in
+    let is_open = open_at g.S.Stream.tells s.sessions s.entries.items s.closed.items s.spare.items world c.args.number c.in-Some.place a told.0 (sym (c.find.ensures world told) ∙ c.in-Some.is) was in
+    stepped_put s.sessions c.in-Some.place a c.write-then-not-write_down.new.self was (λ before. open_stepped c.write-then-not-write_down.new.self ((c.write-then-not-write_down.ensures.still.is_open ∙ (ap (λ x. x.is_open) c.stand_in-then-not-write_down.ensures.rest ∙ ap (λ x. x.is_open) c.write_down.ensures.rest)) ∙ is_open))
+
+pub returns-clause-stepped : goal.returns-clause-stepped
+returns-clause-stepped g c = λ world told.
+    let s = c.args.self.now in
+    let a = c.in-Some-get_mut.session.now in
+    let was = sym c.in-Some-get_mut.ensures.value in
+    let is_open = open_at g.S.Stream.tells s.sessions s.entries.items s.closed.items s.spare.items world c.args.number c.in-Some.place a told.0 (sym (c.find.ensures world told) ∙ c.in-Some.is) was in
+    stepped_put s.sessions c.in-Some.place a c.write-2.new.self was (λ before. open_stepped c.write-2.new.self ((c.write-2.ensures.still.is_open ∙ ap (λ x. x.is_open) c.write_down.ensures.rest) ∙ is_open))

@@ -1,4 +1,4 @@
-use Rattle.std.proofs.Common.{◌≡◌, ◌/◌, ◌%◌, length, true≢false, Some, sym, refl, ◌∙◌, ap, subst}
+use Rattle.std.proofs.Common.{◌≡◌, ◌/◌, ◌%◌, length, true≢false, Some, sym, refl, ◌∙◌, ap, subst, inl}
 use Rattle.std.specs.List.{slice_get}
 use Rattle.slab.specs.Slab.{with_value}
 use Rattle.mio_edge.specs.Sessions.{PortsTell}
@@ -11,6 +11,8 @@ use Rattle.mio_edge.proofs.Turns.{queues_still}
 use Rattle.mio_edge.proofs.Closing.{winds_stays}
 use Rattle.mio_edge.specs.Lines.{grows_same, line_grown, none_closed}
 use Rattle.mio_edge.specs.Closing.{winds_nowhere}
+use Rattle.mio_edge.proofs.Numbered.{below_put}
+use Rattle.mio_edge.proofs.Stepping.{stepped_put, still_stepped}
 use Rattle.mio_edge.proofs.table.TableReports.report.Goals as goal
 
 pub returns-then-report : goal.returns-then-report
@@ -36,6 +38,8 @@ returns-then-report g c =
         winds_stays t s.sessions place a d was (ap (λ x. x.number) c.stand_in.ensures.rest ∙ still.number) (ap (λ x. x.is_open) c.stand_in.ensures.rest ∙ still.is_open) (λ links tells. subst (λ v. PortsTell t v.items links) (sym ports) (c.report.ensures.keeps links tells)),
         record { line = line_grown s.ready s.behind c.stand_in.new.queue s.behind c.stand_in.ensures.grows (grows_same s.behind s.behind refl); closed = none_closed s.entries.items; entries = refl },
         refl,
+        below_put s.sessions place a d was (ap (λ x. x.number) c.stand_in.ensures.rest ∙ still.number),
+        (λ world told. stepped_put s.sessions place a d was (λ before shut. inl (stood told.1).queued)),
       );
       notes = λ some. record {
         notes = notes_at t s.sessions c.args.news place port a d was (λ x at. subst (λ v. slice_get v.items port ≡ Some (noted c.args.news x)) (sym ports) (c.report.ensures.notes x at));
@@ -57,6 +61,8 @@ returns-else-report g c =
         winds_stays t s.sessions place a b was c.report.ensures.still.number c.report.ensures.still.is_open c.report.ensures.keeps,
         record { line = line_grown s.ready s.behind s.ready s.behind (grows_same s.ready s.ready refl) (grows_same s.behind s.behind refl); closed = none_closed s.entries.items; entries = refl },
         refl,
+        below_put s.sessions place a b was c.report.ensures.still.number,
+        (λ world told. stepped_put s.sessions place a b was (still_stepped a b c.report.ensures.still.is_open c.report.ensures.still.queued (c.report.ensures.stepped c.if-report.false))),
       );
       notes = λ some. record {
         notes = notes_at t s.sessions c.args.news place port a b was c.report.ensures.notes;
@@ -71,6 +77,8 @@ returns-then-self-eq0-clause-goes g c =
       winds_nowhere g.S.Stream.tells s.sessions,
       record { line = line_grown s.ready s.behind s.ready s.behind (grows_same s.ready s.ready refl) (grows_same s.behind s.behind refl); closed = none_closed s.entries.items; entries = refl },
       refl,
+      (λ next below. below),
+      (λ world told stepped. stepped),
     )
 
 pub returns-in_default-clause-goes : goal.returns-in_default-clause-goes
@@ -80,4 +88,6 @@ returns-in_default-clause-goes g c =
       winds_nowhere g.S.Stream.tells s.sessions,
       record { line = line_grown s.ready s.behind s.ready s.behind (grows_same s.ready s.ready refl) (grows_same s.behind s.behind refl); closed = none_closed s.entries.items; entries = refl },
       refl,
+      (λ next below. below),
+      (λ world told stepped. stepped),
     )
