@@ -28,8 +28,9 @@ laid_wide old new part to wide n is within room few =
     ∙ laid_front old (take to old ++ take wide part) (take wide part) [] to n (to + n) (sym (append-nil (take to old ++ take wide part))) within refl (omega (arith, length-take wide part))
     ∙ ap (λ xs. take to old ++ xs) (narrow n wide part few)
 
-pub laid_narrow : (old new part : List ℕ) (to behind w wide n : ℕ) → take behind new ≡ take to old ++ take w part → behind ≡ to + length (take w part) → w ≡ wide → to ≤ length old → wide ≤ length part → n ≤ wide
+pub laid_narrow : (old new part bytes : List ℕ) (to behind wide n : ℕ) → take behind new ≡ take to old ++ bytes → behind ≡ to + length bytes → bytes ≡ take wide part → to ≤ length old → wide ≤ length part → n ≤ wide
     → take (to + n) new ≡ take to old ++ take n part
-laid_narrow old new part to behind w wide n is place same within room few =
-    let there : behind ≡ to + wide = omega (arith, length-take w part) in
-    laid_wide old new part to wide n (ap (λ k. take k new) (sym there) ∙ is ∙ ap (λ k. take to old ++ take k part) same) within room few
+laid_narrow old new part bytes to behind wide n is place same within room few =
+    let long = ap length same in
+    let there : behind ≡ to + wide = omega (arith, place, long, length-take wide part) in
+    laid_wide old new part to wide n (ap (λ k. take k new) (sym there) ∙ is ∙ ap (λ xs. take to old ++ xs) same) within room few

@@ -55,7 +55,8 @@ fn lay_few(cells: &mut [u8], to: usize, frame: &[u8], begin: usize, count: usize
     ensures laid { take result cells.new ≡ take to cells.old ++ take count (drop begin frame.now) }
     ensures place { result ≡ to + count }
 {
-    lay(cells, to, &frame[begin..begin + HALF]);
+    let few: [u8; HALF] = bytes_at(frame, begin);
+    lay(cells, to, &few);
     to + count
 }
 
@@ -68,6 +69,20 @@ fn lay_some(cells: &mut [u8], to: usize, frame: &[u8], begin: usize, count: usiz
     ensures laid { take result cells.new ≡ take to cells.old ++ take count (drop begin frame.now) }
     ensures place { result ≡ to + count }
 {
-    lay(cells, to, &frame[begin..begin + SLACK]);
+    let some: [u8; SLACK] = bytes_at(frame, begin);
+    lay(cells, to, &some);
     to + count
+}
+
+// So many bytes of a frame from a place on, by value: the compiler sees that they don't lie among the cells, and asks
+// nothing before it copies them.
+#[inline(always)]
+fn bytes_at<const N: usize>(frame: &[u8], begin: usize) -> [u8; N]
+    requires { begin + N ≤ length frame.now }
+    ensures { result ≡ take N (drop begin frame.now) }
+{
+    match frame[begin..].first_chunk::<N>() {
+        Some(bytes) => *bytes,
+        None => [0; N],
+    }
 }
