@@ -8,7 +8,6 @@ ghost use Rattle.protocol_traits.specs.declared.forms.Opening.{Opening};
 ghost use Rattle.protocol_traits.specs.declared.proto.Hint.{Hint};
 ghost use Rattle.protocol_traits.specs.Forms.{elements_item, container_kind, pairs_item, part, double_item, IsPast, StepsLead, StepsFlag, StepsValue, StepsText, StepsInto, StepsEnd, ReadsHead};
 ghost use Rattle.protocol_traits.specs.Heads.{header_of};
-ghost use Rattle.protocol_traits.specs.Varints.{reads_none};
 ghost use Rattle.binary_protocol.specs.Reading.{begun, reads_head};
 ghost use Rattle.binary_protocol.specs.Forms.{stands_at, next_read, whole_ends};
 
@@ -28,21 +27,10 @@ const STOP: u8 = 0;
 impl<'f> FormRead for BinaryRead<'f> {
     ghost hinted = { false };
 
-    ghost varints = { false };
-
     ghost ended = { whole_ends };
-
-    ghost reads_varints = { reads_none };
 
     #[inline(always)]
     fn is_hinted() -> bool
-        ensures { result ≡ false }
-    {
-        false
-    }
-
-    #[inline(always)]
-    fn has_varints() -> bool
         ensures { result ≡ false }
     {
         false

@@ -1,6 +1,5 @@
 //! The writer's quick forms: one item laid into the cells, by value.
 ghost use Rattle.std.specs.Prelude.{◌≡◌, ◌≤◌, ◌+◌, ◌∷◌, ◌++◌, false, true, length, take};
-ghost use Rattle.protocol_traits.specs.Varints.{spells_none};
 ghost use Rattle.binary_protocol.specs.Codes.{code_of_kind};
 ghost use Rattle.binary_protocol.specs.Grammar.{size as size_of};
 ghost use Rattle.binary_protocol.specs.WriteForms.{goes_on, starts_at};
@@ -16,13 +15,9 @@ impl FormWrite for BinaryWrite {
 
     ghost marked = { true };
 
-    ghost varints = { false };
-
     ghost starts_at = { starts_at };
 
     ghost goes_on = { goes_on };
-
-    ghost spells_varints = { spells_none };
 
     #[inline(always)]
     fn is_hinted() -> bool {
@@ -32,11 +27,6 @@ impl FormWrite for BinaryWrite {
     #[inline(always)]
     fn is_marked() -> bool {
         true
-    }
-
-    #[inline(always)]
-    fn has_varints() -> bool {
-        false
     }
 
     #[inline(always)]

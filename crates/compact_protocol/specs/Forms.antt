@@ -32,7 +32,7 @@ use Rattle.thrift_value.specs.declared.kind.MessageType.{MessageType}
 use Rattle.protocol_traits.specs.Heads.{Header}
 use Rattle.protocol_traits.specs.Stack.{first_of}
 use Rattle.protocol_traits.specs.Steps.{Step, told}
-use Rattle.protocol_traits.specs.Varints.{ReadsVarints}
+use Rattle.compact_protocol.specs.Varints.{ReadsVarints}
 use Rattle.compact_protocol.specs.Codes.{kind_of}
 use Rattle.compact_protocol.specs.Scan.{Scan, fault, front_at, shifted, varint16_at, varint32_at, varint64_at, id_at, size_at, string_at, next_id, long_field, field_of, field_at, flag_of, i16_at, i32_at, i64_at, double_at, text_at, uuid_at, elements_at, set_at, list_at, kinds_at, map_at, value_at, value_in, opens, is_bool, field_value, next_of, item_in}
 use Rattle.compact_protocol.specs.Reading.{State, rest, begun, moved, reads, reads_head, reads_end, scan_at}

@@ -2,6 +2,7 @@
 pub mod Codes
 pub mod Grammar
 pub mod Laws
+pub mod Varints
 pub mod Forms
 pub mod WriteForms
 pub mod Plain

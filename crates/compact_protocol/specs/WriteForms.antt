@@ -12,7 +12,7 @@ use Rattle.protocol_traits.specs.declared.nest.Slot.TheVariants as slots
 use Rattle.protocol_traits.specs.declared.proto.Mark.{Mark}
 use Rattle.protocol_traits.specs.Follow.{after}
 use Rattle.protocol_traits.specs.Forms.{opening_after}
-use Rattle.protocol_traits.specs.Varints.{SpellsVarints}
+use Rattle.compact_protocol.specs.Varints.{SpellsVarints}
 use Rattle.compact_protocol.specs.Plain.{Writer, bar, begun, follows, spelling}
 
 -- the writer stands in these levels

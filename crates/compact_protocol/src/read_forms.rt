@@ -1,5 +1,5 @@
 //! The reader's quick forms: one item at a place of a frame, by value.
-ghost use Rattle.std.specs.Prelude.{◌≡◌, ◌+◌, ◌≤◌, ◌<◌, ◌^◌, length, take, true, false, Ok, IfSome};
+ghost use Rattle.std.specs.Prelude.{◌≡◌, ◌+◌, ◌≤◌, ◌<◌, ◌^◌, length, take, false, Ok, IfSome};
 ghost use Rattle.thrift_value.specs.declared.kind.Kind.{Kind};
 ghost use Rattle.thrift_value.specs.Items.{bool_value, i8_value, i16_value, i32_value, i64_value, text, struct_begin, end, uuid_value};
 ghost use Rattle.protocol_traits.specs.declared.forms.Container.{Container};
@@ -9,7 +9,7 @@ ghost use Rattle.protocol_traits.specs.declared.proto.Hint.{Hint};
 ghost use Rattle.protocol_traits.specs.Forms.{elements_item, container_kind, pairs_item, part, double_item, IsPast, StepsLead, StepsFlag, StepsValue, StepsText, StepsInto, StepsEnd, ReadsHead};
 ghost use Rattle.protocol_traits.specs.Heads.{header_of};
 ghost use Rattle.compact_protocol.specs.Reading.{begun, reads_head};
-ghost use Rattle.compact_protocol.specs.Forms.{stands_at, next_read, whole_ends, reads_varints};
+ghost use Rattle.compact_protocol.specs.Forms.{stands_at, next_read, whole_ends};
 
 use crate::forms::{
     bool_front, double_front, elements_from, front_from, i8_front, i16_from, i32_from, i64_from,
@@ -28,24 +28,13 @@ const STOP: u8 = 0;
 impl<'f> FormRead for CompactRead<'f> {
     ghost hinted = { false };
 
-    ghost varints = { true };
-
     ghost ended = { whole_ends };
-
-    ghost reads_varints = { λ said. reads_varints };
 
     #[inline(always)]
     fn is_hinted() -> bool
         ensures { result ≡ false }
     {
         false
-    }
-
-    #[inline(always)]
-    fn has_varints() -> bool
-        ensures { result ≡ true }
-    {
-        true
     }
 
     #[inline(always)]

@@ -1,11 +1,11 @@
 //! The writer's quick forms: one item laid into the cells, by value.
-ghost use Rattle.std.specs.Prelude.{◌≡◌, ◌≤◌, ◌<◌, ◌+◌, ◌*◌, ◌%◌, ◌^◌, ◌∷◌, ◌++◌, [], true, false, length, take};
+ghost use Rattle.std.specs.Prelude.{◌≡◌, ◌≤◌, ◌<◌, ◌+◌, ◌*◌, ◌%◌, ◌^◌, ◌∷◌, ◌++◌, [], false, length, take};
 ghost use Rattle.protocol_traits.specs.Heads.{header_of};
 ghost use Rattle.varint_zigzag.specs.Varint.{shortest};
 ghost use Rattle.varint_zigzag.specs.Zigzag.{folded};
 ghost use Rattle.compact_protocol.specs.Codes.{code_of};
 ghost use Rattle.compact_protocol.specs.Plain.{field_spelling, elements_spelling, head_spelling};
-ghost use Rattle.compact_protocol.specs.WriteForms.{starts_at, goes_on, spells_varints};
+ghost use Rattle.compact_protocol.specs.WriteForms.{starts_at, goes_on};
 
 use crate::writer::{CompactWrite, code_of, flag_code, short_step, type_code};
 use cell_writes::{lay, lay_part};
@@ -23,13 +23,9 @@ impl FormWrite for CompactWrite {
 
     ghost marked = { false };
 
-    ghost varints = { true };
-
     ghost starts_at = { starts_at };
 
     ghost goes_on = { goes_on };
-
-    ghost spells_varints = { λ said. spells_varints };
 
     #[inline(always)]
     fn is_hinted() -> bool {
@@ -39,11 +35,6 @@ impl FormWrite for CompactWrite {
     #[inline(always)]
     fn is_marked() -> bool {
         false
-    }
-
-    #[inline(always)]
-    fn has_varints() -> bool {
-        true
     }
 
     #[inline(always)]

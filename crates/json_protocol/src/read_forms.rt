@@ -8,7 +8,6 @@ ghost use Rattle.protocol_traits.specs.declared.forms.Opening.{Opening};
 ghost use Rattle.protocol_traits.specs.declared.proto.Hint.{Hint};
 ghost use Rattle.protocol_traits.specs.Forms.{elements_item, container_kind, pairs_item, part, double_item, IsPast, StepsLead, StepsFlag, StepsValue, StepsText, StepsInto, StepsEnd, ReadsHead};
 ghost use Rattle.protocol_traits.specs.Heads.{header_of};
-ghost use Rattle.protocol_traits.specs.Varints.{reads_none};
 ghost use Rattle.json_text.specs.declared.scanned.Scan.TheVariants.{Whole};
 ghost use Rattle.json_protocol.specs.Reading.{begun, reads};
 ghost use Rattle.json_protocol.specs.Head.{reads_head};
@@ -33,24 +32,13 @@ use thrift_value::Kind;
 impl<'f> FormRead for JsonRead<'f> {
     ghost hinted = { true };
 
-    ghost varints = { false };
-
     ghost ended = { whole_ends };
-
-    ghost reads_varints = { reads_none };
 
     #[inline(always)]
     fn is_hinted() -> bool
         ensures { result ≡ true }
     {
         true
-    }
-
-    #[inline(always)]
-    fn has_varints() -> bool
-        ensures { result ≡ false }
-    {
-        false
     }
 
     #[inline(always)]

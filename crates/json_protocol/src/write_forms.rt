@@ -1,7 +1,6 @@
 //! The writer's quick forms: one item laid into the cells, by value.
-ghost use Rattle.std.specs.Prelude.{◌≡◌, ◌+◌, ◌*◌, ◌≤◌, ◌∷◌, ◌++◌, true, false, length, take, IfSome};
+ghost use Rattle.std.specs.Prelude.{◌≡◌, ◌+◌, ◌*◌, ◌≤◌, ◌∷◌, ◌++◌, true, length, take, IfSome};
 ghost use Rattle.std.specs.Str.{is_utf8};
-ghost use Rattle.protocol_traits.specs.Varints.{spells_none};
 ghost use Rattle.json_text.specs.Blob.{blob_spelling};
 ghost use Rattle.json_text.specs.Plain.{text_spelling};
 ghost use Rattle.json_protocol.specs.Writing.{flag, kinds_spelling, sequence_spelling, stop_spelling};
@@ -23,13 +22,9 @@ impl FormWrite for JsonWrite {
 
     ghost marked = { true };
 
-    ghost varints = { false };
-
     ghost starts_at = { starts_at };
 
     ghost goes_on = { goes_on };
-
-    ghost spells_varints = { spells_none };
 
     #[inline(always)]
     fn is_hinted() -> bool {
@@ -39,11 +34,6 @@ impl FormWrite for JsonWrite {
     #[inline(always)]
     fn is_marked() -> bool {
         true
-    }
-
-    #[inline(always)]
-    fn has_varints() -> bool {
-        false
     }
 
     #[inline(always)]

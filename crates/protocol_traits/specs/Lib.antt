@@ -6,4 +6,3 @@ pub mod Heads
 pub mod Steps
 pub mod Room
 pub mod Forms
-pub mod Varints

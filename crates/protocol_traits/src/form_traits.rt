@@ -1,7 +1,7 @@
 //! A protocol's quick reader and quick writer: one call an item, by value, and no fault told.
 //!
 //! The quick way is right where it answers. What isn't plain good is left to `WireRead` and `WireWrite`.
-ghost use Rattle.std.specs.Prelude.{◌≡◌, ℕ, pos, ◌+◌, ◌-◌, ◌≤◌, ◌<◌, ◌^◌, List, [], ◌∷◌, ◌++◌, length, take, Bool, true, Option, None, Ok, IfSome};
+ghost use Rattle.std.specs.Prelude.{◌≡◌, ℕ, pos, ◌+◌, ◌-◌, ◌≤◌, ◌<◌, ◌^◌, List, [], ◌∷◌, ◌++◌, length, take, Bool, Option, None, Ok, IfSome};
 ghost use Rattle.thrift_value.specs.declared.kind.Kind.{Kind};
 ghost use Rattle.thrift_value.specs.Items.{Item, field, stop, bool_value, i8_value, i16_value, i32_value, i64_value, text, struct_begin, empty_map, map_begin, end, uuid_value};
 ghost use Rattle.protocol_traits.specs.declared.forms.Container.{Container};
@@ -15,7 +15,6 @@ ghost use Rattle.protocol_traits.specs.Heads.{header_of};
 ghost use Rattle.protocol_traits.specs.Steps.{told};
 ghost use Rattle.protocol_traits.specs.Follow.{after as levels_after};
 ghost use Rattle.protocol_traits.specs.Forms.{elements_item, container_kind, pairs_item, part, double_item, uuid_item, text_weight, opening_after, IsPast, StepsLead, StepsFlag, StepsValue, StepsText, StepsInto, StepsEnd, ReadsHead, SpellsField, SpellsFlag, SpellsStop, SpellsValue, SpellsText, SpellsElements, SpellsNoPairs, SpellsEnd};
-ghost use Rattle.protocol_traits.specs.Varints.{ReadsVarints, SpellsVarints};
 ghost use Rattle.protocol_traits.specs.Room.{head_weight, weight};
 
 use crate::forms::{Container, Decoded, Lead, Opening, Pairs, Span, Stand};
@@ -35,16 +34,9 @@ pub trait FormRead: ReadRules {
     /// Whether how a string is read depends on its position.
     ghost hinted: { Bool };
 
-    /// Whether whole numbers are varints of folded numbers, as the Compact protocol spells them.
-    ghost varints: { Bool };
-
     /// Whether how a string is read depends on its position.
     fn is_hinted() -> bool
         ensures { result ≡ hinted };
-
-    /// Whether whole numbers are varints of folded numbers, as the Compact protocol spells them.
-    fn has_varints() -> bool
-        ensures { result ≡ varints };
 
     /// The header at the beginning of a frame, and the place behind it, where the body begins.
     /// `room` is at least as long as the frame. A name that doesn't lie in the frame as it is meant stands there.
@@ -169,9 +161,6 @@ pub trait FormRead: ReadRules {
 
     /// Behind the body, at the end of the frame, the message is whole.
     ghost ended: { (s : Self) (frame : List ℕ) (opening : Opening) → Self.stands_at s frame (length frame) opening [] → told (Self.reads_end s) ≡ Ok tt };
-
-    /// Where whole numbers are varints, they are read as the numbers that these fold.
-    ghost reads_varints: { varints ≡ true → ReadsVarints Self.reads Self.stands_at };
 }
 
 /// A protocol's quick writer. Each call writes one item into the cells from a place on, and answers the place behind it.
@@ -183,16 +172,9 @@ pub trait FormWrite: WireWrite {
     /// Whether how an empty map is written depends on its position.
     ghost marked: { Bool };
 
-    /// Whether whole numbers are varints of folded numbers, as the Compact protocol spells them.
-    ghost varints: { Bool };
-
     /// Whether how a string is written depends on its position.
     fn is_hinted() -> bool
         ensures { result ≡ hinted };
-
-    /// Whether whole numbers are varints of folded numbers, as the Compact protocol spells them.
-    fn has_varints() -> bool
-        ensures { result ≡ varints };
 
     /// Whether how an empty map is written depends on its position.
     fn is_marked() -> bool
@@ -351,7 +333,4 @@ pub trait FormWrite: WireWrite {
     /// It goes on standing in the levels as items are written.
     ghost goes_on: { (t : Self) (opening : Opening) (nest : List Slot) (item : Item) (mark : Mark) → 0 < length nest
         → Self.stands_at t opening nest → Self.stands_at (Self.after t item mark) (opening_after item) (levels_after item nest) };
-
-    /// Where whole numbers are varints, the shortest bytes of a varint spell the number that it folds.
-    ghost spells_varints: { varints ≡ true → SpellsVarints Self.bar Self.plain Self.stands_at };
 }

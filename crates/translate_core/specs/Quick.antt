@@ -161,11 +161,6 @@ module _ {S T : Type 0} (reads : ReadRules S) (writes : WriteRules T) where
   TookLeafField frame at opening last kind id behind old to new taken = IfSome taken (λ x. (d : Declarations) (ty : Ty) (depth : ℕ)
       → TakesField (source_in reads) (target_in writes) reads.stands_at writes.stands_at d ty depth frame at opening last (field id kind) id behind old to new x.read x.written)
 
-  -- a field was taken that this lead tells, whatever is declared and in however many levels
-  abbrev pub TookLeafLead : List ℕ → ℕ → Opening → ℤ → Lead → ℤ → ℕ → List ℕ → ℕ → List ℕ → Option Reach → Type 0
-  TookLeafLead frame at opening last lead id behind old to new taken = IfSome taken (λ x. (d : Declarations) (ty : Ty) (depth : ℕ)
-      → TakesField (source_in reads) (target_in writes) reads.stands_at writes.stands_at d ty depth frame at opening last (lead_item lead id) id behind old to new x.read x.written)
-
   -- so many elements that are no levels and no strings were taken, and the end was not: whatever is declared, and in
   -- however many levels
   abbrev pub TookLeaves : List ℕ → ℕ → Kind → ℕ → List ℕ → ℕ → List ℕ → Option Reach → Type 0

@@ -7,10 +7,10 @@ ghost use Rattle.protocol_traits.specs.declared.forms.Lead.{Lead};
 ghost use Rattle.protocol_traits.specs.Forms.{IsPast, container_kind, lead_item};
 ghost use Rattle.type_tables.specs.declared.declared.Ty.{Ty};
 ghost use Rattle.type_walk.specs.Positions.{field_type, hint_at, in_struct};
-ghost use Rattle.translate_core.specs.Quick.{Grows, HasRoom, Informs, TookLeafField, TookLeafLead, TookTextField};
+ghost use Rattle.translate_core.specs.Quick.{Grows, HasRoom, Informs, TookLeafField, TookTextField};
 
 use crate::known::Known;
-use crate::leaves::{I16Leaf, I32Leaf, I64Leaf, Leaf, Reach, take_text};
+use crate::leaves::{Leaf, Reach, take_text};
 use protocol_traits::{Container, FormRead, FormWrite, Hint, Lead, Opening, Stand};
 use thrift_value::Kind;
 use type_tables::Schema;
@@ -65,50 +65,6 @@ pub fn take_leaf_field<R: FormRead, W: FormWrite, L: Leaf>(
 {
     let value = W::field(cells, to, opening, last, id, L::own_kind());
     L::take::<R, W>(frame, behind, cells, value, Stand::Field)
-}
-
-/// Whether a lead announces a whole number of more than one byte.
-#[inline(always)]
-pub fn is_number(lead: Lead) -> bool {
-    match lead {
-        Lead::I16 | Lead::I32 | Lead::I64 => true,
-        _ => false,
-    }
-}
-
-/// Takes a field that is a whole number of more than one byte, whose lead was read. Other leads are none. Each arm asks whether it
-/// took its field, as those of other fields do.
-#[inline(always)]
-pub fn take_number_field<R: FormRead, W: FormWrite>(
-    frame: &[u8],
-    at: usize,
-    cells: &mut [u8],
-    to: usize,
-    opening: Opening,
-    last: i16,
-    lead: Lead,
-    id: i16,
-    behind: usize,
-) -> Option<Reach>
-    requires place { IsPast at frame.now behind }
-    requires room { HasRoom BEFORE_FIELD frame.now at cells.old to }
-    ensures kept { length cells.new ≡ length cells.old }
-    ensures past { IfSome result (λ x. IsPast at frame.now x.read) }
-    ensures grows { IfSome result (λ x. Grows at to x.read x.written) }
-    ensures takes { TookLeafLead R.ReadRules W.WireWrite frame.now at opening last lead id behind cells.old to cells.new result }
-{
-    match lead {
-        Lead::I16 => Some(take_leaf_field::<R, W, I16Leaf>(
-            frame, at, cells, to, opening, last, id, behind,
-        )?),
-        Lead::I32 => Some(take_leaf_field::<R, W, I32Leaf>(
-            frame, at, cells, to, opening, last, id, behind,
-        )?),
-        Lead::I64 => Some(take_leaf_field::<R, W, I64Leaf>(
-            frame, at, cells, to, opening, last, id, behind,
-        )?),
-        _ => None,
-    }
 }
 
 /// Takes a string field.

@@ -5,7 +5,6 @@ ghost use Rattle.protocol_traits.specs.declared.forms.Stand.{Stand};
 ghost use Rattle.protocol_traits.specs.Forms.{IsPast};
 ghost use Rattle.translate_core.specs.Quick.{Grows, HasRoom, TookLeaf, TookText};
 
-use crate::numbers::{copy_i16, copy_i32, copy_i64, recode_i16, recode_i32, recode_i64};
 use protocol_traits::{FormRead, FormWrite, Hint, Stand};
 use thrift_value::Kind;
 
@@ -145,10 +144,9 @@ impl Leaf for I16Leaf {
         to: usize,
         stand: Stand,
     ) -> Option<Reach> {
-        if R::has_varints() && W::has_varints() {
-            return copy_i16::<R, W>(frame, at, cells, to, stand);
-        }
-        recode_i16::<R, W>(frame, at, cells, to, stand)
+        let (value, read) = R::i16(frame, at, stand)?;
+        let written = W::i16(cells, to, stand, value);
+        Some(Reach { read, written })
     }
 }
 
@@ -171,10 +169,9 @@ impl Leaf for I32Leaf {
         to: usize,
         stand: Stand,
     ) -> Option<Reach> {
-        if R::has_varints() && W::has_varints() {
-            return copy_i32::<R, W>(frame, at, cells, to, stand);
-        }
-        recode_i32::<R, W>(frame, at, cells, to, stand)
+        let (value, read) = R::i32(frame, at, stand)?;
+        let written = W::i32(cells, to, stand, value);
+        Some(Reach { read, written })
     }
 }
 
@@ -197,10 +194,9 @@ impl Leaf for I64Leaf {
         to: usize,
         stand: Stand,
     ) -> Option<Reach> {
-        if R::has_varints() && W::has_varints() {
-            return copy_i64::<R, W>(frame, at, cells, to, stand);
-        }
-        recode_i64::<R, W>(frame, at, cells, to, stand)
+        let (value, read) = R::i64(frame, at, stand)?;
+        let written = W::i64(cells, to, stand, value);
+        Some(Reach { read, written })
     }
 }
 

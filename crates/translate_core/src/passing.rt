@@ -52,7 +52,7 @@ pub fn pass_quickly<R: FormRead, W: FormWrite>(
 
 /// Whether the writer's protocol can hold a name.
 #[inline(always)]
-pub(crate) fn holds_name<W: FormWrite>(name: &[u8]) -> bool
+pub fn holds_name<W: FormWrite>(name: &[u8]) -> bool
     ensures { result ≡ true → W.name_bar name.now ≡ None }
 {
     match W::takes_name(name) {
@@ -63,7 +63,7 @@ pub(crate) fn holds_name<W: FormWrite>(name: &[u8]) -> bool
 
 /// The most bytes that any protocol spells a message in that came in a frame of so many bytes.
 #[inline(always)]
-fn room_for(len: usize) -> usize
+pub fn room_for(len: usize) -> usize
     requires { len < 2 ^ 31 }
     ensures { result ≡ room_for len }
 {

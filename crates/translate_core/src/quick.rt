@@ -10,8 +10,8 @@ ghost use Rattle.protocol_traits.specs.Forms.{IsPast, container_kind};
 ghost use Rattle.translate_core.specs.Quick.{Grows, HasRoom, Informs, TookElements, TookField, TookFields, TookLead, TookPairs, TookRun, TookValue, reached};
 
 use crate::fields::{
-    BEFORE_FIELD, container_kind, is_number, sequence_kind, sequence_of, take_flag,
-    take_leaf_field, take_number_field, take_text_field,
+    BEFORE_FIELD, container_kind, sequence_kind, sequence_of, take_flag, take_leaf_field,
+    take_text_field,
 };
 use crate::known::Known;
 use crate::leaves::{
@@ -68,18 +68,6 @@ pub fn take_fields<R: FormRead, W: FormWrite, K: Known>(
         if let Lead::Bad = lead {
             return None;
         }
-        // Apart from other kinds: with numbers `take_field` is too large for the compiler to take it in here, where both
-        // protocols spell them as varints.
-        if is_number(lead) {
-            let reach = take_number_field::<R, W>(
-                frame, at, cells, to, opening, last, lead, id, behind,
-            )?;
-            at = reach.read;
-            to = reach.written;
-            last = id;
-            opening = Opening::Old;
-            continue;
-        }
         let reach = take_field::<R, W, K>(
             known, schema, frame, at, cells, to, opening, last, lead, id, behind, depth,
         )?;
@@ -90,9 +78,8 @@ pub fn take_fields<R: FormRead, W: FormWrite, K: Known>(
     }
 }
 
-/// Takes a field whose lead was read. The end of the struct is none, and so are whole numbers of more than one byte: those are
-/// taken apart. Each arm asks whether it took its field: asked once behind the match, it would be a test a field that the
-/// compiler doesn't lead the arms past.
+/// Takes a field whose lead was read. The end of the struct is none. Each arm asks whether it took its field: asked once behind
+/// the match, it would be a test a field that the compiler doesn't lead the arms past.
 #[cycle(body)]
 #[inline(always)]
 fn take_field<R: FormRead, W: FormWrite, K: Known>(
@@ -123,6 +110,15 @@ fn take_field<R: FormRead, W: FormWrite, K: Known>(
     match lead {
         Lead::Bool => Some(take_flag::<R, W>(frame, at, cells, to, opening, last, id, behind)?),
         Lead::I8 => Some(take_leaf_field::<R, W, I8Leaf>(
+            frame, at, cells, to, opening, last, id, behind,
+        )?),
+        Lead::I16 => Some(take_leaf_field::<R, W, I16Leaf>(
+            frame, at, cells, to, opening, last, id, behind,
+        )?),
+        Lead::I32 => Some(take_leaf_field::<R, W, I32Leaf>(
+            frame, at, cells, to, opening, last, id, behind,
+        )?),
+        Lead::I64 => Some(take_leaf_field::<R, W, I64Leaf>(
             frame, at, cells, to, opening, last, id, behind,
         )?),
         Lead::Double => Some(take_leaf_field::<R, W, DoubleLeaf>(

@@ -21,16 +21,16 @@ pub enum Route {
 
 /// What a header says of its message.
 #[derive(Clone, Copy)]
-pub(crate) struct Told {
-    pub(crate) info: HeadInfo,
+pub struct Told {
+    pub info: HeadInfo,
     /// The struct of the body, where it is known.
-    pub(crate) body: Option<StructId>,
+    pub body: Option<StructId>,
 }
 
 /// What a header says of its message: its name is looked up once.
 #[inline(always)]
 #[tactic(auto, unfolding(crate::specs::Routes::info_of))]
-pub(crate) fn told_of(schema: &Schema, route: Route, head: &Head<'_>) -> Told
+pub fn told_of(schema: &Schema, route: Route, head: &Head<'_>) -> Told
     requires { IsKnownRoute schema.now route }
     ensures info { result.info ≡ info_of schema.now route (header_of head.now) }
     ensures body { result.body ≡ body_of schema.now route (header_of head.now) }

@@ -1,6 +1,6 @@
 -- Lemmas.
 pub mod Carrying
-pub mod Copies
+pub mod Narrow
 pub mod Fronts
 pub mod Groups
 pub mod Laid

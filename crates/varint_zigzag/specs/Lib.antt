@@ -1,6 +1,6 @@
 -- Numbers as bytes, and signed numbers as unsigned ones.
 pub mod Bounds
-pub mod Copying
+pub mod Standing
 pub mod Places
 pub mod Varint
 pub mod Zigzag

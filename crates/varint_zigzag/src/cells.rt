@@ -180,7 +180,7 @@ fn put_long(cells: &mut [u8], to: usize, v: u64) -> usize
 
 // Lays eight bytes, the lowest first.
 #[inline(always)]
-pub(crate) fn put_word(cells: &mut [u8], to: usize, word: u64)
+fn put_word(cells: &mut [u8], to: usize, word: u64)
     requires { to + 8 ≤ length cells.old }
     ensures { cells.new ≡ take to cells.old ++ to_le_bytes w64 word ++ drop (to + 8) cells.old }
 {

@@ -153,7 +153,7 @@ pub(crate) fn before_last(bytes: &[u8], at: usize) -> Option<u32>
 
 // Eight bytes as a number, the lowest first.
 #[inline(always)]
-pub(crate) fn word_at(bytes: &[u8], at: usize) -> u64
+fn word_at(bytes: &[u8], at: usize) -> u64
     requires { at + 8 ≤ length bytes.now }
     ensures { result ≡ number_l 256 (take 8 (drop at bytes.now)) }
 {

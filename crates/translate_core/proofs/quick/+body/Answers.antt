@@ -44,8 +44,8 @@ take_fields-returns-in-Stop-clause-takes g t c ty means up outer deep =
     c.fields.at c.in_ok-lead.behind c.fields.opening nest p stop c.fields.cells c.stop-written.new.cells c.fields.to c.stop-written.result (omega arith)
     (steps up (hint_of p) (λ bad. absurd (cc))) (c.stop-written.ensures.spells last up (mark_of p stop) deep))
 
-pub take_fields-fields-preserved-then-is_number : goal.take_fields-fields-preserved-then-is_number
-take_fields-fields-preserved-then-is_number g t c =
+pub take_fields-fields-preserved : goal.take_fields-fields-preserved
+take_fields-fields-preserved g t c =
     let source = source_in g.R.ReadRules in
     let target = target_in g.W.WireWrite in
     let d = c.args.schema.now in
@@ -62,29 +62,7 @@ take_fields-fields-preserved-then-is_number g t c =
           let p : Position = standing d (in_struct ty ∷ outer) in
           rw (to_z-of_z w16 c.in_ok-lead.id id_fits) (takes_then source target g.R.ReadRules.stands_at g.W.WireWrite.stands_at c.args.frame.now
           (spot c.args.from c.args.opening (slots.Fields (pos 0) ∷ up) p) (spot c.fields.at c.fields.opening (slots.Fields last ∷ up) p) (spot c.in_ok-reach.reach.read openings.Old (slots.Fields c.in_ok-lead.id ∷ up) p)
-          c.args.cells.now c.fields.cells c.take_number_field.new.cells c.args.into.now c.fields.to c.in_ok-reach.reach.written
-          (inv.takes ty up outer means deep) (taken d ty c.args.depth up outer deep (λ hint. steps up hint c.in_default-lead.not-Bad)));
-    }
-
-pub take_fields-fields-preserved : goal.take_fields-fields-preserved
-take_fields-fields-preserved g t c =
-    let source = source_in g.R.ReadRules in
-    let target = target_in g.W.WireWrite in
-    let d = c.args.schema.now in
-    let inv = c.fields.invariant in
-    let last : ℤ = to_z w16 c.fields.last-bits in
-    let id_fits : SFits w16 c.in_ok-lead.id = search rules in
-    let steps = c.in_ok-lead.ensures.steps in
-    let taken = rw (to_z-of_z w16 c.in_ok-lead.id id_fits) at c.in_ok-reach-2.ensures.takes in
-    record {
-      place = (omega (arith, inv.place, c.in_ok-reach-2.ensures.past), omega (arith, c.in_ok-reach-2.ensures.past));
-      kept = c.in_ok-reach-2.ensures.kept ∙ inv.kept;
-      grows = omega (arith, inv.grows, c.in_ok-reach-2.ensures.grows);
-      takes = λ ty up outer means deep.
-          let p : Position = standing d (in_struct ty ∷ outer) in
-          rw (to_z-of_z w16 c.in_ok-lead.id id_fits) (takes_then source target g.R.ReadRules.stands_at g.W.WireWrite.stands_at c.args.frame.now
-          (spot c.args.from c.args.opening (slots.Fields (pos 0) ∷ up) p) (spot c.fields.at c.fields.opening (slots.Fields last ∷ up) p) (spot c.in_ok-reach-2.reach.read openings.Old (slots.Fields c.in_ok-lead.id ∷ up) p)
-          c.args.cells.now c.fields.cells c.take_field.new.cells c.args.into.now c.fields.to c.in_ok-reach-2.reach.written
+          c.args.cells.now c.fields.cells c.take_field.new.cells c.args.into.now c.fields.to c.in_ok-reach.reach.written
           (inv.takes ty up outer means deep) (taken ty means up outer deep (λ hint. steps up hint c.in_default-lead.not-Bad)));
     }
 
@@ -97,6 +75,21 @@ pub take_field-returns-in_ok-take_leaf_field-in-I8-clause-takes : goal.take_fiel
 take_field-returns-in_ok-take_leaf_field-in-I8-clause-takes g t c ty means =
     let takes = rw (to_z-of_z w16 c.args.last c.ranges.last, to_z-of_z w16 c.args.id c.ranges.id) at c.in_ok-take_leaf_field-in-I8.ensures.takes in
     rw c.in-I8.is (takes c.args.schema.now ty c.args.depth)
+
+pub take_field-returns-in_ok-take_leaf_field-in-I16-clause-takes : goal.take_field-returns-in_ok-take_leaf_field-in-I16-clause-takes
+take_field-returns-in_ok-take_leaf_field-in-I16-clause-takes g t c ty means =
+    let takes = rw (to_z-of_z w16 c.args.last c.ranges.last, to_z-of_z w16 c.args.id c.ranges.id) at c.in_ok-take_leaf_field-in-I16.ensures.takes in
+    rw c.in-I16.is (takes c.args.schema.now ty c.args.depth)
+
+pub take_field-returns-in_ok-take_leaf_field-in-I32-clause-takes : goal.take_field-returns-in_ok-take_leaf_field-in-I32-clause-takes
+take_field-returns-in_ok-take_leaf_field-in-I32-clause-takes g t c ty means =
+    let takes = rw (to_z-of_z w16 c.args.last c.ranges.last, to_z-of_z w16 c.args.id c.ranges.id) at c.in_ok-take_leaf_field-in-I32.ensures.takes in
+    rw c.in-I32.is (takes c.args.schema.now ty c.args.depth)
+
+pub take_field-returns-in_ok-take_leaf_field-in-I64-clause-takes : goal.take_field-returns-in_ok-take_leaf_field-in-I64-clause-takes
+take_field-returns-in_ok-take_leaf_field-in-I64-clause-takes g t c ty means =
+    let takes = rw (to_z-of_z w16 c.args.last c.ranges.last, to_z-of_z w16 c.args.id c.ranges.id) at c.in_ok-take_leaf_field-in-I64.ensures.takes in
+    rw c.in-I64.is (takes c.args.schema.now ty c.args.depth)
 
 pub take_field-returns-in_ok-take_leaf_field-in-Double-clause-takes : goal.take_field-returns-in_ok-take_leaf_field-in-Double-clause-takes
 take_field-returns-in_ok-take_leaf_field-in-Double-clause-takes g t c ty means =

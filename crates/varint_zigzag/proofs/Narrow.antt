@@ -1,17 +1,15 @@
 -- The bytes at the front of some that are the shortest of their number.
-use Rattle.std.proofs.Common.{◌≡◌, ℕ, zero, suc, ◌+◌, ◌-◌, ◌*◌, ◌/◌, ◌%◌, ◌^◌, ◌<◌, ◌≤◌, Bool, true, false, nat_lt, List, [], ◌∷◌, ◌++◌, length, length-drop, take, drop, get_or, arith, refl, sym, ap, subst, ◌∙◌, add-one, Fits}
-use Rattle.std.specs.Int.{w8, w64, to_le_bytes}
-use Rattle.std.specs.Simd.Lanes.{number_l}
-use Rattle.std.proofs.lemmas.List.{get_or-drop, length-take-le, take-take}
+use Rattle.std.proofs.Common.{◌≡◌, ℕ, zero, suc, ◌+◌, ◌-◌, ◌*◌, ◌/◌, ◌%◌, ◌^◌, ◌<◌, ◌≤◌, Bool, true, false, nat_lt, List, [], ◌∷◌, take, drop, get_or, arith, refl, sym, ap, subst, ◌∙◌, add-one, Fits}
+use Rattle.std.specs.Int.{w8}
+use Rattle.std.proofs.lemmas.List.{get_or-drop}
 use Rattle.std.proofs.lemmas.Bool.Decides.{nat_tests}
 use Rattle.std.proofs.lemmas.Nat.{pow-add, pow_pos, shr_below}
 use Rattle.std.proofs.Math.Pow.{pow_mono}
 use Rattle.varint_zigzag.specs.Varint.{shortest_in, shortest}
 use Rattle.varint_zigzag.specs.Bounds.{shortest_last, shortest_more}
 use Rattle.varint_zigzag.specs.Places.{IsEnded, groups_of}
-use Rattle.varint_zigzag.specs.Copying.{IsShortestFront, Copied}
-use Rattle.varint_zigzag.proofs.Fronts.{varint_of_groups, behind_below}
-use Rattle.varint_zigzag.proofs.Laid.{laid_in, bytes_of}
+use Rattle.varint_zigzag.specs.Standing.{IsShortestFront, StandsShortest}
+use Rattle.varint_zigzag.proofs.Fronts.{varint_of_groups}
 
 -- a number whose last byte isn't 0 isn't 0
 some_number : (before : ℕ) (bytes : List ℕ) → IsEnded (suc before) bytes → 0 < get_or bytes before 0 → 0 < groups_of (suc before) bytes
@@ -51,19 +49,6 @@ shortest_front bytes before few e small last = record {
   few = omega arith;
   shortest_is = rw (add-one) (shortest_bytes 10 before bytes (omega arith) (rw add-one at e) (λ k. omega (arith, small k)) last);
 }
-
-front_below : (n : ℕ) (bytes : List ℕ) → ((k : ℕ) → Fits w8 (get_or bytes k 0)) → (i : ℕ) → get_or (take n bytes) i 0 < 256
-front_below zero bytes small i = omega arith
-front_below (suc n) [] small i = omega arith
-front_below (suc n) (b ∷ bytes) small zero = omega (arith, small 0)
-front_below (suc n) (b ∷ bytes) small (suc i) = front_below n bytes (λ k. small (suc k)) i
-
--- a word that was read is laid as its bytes
-pub word_copied : (at word : ℕ) (bytes : List ℕ) → at + 8 ≤ length bytes → ((k : ℕ) → Fits w8 (get_or bytes k 0)) → word ≡ number_l 256 (take 8 (drop at bytes)) → to_le_bytes w64 word ≡ take 8 (drop at bytes)
-word_copied at word bytes room small is =
-    let eight = take 8 (drop at bytes) in
-    let long : length eight ≡ 8 = length-take-le 8 (drop at bytes) (omega (arith, length-drop at bytes)) in
-    bytes_of eight word long (front_below 8 (drop at bytes) (behind_below at bytes small)) is
 
 -- where so few groups stand before the last, and it is so small, the number has so many bits
 record Narrow (width before last : ℕ) : Type 0 where
@@ -112,17 +97,10 @@ narrow_at width most before at bytes below within some =
     let there = subst (λ last. Narrow width before last) (sym (get_or-drop at bytes before 0)) narrow in
     record { few = omega (arith, narrow.few); small = rw (add-one) (narrow_groups before width (drop at bytes) there) }
 
--- eight bytes were laid, and so many of them are the number
-pub copied : (most width at : ℕ) (bytes old new rest : List ℕ) (to count : ℕ) → IsShortestFront (drop at bytes) count → count ≤ most → groups_of count (drop at bytes) < 2 ^ width → at + 8 ≤ length bytes → to ≤ length old
-    → new ≡ take to old ++ take 8 (drop at bytes) ++ rest → Copied most width (drop at bytes) old to new count
-copied most width at bytes old new rest to count front few narrow room within is =
-    let front_bytes = drop at bytes in
-    let long : 8 ≤ length front_bytes = omega (arith, length-drop at bytes) in
-    let own : count ≤ length front_bytes = omega (arith, front.few, long) in
-    record {
-      number = groups_of count front_bytes;
-      stands = varint_of_groups most width count front_bytes front.ended few narrow;
-      laid = laid_in old new (take 8 front_bytes) rest to count (to + count) is within refl (omega (arith, length-take-le 8 front_bytes long, front.few))
-          ∙ ap (λ xs. take to old ++ xs) (take-take count 8 front_bytes front.few ∙ front.shortest_is);
-      size = sym (length-take-le count front_bytes own) ∙ ap length front.shortest_is;
-    }
+-- the shortest bytes of a number that is narrow enough
+pub stands_shortest : (most width : ℕ) (bytes : List ℕ) (count : ℕ) → IsShortestFront bytes count → count ≤ most → groups_of count bytes < 2 ^ width → StandsShortest most width bytes count
+stands_shortest most width bytes count front few narrow = record {
+  number = groups_of count bytes;
+  stands = varint_of_groups most width count bytes front.ended few narrow;
+  shortest_is = front.shortest_is;
+}

@@ -1,5 +1,5 @@
 -- Whole numbers that are varints of folded numbers, as the Compact protocol spells them.
-use Rattle.std.specs.Prelude.{◌≡◌, ℕ, ℤ, ◌+◌, List, drop, true, false, Option, Ok}
+use Rattle.std.specs.Prelude.{◌≡◌, ℕ, ℤ, ◌+◌, List, drop, Option, Ok}
 use Rattle.varint_zigzag.specs.Varint.{varint_at, shortest}
 use Rattle.varint_zigzag.specs.Zigzag.{unfolded}
 use Rattle.thrift_value.specs.declared.kind.Kind.{Kind}
@@ -37,10 +37,3 @@ pub record SpellsVarints {T : Type 0} (bar : Item → Mark → Option Bar) (plai
   pub i16 : SpellsVarint bar plain stands_at kinds.I16 i16_value
   pub i32 : SpellsVarint bar plain stands_at kinds.I32 i32_value
   pub i64 : SpellsVarint bar plain stands_at kinds.I64 i64_value
-
--- of a protocol that doesn't say so nothing is asked
-pub reads_none : {S : Type 0} {reads : S → Hint → Step S Item} {stands_at : S → List ℕ → ℕ → Opening → List Slot → Type 0} → false ≡ true → ReadsVarints reads stands_at
-reads_none never = absurd (cc)
-
-pub spells_none : {T : Type 0} {bar : Item → Mark → Option Bar} {plain : T → Item → Mark → List ℕ} {stands_at : T → Opening → List Slot → Type 0} → false ≡ true → SpellsVarints bar plain stands_at
-spells_none never = absurd (cc)

@@ -1,8 +1,8 @@
 use Rattle.std.proofs.Common.{arith}
 use Rattle.std.proofs.lemmas.List.{get_or-drop}
 use Rattle.varint_zigzag.proofs.Fronts.{behind_below}
-use Rattle.varint_zigzag.proofs.Copies.{shortest_front}
-use Rattle.varint_zigzag.proofs.copying.shortest_at.Goals as goal
+use Rattle.varint_zigzag.proofs.Narrow.{shortest_front}
+use Rattle.varint_zigzag.proofs.standing.shortest_at.Goals as goal
 
 pub returns-clause-shortest : goal.returns-clause-shortest
 returns-clause-shortest c =
