@@ -1,11 +1,11 @@
 -- What the first four bytes say of the frame at the front.
-use Rattle.std.proofs.Common.{nat_lt, if◌then◌else◌, true, false, Bool, ◌-◌, ◌≡◌, ℕ, zero, suc, ◌+◌, ◌^◌, ◌<◌, ◌≤◌, ℤ, List, [], ◌∷◌, ◌++◌, length, take, drop, get_or, arith, refl, sym, ◌∙◌, ap, append_assoc, length-append}
+use Rattle.std.proofs.Common.{nat_lt, if◌then◌else◌, true, false, Bool, ◌-◌, ◌≡◌, ℕ, zero, suc, ◌+◌, ◌^◌, ◌<◌, ◌≤◌, ℤ, List, [], ◌∷◌, ◌++◌, length, take, drop, get_or, Some, arith, refl, sym, ◌∙◌, ap, append_assoc, length-append}
 use Rattle.std.specs.Int.{to_be_bytes, from_be_bytes, cast_signed, w32}
 use Rattle.std.proofs.lemmas.Nat.{be_bytes_4, from_be_bytes-to_be_bytes_4}
 use Rattle.std.proofs.lemmas.Bool.Decides.{nat_tests}
 use Rattle.std.proofs.lemmas.List.{take-append-drop, take-append-le, take_at, drop_at, length-take-le, length-drop, drop-drop}
 use Rattle.framed_transport.specs.Frames.{framed, IsCut}
-use Rattle.framed_transport.specs.Front.{Part, Whole, Large, front, is_part}
+use Rattle.framed_transport.specs.Front.{Part, Whole, Large, front, behind, whole_size, is_part}
 
 pub record Says (frame rest bytes : List ℕ) : Type 0 where
   pub says : from_be_bytes w32 (take 4 bytes) ≡ length frame
@@ -105,6 +105,34 @@ full_by limit n bytes z frame rest full false p false q false r = refl
 pub full_front : (limit : ℕ) (bytes : List ℕ) → length bytes ≡ limit + 4 → is_part (front limit bytes) ≡ false
 unfolding front
 full_front limit bytes full = full_by limit (from_be_bytes w32 (take 4 bytes)) bytes _ _ _ full (nat_lt (length bytes) 4) refl (nat_lt limit (from_be_bytes w32 (take 4 bytes))) refl (nat_lt (length bytes - 4) (from_be_bytes w32 (take 4 bytes))) refl
+
+-- so much less is held
+pub record Gone (limit size : ℕ) (bytes left : List ℕ) : Type 0 where
+  pub within : size ≤ limit
+  pub inside : size + 4 ≤ length bytes
+  pub left_is : drop (size + 4) bytes ≡ left
+
+gone_by : (limit n size : ℕ) (bytes : List ℕ) (z : ℤ) → (a : Bool) → nat_lt (length bytes) 4 ≡ a → (b : Bool) → nat_lt limit n ≡ b → (d : Bool) → nat_lt (length bytes - 4) n ≡ d → whole_size (if a then Part else if b then Large z else if d then Part else Whole (take n (drop 4 bytes)) (drop n (drop 4 bytes))) ≡ Some size → Gone limit size bytes (behind bytes (if a then Part else if b then Large z else if d then Part else Whole (take n (drop 4 bytes)) (drop n (drop 4 bytes))))
+gone_by limit n size bytes z true p b q d r e = absurd (cc)
+gone_by limit n size bytes z false p true q d r e = absurd (cc)
+gone_by limit n size bytes z false p false q true r e = absurd (cc)
+gone_by limit n size bytes z false p false q false r e =
+    let four : 4 ≤ length bytes = grind (arith, nat_tests, p) in
+    let fits : n ≤ limit = grind (arith, nat_tests, q) in
+    let enough : n ≤ length bytes - 4 = grind (arith, nat_tests, r) in
+    let long : length (take n (drop 4 bytes)) ≡ n = length-take-le n (drop 4 bytes) (omega (arith, length-drop 4 bytes)) in
+    let is : n ≡ size = (let same : length (take n (drop 4 bytes)) ≡ size = cc in sym long ∙ same) in
+    record {
+      within = omega (arith, is);
+      inside = omega (arith, is);
+      left_is = ap (λ k. drop k bytes) (omega (arith, is)) ∙ sym (drop-drop n 4 bytes);
+    }
+
+-- what is left where a whole frame of this size is let go
+pub whole_gone : (limit size : ℕ) (bytes : List ℕ) → whole_size (front limit bytes) ≡ Some size → Gone limit size bytes (behind bytes (front limit bytes))
+unfolding front
+whole_gone limit size bytes e =
+    gone_by limit (from_be_bytes w32 (take 4 bytes)) size bytes (cast_signed w32 (from_be_bytes w32 (take 4 bytes))) (nat_lt (length bytes) 4) refl (nat_lt limit (from_be_bytes w32 (take 4 bytes))) refl (nat_lt (length bytes - 4) (from_be_bytes w32 (take 4 bytes))) refl e
 
 -- what stands behind the frame at the front
 pub rest_after : (limit : ℕ) (bytes frame rest : List ℕ) → limit < 2 ^ 31 → IsCut limit bytes frame rest → drop (length frame + 4) bytes ≡ rest

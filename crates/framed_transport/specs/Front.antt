@@ -1,5 +1,5 @@
 -- What stands at the front of the bytes that are held.
-use Rattle.std.specs.Prelude.{ℕ, ◌-◌, ℤ, List, length, take, drop, nat_lt, if◌then◌else◌, Bool, true, false}
+use Rattle.std.specs.Prelude.{ℕ, ◌-◌, ℤ, List, length, take, drop, nat_lt, if◌then◌else◌, Bool, true, false, Option, None, Some}
 use Rattle.std.specs.Int.{from_be_bytes, cast_signed, w32}
 
 -- less than a frame, a whole one with what stands behind it, or a length that is negative or above the limit
@@ -32,3 +32,9 @@ abbrev pub is_whole : Front → Bool
 is_whole Part = false
 is_whole (Whole frame rest) = true
 is_whole (Large n) = false
+
+-- the size of the whole frame, where one stands there
+abbrev pub whole_size : Front → Option ℕ
+whole_size Part = None
+whole_size (Whole frame rest) = Some (length frame)
+whole_size (Large n) = None

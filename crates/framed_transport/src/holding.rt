@@ -1,8 +1,8 @@
 //! What has come of a stream and is not taken yet.
-ghost use Rattle.std.specs.Prelude.{◌≡◌, ◌+◌, ◌-◌, ◌^◌, ◌<◌, ◌≤◌, [], ◌++◌, ℕ, List, length, take, min, IfOk};
+ghost use Rattle.std.specs.Prelude.{◌≡◌, ◌+◌, ◌-◌, ◌^◌, ◌<◌, ◌≤◌, [], ◌++◌, ℕ, List, length, take, min, IfOk, Some};
 ghost use Rattle.gate_base.specs.Causes.{Rose};
 ghost use Rattle.framed_transport.specs.Frames.{IsCut};
-ghost use Rattle.framed_transport.specs.Front.{front, behind, Part, Whole};
+ghost use Rattle.framed_transport.specs.Front.{front, behind, whole_size, Part, Whole};
 ghost use Rattle.framed_transport.specs.Next.{Tells};
 ghost use Rattle.framed_transport.specs.Held.{Receives};
 
@@ -10,6 +10,9 @@ use gate_base::OutOfMemory;
 use gate_io::{Got, Out, Source};
 use std::alloc::Global;
 use std::marker::Model;
+
+/// A frame's length takes so many bytes.
+const LENGTH: usize = 4;
 
 /// What stands at the front of the bytes that are held.
 #[derive(Clone, Copy)]
@@ -51,7 +54,7 @@ impl FrameBuf {
         ensures { IfOk result (λ buffer. buffer ≡ record { held = []; limit = limit }) }
     {
         Ok(FrameBuf {
-            bytes: Out::open(alloc, limit + 4)?,
+            bytes: Out::open(alloc, limit + LENGTH)?,
             limit,
         })
     }
@@ -106,13 +109,22 @@ impl FrameBuf {
         next_of(self.bytes.bytes(), self.limit)
     }
 
+    /// Lets the frame at the front go, which must be a whole one of `size` bytes, as `frame` told it.
+    #[inline]
+    pub fn drop_whole(&mut self, size: usize)
+        requires { whole_size (front self.old.limit self.old.held) ≡ Some size }
+        ensures { self.new ≡ record self.old { held = behind self.old.held (front self.old.limit self.old.held) } }
+    {
+        self.bytes.drop_front(size + LENGTH);
+    }
+
     /// Lets the frame at the front go. Where none stands there, nothing changes.
     pub fn drop_frame(&mut self)
         ensures { self.new ≡ record self.old { held = behind self.old.held (front self.old.limit self.old.held) } }
     {
         if let Next::Frame(frame) = self.frame() {
-            let gone = frame.len() + 4;
-            self.bytes.drop_front(gone);
+            let size = frame.len();
+            self.drop_whole(size);
         }
     }
 }

@@ -3,6 +3,7 @@ pub mod Complete
 pub mod Draining
 pub mod Faults
 pub mod Finishing
+pub mod Gathering
 pub mod Outcome
 pub mod Posting
 pub mod Progress

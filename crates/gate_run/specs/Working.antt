@@ -129,6 +129,12 @@ pub record Waits (k : Terms) (a b : Moment) (out waiting : List ℕ) : Type 0 wh
   pub written : Appends a.written b.written (outputs k a.frames done ++ some)
   pub reported : Appends a.reported b.reported (lines k a.frames done)
 
+-- the work went on over frames that it holds, whatever was before: what comes of them waits, and nothing was written or reported
+abbrev pub Gathers : Terms → Work → Work → Type 0
+Gathers k work work' =
+    (a : Moment) (left written reported : Option (List ℕ)) → Waits k a (moment work left written reported) work.page.out.bytes work.lines.bytes
+    → Waits k a (moment work' left written reported) work'.page.out.bytes work'.lines.bytes
+
 -- ---- what is gathered is written
 
 -- the page was written and then the lines were reported, or a stream failed in between

@@ -14,12 +14,14 @@ use line_transport::{begin, close};
 use protocol_traits::Proto;
 use translate_core::{Cause, Verdict};
 
-/// Translates a frame to the end of `out`, or leaves `out` as it was.
+/// Translates a frame to the end of `out`, or leaves `out` as it was. Where `tried`, the quick way didn't pass the frame and is
+/// not gone again.
 pub fn convert_frame(
     task: &Task<'_>,
     from: Proto,
     to: Proto,
     frame: &[u8],
+    tried: bool,
     room: &mut [u8],
     out: &mut Out,
 ) -> Treatment
@@ -31,7 +33,7 @@ pub fn convert_frame(
     ensures room { out.new.room ≡ out.old.room }
     ensures written { result ≡ Treatment.WriteFault → ⊥ }
 {
-    if pass_sent(task, from, to, frame, room, out) {
+    if !tried && pass_sent(task, from, to, frame, room, out) {
         return Treatment::Passed;
     }
     match translate_sent(task, from, to, frame, room, out) {
@@ -41,9 +43,10 @@ pub fn convert_frame(
     }
 }
 
-// Appends what is to be sent of a frame that the quick way passes, with its length or an LF, and moves no verdict. False: the
-// output is as it was, which says nothing of the frame.
-fn pass_sent(
+/// Appends what is to be sent of a frame that the quick way passes, with its length or an LF, and moves no verdict. False: the
+/// output is as it was, which says nothing of the frame.
+#[inline(always)]
+pub fn pass_sent(
     task: &Task<'_>,
     from: Proto,
     to: Proto,

@@ -26,13 +26,15 @@ pub enum Treatment {
 #[derive(Clone, Copy)]
 pub struct WriteFault;
 
-/// Gathers what is written of a frame on `page`, or its line in `lines`, and says whether it passed.
+/// Gathers what is written of a frame on `page`, or its line in `lines`, and says whether it passed. Where `tried`, the quick
+/// way of a conversion didn't pass it.
 ///
 /// `WriteFault`: the output failed, and a front of what waited and of what is written of the frame was written.
 pub fn handle<O: Sink>(
     task: &Task<'_>,
     handler: &mut Handler<'_>,
     frame: &[u8],
+    tried: bool,
     number: u64,
     room: &mut [u8],
     page: &mut Page,
@@ -53,7 +55,7 @@ pub fn handle<O: Sink>(
 {
     match handler {
         Handler::Convert { from, to } => {
-            let treatment = convert_frame(task, *from, *to, frame, room, &mut page.out);
+            let treatment = convert_frame(task, *from, *to, frame, tried, room, &mut page.out);
             settle(treatment, number, lines)
         }
         Handler::Show { from } => {

@@ -10,8 +10,9 @@ ghost use Rattle.gate_run.specs.Calls.{OnStreams};
 ghost use Rattle.gate_run.specs.Outcome.{Streamed};
 ghost use Rattle.gate_run.specs.Progress.{HasRisen};
 ghost use Rattle.gate_run.specs.Rooms.{framed_room};
-ghost use Rattle.gate_run.specs.Working.{IsReady, IsCounted, IsFlushed, IsStart, IsWaiting, Closes, TakesFrom, HandlesHeld, DrainsHeld, EndsOn, FinishesOn, ConcludesOn, Processes, WritesBothOn, MakesRoomOn};
+ghost use Rattle.gate_run.specs.Working.{IsReady, IsCounted, IsFlushed, IsStart, IsWaiting, Closes, TakesFrom, Gathers, HandlesHeld, DrainsHeld, EndsOn, FinishesOn, ConcludesOn, Processes, WritesBothOn, MakesRoomOn};
 
+use crate::convert::pass_sent;
 use crate::frame::{WriteFault, handle};
 use crate::handler::Handler;
 use crate::lines::{self, LINE_ROOM};
@@ -245,13 +246,15 @@ impl<'s> Work<'s> {
         ensures cause { IfErr result (λ broken. HasRisen broken (O.faults output.old) (O.faults output.new) (E.faults report.old) (E.faults report.new)) }
     {
         'frames: loop {
+            let tried = self.pass_frames(task, room);
             self.inbox.pass_over();
             let frame = match self.inbox.message() {
                 Next::NeedMore => return Ok(None),
                 Next::Exceeds(excess) => return Ok(Some(excess)),
                 Next::Message(frame) => frame,
             };
-            let wanted = framed_room(frame.len());
+            let size = frame.len();
+            let wanted = framed_room(size);
             match make_room(&mut self.page, &mut self.lines, wanted, output, report) {
                 Ok(()) => (),
                 Err(broken) => return Err(broken),
@@ -261,6 +264,7 @@ impl<'s> Work<'s> {
                 task,
                 &mut self.handler,
                 frame,
+                tried,
                 number,
                 room,
                 &mut self.page,
@@ -272,7 +276,39 @@ impl<'s> Work<'s> {
             };
             self.number = number;
             self.refused |= !passed;
-            self.inbox.drop_message();
+            self.inbox.drop_whole(size);
+        }
+    }
+
+    // Converts the frames at the front as long as they pass by the quick way and there is room for what is written of them.
+    // True: the next one stands there and doesn't go that way.
+    #[inline(never)]
+    fn pass_frames(&mut self, task: &Task<'_>, room: &mut [u8]) -> bool
+        requires limit { task.now.limit ≤ GREATEST_LIMIT }
+        requires room { task.now.limit ≤ length room.old }
+        requires ready { IsReady task.now self.old }
+        ensures ready { IsReady task.now self.new }
+        ensures gathered { Gathers task.now self.old self.new }
+        ensures fewer { length self.new.inbox.held ≤ length self.old.inbox.held }
+    {
+        let Handler::Convert { from, to } = self.handler else {
+            return false;
+        };
+        self.inbox.pass_over();
+        'frames: loop {
+            let Next::Message(frame) = self.inbox.message() else {
+                return false;
+            };
+            let size = frame.len();
+            if framed_room(size) > self.page.spare() {
+                return false;
+            }
+            if !pass_sent(task, from, to, frame, room, &mut self.page.out) {
+                return true;
+            }
+            self.number += 1;
+            self.inbox.drop_whole(size);
+            self.inbox.pass_over();
         }
     }
 

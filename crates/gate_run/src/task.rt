@@ -15,7 +15,7 @@ use gate_base::OutOfMemory;
 use gate_io::{Out, Sink};
 use line_transport::Transport;
 use message_show::{Shown, show};
-use protocol_pairs::{passes, translate_by_events};
+use protocol_pairs::{translate_by_events, translate_quickly};
 use protocol_traits::Proto;
 use std::alloc::Global;
 use std::marker::Model;
@@ -109,6 +109,7 @@ impl<'s> Task<'s> {
 
     /// Whether a frame's translation was appended by the quick way. False: `out` is as it was, which says nothing of the
     /// frame.
+    #[inline(always)]
     pub fn passes(
         &self,
         from: Proto,
@@ -126,7 +127,7 @@ impl<'s> Task<'s> {
         ensures passes { result ≡ true → (info : HeadInfo) × IsJudged (Passed info) out.old.bytes out.new.bytes (judged_by self.now from to frame.now) }
     {
         let route = Route::ByName(self.service);
-        passes(self.schema, route, from, to, frame, room, out)
+        translate_quickly::<bool>(self.schema, route, from, to, frame, room, out)
     }
 
     /// Translates a frame that the quick way didn't pass to the end of `out`, or leaves `out` as it was.

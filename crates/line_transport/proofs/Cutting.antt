@@ -1,5 +1,5 @@
 -- What stands at the front.
-use Rattle.std.proofs.Common.{◌≡◌, ℕ, ◌+◌, ◌^◌, ◌<◌, ◌≤◌, nat_lt, if◌then◌else◌, true, false, Bool, List, [], ◌∷◌, ◌++◌, length, take, drop, arith, refl, sym, ◌∙◌, ap, subst, append_assoc, length-append}
+use Rattle.std.proofs.Common.{◌≡◌, ℕ, ◌+◌, ◌^◌, ◌<◌, ◌≤◌, nat_lt, if◌then◌else◌, true, false, Bool, List, [], ◌∷◌, ◌++◌, length, take, drop, arith, refl, sym, ◌∙◌, ap, subst, append_assoc, length-append, Some}
 use Rattle.std.proofs.lemmas.Bool.Decides.{nat_tests}
 use Rattle.std.proofs.lemmas.List.{take_at, drop_at, length-take-le, take-append-drop}
 use Rattle.framed_transport.specs.Frames.{framed}
@@ -7,7 +7,7 @@ use Rattle.framed_transport.specs.Front as frames
 use Rattle.framed_transport.proofs.Cutting as framing
 use Rattle.line_transport.specs.Buffers.{lead}
 use Rattle.line_transport.specs.Cuts.{sent, IsCut}
-use Rattle.line_transport.specs.Front.{Part, Whole, Exceeds, of_frame, front, line_front}
+use Rattle.line_transport.specs.Front.{Part, Whole, Exceeds, of_frame, front, behind, whole_size, line_front}
 use Rattle.line_transport.specs.Lines.{IsLine, ended, line_length}
 use Rattle.line_transport.specs.declared.transport.Excess.{Excess}
 use Rattle.line_transport.specs.declared.transport.Excess.TheVariants as excesses
@@ -94,6 +94,36 @@ line_over limit bytes x e =
 pub too_long : (limit : ℕ) (bytes : List ℕ) → limit < line_length bytes → line_front limit bytes ≡ Exceeds excesses.Line
 unfolding line_front
 too_long limit bytes over = (let e : nat_lt limit (line_length bytes) ≡ true = grind (arith, nat_tests) in rw e refl)
+
+-- ---- letting a line go
+
+-- so much less is held
+pub record Gone (limit size : ℕ) (bytes left : List ℕ) : Type 0 where
+  pub within : size ≤ limit
+  pub inside : size + 1 ≤ length bytes
+  pub left_is : drop (size + 1) bytes ≡ left
+
+gone_by : (limit n size : ℕ) (bytes : List ℕ) → (a : Bool) → nat_lt limit n ≡ a → (b : Bool) → nat_lt n (length bytes) ≡ b
+    → whole_size (if a then Exceeds excesses.Line else if b then Whole (take n bytes) (drop (n + 1) bytes) else Part) ≡ Some size
+    → Gone limit size bytes (behind bytes (if a then Exceeds excesses.Line else if b then Whole (take n bytes) (drop (n + 1) bytes) else Part))
+gone_by limit n size bytes true p b q e = absurd (cc)
+gone_by limit n size bytes false p false q e = absurd (cc)
+gone_by limit n size bytes false p true q e =
+    let low : n < length bytes = grind (arith, nat_tests, q) in
+    let fits : n ≤ limit = grind (arith, nat_tests, p) in
+    let long : length (take n bytes) ≡ n = length-take-le n bytes (omega (arith, low)) in
+    let is : n ≡ size = (let same : length (take n bytes) ≡ size = cc in sym long ∙ same) in
+    record {
+      within = omega (arith, fits, is);
+      inside = omega (arith, low, is);
+      left_is = ap (λ k. drop (k + 1) bytes) (sym is);
+    }
+
+-- what is left where a whole line of this size is let go
+pub line_gone : (limit size : ℕ) (bytes : List ℕ) → whole_size (line_front limit bytes) ≡ Some size → Gone limit size bytes (behind bytes (line_front limit bytes))
+unfolding line_front
+line_gone limit size bytes e =
+    gone_by limit (line_length bytes) size bytes (nat_lt limit (line_length bytes)) refl (nat_lt (line_length bytes) (length bytes)) refl e
 
 -- ---- what the code finds
 

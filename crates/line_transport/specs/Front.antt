@@ -1,5 +1,5 @@
 -- What stands at the front of the bytes that are held.
-use Rattle.std.specs.Prelude.{ℕ, ◌+◌, List, length, take, drop, nat_lt, if◌then◌else◌, Bool, true, false}
+use Rattle.std.specs.Prelude.{ℕ, ◌+◌, List, length, take, drop, nat_lt, if◌then◌else◌, Bool, true, false, Option, None, Some}
 use Rattle.framed_transport.specs.Front as frames
 use Rattle.line_transport.specs.Lines.{line_length, is_blank}
 use Rattle.line_transport.specs.declared.transport.Excess.{Excess}
@@ -34,6 +34,12 @@ abbrev pub behind : List ℕ → Front → List ℕ
 behind held (Whole message rest) = rest
 behind held Part = held
 behind held (Exceeds e) = held
+
+-- the size of the whole message, where one stands there
+abbrev pub whole_size : Front → Option ℕ
+whole_size Part = None
+whole_size (Whole message rest) = Some (length message)
+whole_size (Exceeds e) = None
 
 abbrev pub is_whole : Front → Bool
 is_whole Part = false

@@ -1,9 +1,9 @@
 //! What has come of a stream of lines and is not taken yet.
-ghost use Rattle.std.specs.Prelude.{◌≡◌, ◌+◌, ◌-◌, ◌^◌, ◌<◌, ◌≤◌, [], ◌∷◌, ◌++◌, ℕ, List, length, slice_index, true, IfOk};
+ghost use Rattle.std.specs.Prelude.{◌≡◌, ◌+◌, ◌-◌, ◌^◌, ◌<◌, ◌≤◌, [], ◌∷◌, ◌++◌, ℕ, List, length, slice_index, true, IfOk, Some};
 ghost use Rattle.gate_base.specs.Causes.{Rose};
 ghost use Rattle.framed_transport.specs.Held.{Held, Receives};
 ghost use Rattle.line_transport.specs.Buffers.{Tells, PassesBlank};
-ghost use Rattle.line_transport.specs.Front.{line_front, behind, is_blank_front};
+ghost use Rattle.line_transport.specs.Front.{line_front, behind, whole_size, is_blank_front};
 ghost use Rattle.line_transport.specs.Lines.{line_length, ended, is_blank};
 
 use crate::transport::{Excess, Next};
@@ -16,6 +16,9 @@ use std::marker::Model;
 
 /// A line has the room of a frame: so many bytes more than the limit.
 const LENGTH: usize = 4;
+
+/// The length of the LF behind a line.
+const FEED: usize = 1;
 
 /// The bytes of a stream that have come and are not taken, at most a line of the limit and four bytes. Only `open` takes
 /// memory. No byte is searched for an LF twice.
@@ -86,14 +89,22 @@ impl LineBuf {
         next_of(self.bytes.bytes(), self.searched, self.limit)
     }
 
-    /// Lets the line at the front go, with its LF. Where none stands there, nothing changes.
-    pub fn drop_line(&mut self)
+    /// Lets the line at the front go with its LF, which must be a whole one of `size` bytes, as `line` told it.
+    pub fn drop_whole(&mut self, size: usize)
+        requires { whole_size (line_front self.old.limit self.old.held) ≡ Some size }
+        ensures { self.new ≡ record self.old { held = behind self.old.held (line_front self.old.limit self.old.held) } }
+    {
+        self.bytes.drop_front(size + FEED);
+        self.searched = 0;
+    }
+
+    // The same where a line may stand. Where none does, nothing changes.
+    fn drop_line(&mut self)
         ensures { self.new ≡ record self.old { held = behind self.old.held (line_front self.old.limit self.old.held) } }
     {
         if let Next::Message(line) = self.line() {
-            let gone = line.len() + 1;
-            self.bytes.drop_front(gone);
-            self.searched = 0;
+            let size = line.len();
+            self.drop_whole(size);
         }
     }
 

@@ -1,9 +1,9 @@
 //! What has come of a stream of frames or of lines and is not taken yet.
-ghost use Rattle.std.specs.Prelude.{◌≡◌, ◌+◌, ◌-◌, ◌^◌, ◌<◌, ◌≤◌, [], ◌++◌, ℕ, List, length, IfOk};
+ghost use Rattle.std.specs.Prelude.{◌≡◌, ◌+◌, ◌-◌, ◌^◌, ◌<◌, ◌≤◌, [], ◌++◌, ℕ, List, length, IfOk, Some};
 ghost use Rattle.gate_base.specs.Causes.{Rose};
 ghost use Rattle.line_transport.specs.Buffers.{Tells, TellsFrame, Receives, PassesOver, front_of};
 ghost use Rattle.line_transport.specs.Cuts.{IsCut, at_end};
-ghost use Rattle.line_transport.specs.Front.{Whole, Part, behind};
+ghost use Rattle.line_transport.specs.Front.{Whole, Part, behind, whole_size};
 
 use crate::lines::LineBuf;
 use crate::transport::{Excess, Next, Transport};
@@ -83,6 +83,7 @@ impl MessageBuf {
     }
 
     /// Lets what is passed over go where it stands at the front: blank lines.
+    #[inline(always)]
     pub fn pass_over(&mut self)
         ensures { PassesOver self.old self.new }
     {
@@ -96,6 +97,7 @@ impl MessageBuf {
     ///
     /// `Exceeds`: a frame's length is negative or above the limit, or a line is longer. `NeedMore`: it isn't so, and no whole
     /// message is held.
+    #[inline]
     pub fn message(&self) -> Next<'_>
         ensures exact { Tells result (front_of self.now) }
         ensures cut { (message rest : List ℕ) → front_of self.now ≡ Whole message rest → IsCut self.now.transport self.now.limit self.now.held message rest }
@@ -107,13 +109,16 @@ impl MessageBuf {
         }
     }
 
-    /// Lets the message at the front go. Where none stands there, nothing changes.
-    pub fn drop_message(&mut self)
+    /// Lets the message at the front go, which must be a whole one of `size` bytes, as `message` told it. Its length isn't read
+    /// and its LF not searched for again.
+    #[inline]
+    pub fn drop_whole(&mut self, size: usize)
+        requires { whole_size (front_of self.old) ≡ Some size }
         ensures { self.new ≡ record self.old { held = behind self.old.held (front_of self.old) } }
     {
         match &mut self.kind {
-            Kind::Frames(frames) => frames.drop_frame(),
-            Kind::Lines(lines) => lines.drop_line(),
+            Kind::Frames(frames) => frames.drop_whole(size),
+            Kind::Lines(lines) => lines.drop_whole(size),
         }
     }
 

@@ -1,4 +1,4 @@
-use Rattle.std.proofs.Common.{◌≡◌, ℕ, zero, suc, ◌<◌, List, [], ◌∷◌, get_or, arith}
+use Rattle.std.proofs.Common.{ℕ, zero, suc, ◌<◌, List, [], ◌∷◌, get_or, arith}
 use Rattle.gate_base.specs.Bytes.{AreBytes}
 use Rattle.framed_transport.proofs.Splitting.{split}
 use Rattle.framed_transport.proofs.laws.a_stream_is_split.Goals as goal
