@@ -1,5 +1,6 @@
 //! What a session holds of one side.
-ghost use Rattle.std.specs.Prelude.{◌≡◌, ◌+◌, ◌-◌, ◌^◌, ◌<◌, ◌≤◌, length, take, min, IfOk};
+ghost use Rattle.std.specs.Prelude.{◌≡◌, ◌+◌, ◌-◌, ◌^◌, ◌<◌, ◌≤◌, length, take, min, IfOk, Some};
+ghost use Rattle.framed_transport.specs.Front.{front, whole_size};
 ghost use Rattle.session_core.specs.Steps.{is_none};
 ghost use Rattle.session_core.specs.Halves.{opened, fed, let_go, without_frame};
 ghost use Rattle.session_core.specs.Rooms.{due_room};
@@ -61,11 +62,12 @@ impl Half {
         self.due.drop_front(n);
     }
 
-    /// Lets its front frame go, and counts it.
-    pub fn take_frame(&mut self)
+    /// Lets its front frame go, which must be a whole one of `size` bytes, and counts it.
+    pub fn take_frame(&mut self, size: usize)
+        requires { whole_size (front self.old.held.limit self.old.held.held) ≡ Some size }
         ensures { self.new ≡ without_frame self.old }
     {
-        self.held.drop_frame();
+        self.held.drop_whole(size);
         self.count = self.count.saturating_add(1);
     }
 }

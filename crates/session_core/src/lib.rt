@@ -15,7 +15,7 @@ mod session;
 mod state;
 
 pub use half::due_room;
-pub use judge::{Call, ClientJudged, Judge, UpstreamJudged};
+pub use judge::{Call, CallLook, ClientJudged, Judge, UpstreamJudged};
 pub use laws::{all_that_is_due_was_sent, what_is_due_is_one, what_was_sent_is_a_front};
 pub use notes::{Notes, Refusal, Silent};
 pub use outcome::{Halt, Outcome};

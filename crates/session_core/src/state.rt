@@ -22,7 +22,7 @@
 //!
 //! A session with an outcome takes nothing more.
 ghost use Rattle.std.specs.Prelude.{◌≡◌, ◌+◌, ◌^◌, ◌<◌, ◌≤◌, [], ◌++◌, length, take, min, ◌-◌, ℕ, is_some, IfOk, true, not, ◌&&◌, Some, None, if◌then◌else◌};
-ghost use Rattle.framed_transport.specs.Front.{front, is_part, is_whole};
+ghost use Rattle.framed_transport.specs.Front.{front, whole_size, is_part, is_whole};
 ghost use Rattle.session_core.specs.Standing.{Standing, History, begun};
 ghost use Rattle.session_core.specs.Fits.{told};
 ghost use Rattle.session_core.specs.Steps.{outcome_of, IsStill, is_none, by_upstream, by_client, at_end, Move, Waits};
@@ -32,9 +32,9 @@ ghost use Rattle.session_core.specs.Halves.{fed, let_go, ended};
 ghost use Rattle.session_core.specs.Working.{standing, limit_of, half_of, with_half, of_upstream_in, of_client_in, IsReady, Works, Keeps, IsSettledBy, FitsOn, IsSound, Comes, GoesOn, Cuts, ends_step, ending_of, IsFound, without_reply, without_call, ComesRefused, TakesNoMoreOf, told_of_reply, told_of_call};
 ghost use Rattle.session_core.specs.Looks.{came, stopped, stopped_by};
 
-use crate::framing::{answer_call, judge_client, judge_upstream};
+use crate::framing::{answer_call, judge_client, judge_upstream, pass_call, pass_reply};
 use crate::half::Half;
-use crate::judge::{Call, ClientJudged, Judge, UpstreamJudged};
+use crate::judge::{Call, CallLook, ClientJudged, Judge, UpstreamJudged};
 use crate::notes::{Notes, note_call, note_reply};
 use crate::outcome::{Halt, Outcome};
 use circular_buffer::HeapCircularBuffer;
@@ -157,12 +157,45 @@ impl State {
         }
         match self.upstream.held.frame() {
             Next::NeedMore => self.upstream_ends(),
+            Next::TooLarge(_) => self.reply_step(judge, notes),
+            Next::Frame(frame) => {
+                // (looked up here, as most looks find no frame)
+                let Some(&call) = self.calls.front() else {
+                    return Look::Waits;
+                };
+                if pass_reply(judge, call, frame, &mut self.client.due) {
+                    let size = frame.len();
+                    self.close_call(size);
+                    return Look::Takes;
+                }
+                self.reply_step(judge, notes)
+            }
+        }
+    }
+
+    /// The same for a frame that a quick look doesn't pass.
+    #[inline(never)]
+    fn reply_step<J: Judge, N: Notes>(&mut self, judge: &mut J, notes: &mut N) -> Look
+        requires works { Works (J.rules judge.old) (J.longest judge.old) self.old }
+        ensures same { judge.new ≡ judge.old }
+        ensures keeps { Keeps (J.rules judge.old) self.old self.new }
+        ensures comes { Comes (came result self.new.halt) (of_upstream_in (J.rules judge.old) self.old) (standing self.old) (standing self.new) }
+        ensures cut { result ≡ Look.Takes → Cuts self.old.upstream.held.limit self.old.upstream.held.held }
+        ensures told { N.tells notes.old notes.new (told_of_reply (J.rules judge.old) self.old (came result self.new.halt)) }
+    {
+        if self.calls.is_empty() {
+            return Look::Waits;
+        }
+        if !self.client.is_paid() {
+            return self.upstream_ends();
+        }
+        match self.upstream.held.frame() {
+            Next::NeedMore => self.upstream_ends(),
             Next::TooLarge(length) => {
                 self.halt = Halt::TooLarge(length);
                 Look::Halts
             }
             Next::Frame(frame) => {
-                // (looked up here, as most looks find no frame)
                 let Some(&call) = self.calls.front() else {
                     return Look::Waits;
                 };
@@ -174,7 +207,8 @@ impl State {
                     }
                     UpstreamJudged::Answers(refused) => {
                         note_reply(notes, next_of(self.upstream.count), refused, frame);
-                        self.close_call();
+                        let size = frame.len();
+                        self.close_call(size);
                         Look::Takes
                     }
                 }
@@ -199,13 +233,14 @@ impl State {
         }
     }
 
-    /// Lets the upstream's front frame and the oldest call go.
-    fn close_call(&mut self)
+    /// Lets the upstream's front frame, a whole one of `size` bytes, and the oldest call go.
+    fn close_call(&mut self, size: usize)
+        requires { whole_size (front self.old.upstream.held.limit self.old.upstream.held.held) ≡ Some size }
         ensures stands { standing self.new ≡ without_reply self.old }
         ensures kept { (self.new.known ≡ self.old.known) × (self.new.client ≡ self.old.client) }
         ensures ready { (limit max_calls : ℕ) → IsReady limit max_calls self.old → IsReady limit max_calls self.new }
     {
-        self.upstream.take_frame();
+        self.upstream.take_frame(size);
         self.calls.pop_front();
     }
 
@@ -222,7 +257,7 @@ impl State {
             return Look::Waits;
         }
         let Some(waiting) = self.known else {
-            return self.judge_step(judge, notes);
+            return self.call_step(judge, notes);
         };
         self.stored_step(judge, waiting, notes)
     }
@@ -254,9 +289,43 @@ impl State {
         }
     }
 
+    /// Takes the client's front frame where a quick look passes it, and judges it else.
+    fn call_step<J: Judge, N: Notes>(&mut self, judge: &mut J, notes: &mut N) -> Look
+        requires works { Works (J.rules judge.old) (J.longest judge.old) self.old }
+        requires unknown { self.old.known ≡ None }
+        requires empty { self.old.upstream.due.bytes ≡ [] }
+        requires few { length self.old.calls.items < self.old.calls.capacity }
+        ensures same { judge.new ≡ judge.old }
+        ensures keeps { Keeps (J.rules judge.old) self.old self.new }
+        ensures comes { Comes (came result self.new.halt) (of_client_in (J.rules judge.old) self.old) (standing self.old) (standing self.new) }
+        ensures cut { result ≡ Look.Takes → Cuts self.old.client.held.limit self.old.client.held.held }
+        ensures told { N.tells notes.old notes.new (told_of_call (J.rules judge.old) self.old (came result self.new.halt)) }
+    {
+        match self.client.held.frame() {
+            Next::NeedMore => Look::Waits,
+            Next::TooLarge(_) => self.judge_step(judge, notes),
+            Next::Frame(frame) => match pass_call(judge, frame, &mut self.upstream.due) {
+                CallLook::Opens(call) => {
+                    self.calls.push_back(call);
+                    let size = frame.len();
+                    self.count_frame(size);
+                    Look::Takes
+                }
+                CallLook::Goes => {
+                    let size = frame.len();
+                    self.count_frame(size);
+                    Look::Takes
+                }
+                CallLook::Nothing => self.judge_step(judge, notes),
+            },
+        }
+    }
+
     /// Judges the client's front frame, and takes it or stores the verdict.
+    #[inline(never)]
     fn judge_step<J: Judge, N: Notes>(&mut self, judge: &mut J, notes: &mut N) -> Look
         requires works { Works (J.rules judge.old) (J.longest judge.old) self.old }
+        requires unknown { self.old.known ≡ None }
         requires empty { self.old.upstream.due.bytes ≡ [] }
         requires few { length self.old.calls.items < self.old.calls.capacity }
         ensures same { judge.new ≡ judge.old }
@@ -274,17 +343,20 @@ impl State {
             Next::Frame(frame) => match judge_client(judge, frame, &mut self.upstream.due) {
                 ClientJudged::Opens(call) => {
                     self.calls.push_back(call);
-                    self.count_frame();
+                    let size = frame.len();
+                    self.count_frame(size);
                     Look::Takes
                 }
                 ClientJudged::Goes => {
-                    self.count_frame();
+                    let size = frame.len();
+                    self.count_frame(size);
                     Look::Takes
                 }
                 ClientJudged::Dropped(cause) => {
                     note_call(notes, next_of(self.client.count), cause, true, frame);
                     self.upstream.due.cut(0);
-                    self.count_frame();
+                    let size = frame.len();
+                    self.count_frame(size);
                     Look::Takes
                 }
                 ClientJudged::Refused(cause) => {
@@ -302,14 +374,14 @@ impl State {
         }
     }
 
-    /// Lets the client's front frame go.
-    fn count_frame(&mut self)
+    /// Lets the client's front frame go, a whole one of `size` bytes.
+    fn count_frame(&mut self, size: usize)
+        requires { whole_size (front self.old.client.held.limit self.old.client.held.held) ≡ Some size }
         ensures stands { standing self.new ≡ without_call self.old }
-        ensures unknown { self.new.known ≡ None }
+        ensures kept { self.new.known ≡ self.old.known }
         ensures ready { (limit max_calls : ℕ) → IsReady limit max_calls self.old → IsReady limit max_calls self.new }
     {
-        self.client.take_frame();
-        self.known = None;
+        self.client.take_frame(size);
     }
 
     /// Answers the client's front frame in its turn.
@@ -333,7 +405,9 @@ impl State {
         if let Next::Frame(frame) = self.client.held.frame() {
             answer_call(judge, frame, cause, &mut self.client.due);
             note_call(notes, next_of(self.client.count), cause, false, frame);
-            self.count_frame();
+            let size = frame.len();
+            self.count_frame(size);
+            self.known = None;
             return Look::Takes;
         }
         Look::Waits
@@ -381,19 +455,20 @@ impl State {
         !self.client.is_paid() || !self.upstream.is_paid()
     }
 
-    /// The outcome where no frame can be taken.
+    /// Keeps the outcome where no frame can be taken.
     #[inline(never)]
-    fn ending(&self, stop: Stop) -> Option<Outcome>
-        requires { self.now.upstream.held.limit ≡ limit_of self.now }
-        ensures { result ≡ ending_of (limit_of self.now) (standing self.now) (stopped stop self.now.halt) }
+    fn keep_ending(&mut self, stop: Stop)
+        requires { self.old.upstream.held.limit ≡ limit_of self.old }
+        ensures { self.new ≡ record self.old { outcome = ending_of (limit_of self.old) (standing self.old) (stopped stop self.old.halt) } }
     {
         if self.owes() {
-            return None;
+            self.outcome = None;
+            return;
         }
         match stop {
-            Stop::Upstream => Some(self.upstream_ending(self.halt)),
-            Stop::Client => self.client_ending(self.halt),
-            Stop::Waits => self.end_ending(),
+            Stop::Upstream => self.outcome = Some(self.upstream_ending(self.halt)),
+            Stop::Client => self.outcome = self.client_ending(self.halt),
+            Stop::Waits => self.outcome = self.end_ending(),
         }
     }
 
@@ -459,7 +534,7 @@ impl State {
         if self.owes() && self.outcome.is_none() {
             return;
         }
-        self.outcome = self.ending(stop);
+        self.keep_ending(stop);
     }
 
     /// Takes bytes of a side, as long as there is room and no outcome.

@@ -2,6 +2,7 @@
 ghost use Rattle.std.specs.Prelude.{◌≡◌, ◌+◌, ◌^◌, ◌<◌, ◌≤◌, ◌++◌, Some, length, take, drop, IfSome};
 ghost use Rattle.protocol_pairs.specs.Pairs.{judged};
 ghost use Rattle.protocol_traits.specs.Room.{room_for};
+ghost use Rattle.session_core.specs.Quick.{seen_as};
 ghost use Rattle.session_judge.specs.Client.{is_answered, call_of, passed_on, refused, of_client, onward, output_of};
 ghost use Rattle.session_judge.specs.declared.calls.CallSeen.{CallSeen};
 ghost use Rattle.session_judge.specs.Quick.{client_told, PassedOn};
@@ -9,7 +10,7 @@ ghost use Rattle.session_judge.specs.Quick.{client_told, PassedOn};
 use gate_io::Out;
 use protocol_pairs::{Outcome, translate_by_events, translate_quickly};
 use protocol_traits::Proto;
-use session_core::{Call, ClientJudged, Halt};
+use session_core::{Call, CallLook, ClientJudged, Halt};
 use thrift_value::MessageType;
 use translate_core::{Cause, HeadInfo, Route, Verdict};
 use type_tables::{MethodInfo, Schema, ServiceId, StructId};
@@ -68,12 +69,12 @@ fn call_seen(method: Option<MethodInfo>) -> CallSeen
     }
 }
 
-/// Judges a frame of the client, and appends what goes to the upstream where it is passed.
+/// Takes a quick look at a frame of the client, and appends what goes to the upstream where it is passed.
 ///
 /// A reply or an exception, which no client sends, is gone through like a call, and what was written of it is let go: it ends
 /// the session, and calls, which come by the million, have their header read once.
 #[inline(always)]
-pub fn judge_client(
+pub fn pass_call(
     schema: &Schema,
     service: Option<ServiceId>,
     from: Proto,
@@ -81,34 +82,35 @@ pub fn judge_client(
     frame: &[u8],
     room: &mut [u8],
     out: &mut Out,
-) -> ClientJudged
+) -> CallLook
     requires service { IfSome service (λ s. s.0 < length schema.now.services) }
     requires room { length frame.now ≤ length room.old }
     requires size { length frame.now < 2 ^ 31 }
     requires fits { length out.old.bytes + room_for (length frame.now) ≤ out.old.room }
-    ensures verdict { result ≡ of_client (judged schema.now (Route.ByName service) from to frame.now).verdict }
-    ensures out { out.new ≡ record out.old { bytes = out.old.bytes ++ output_of (judged schema.now (Route.ByName service) from to frame.now) } }
+    ensures verdict { IfSome (seen_as result) (λ told. told ≡ of_client (judged schema.now (Route.ByName service) from to frame.now).verdict) }
+    ensures out { IfSome (seen_as result) (λ told. out.new ≡ record out.old { bytes = out.old.bytes ++ output_of (judged schema.now (Route.ByName service) from to frame.now) }) }
+    ensures left { result ≡ CallLook.Nothing → out.new ≡ out.old }
     ensures within { length out.new.bytes ≤ out.new.room }
 {
     let start = out.bytes().len();
     let route = Route::ByName(service);
     match translate_quickly::<CallSeen>(schema, route, from, to, frame, room, out) {
-        CallSeen::Known(reply) => ClientJudged::Opens(Call {
+        CallSeen::Known(reply) => CallLook::Opens(Call {
             result: Some(reply),
         }),
-        CallSeen::Unknown => ClientJudged::Opens(Call { result: None }),
-        CallSeen::Goes => ClientJudged::Goes,
+        CallSeen::Unknown => CallLook::Opens(Call { result: None }),
+        CallSeen::Goes => CallLook::Goes,
         CallSeen::WrongWay => {
             out.cut(start);
-            ClientJudged::Halts(Halt::WrongWay)
+            CallLook::Nothing
         }
-        CallSeen::Nothing => judge_by_events(schema, service, from, to, frame, room, out),
+        CallSeen::Nothing => CallLook::Nothing,
     }
 }
 
-/// The same for a frame that the quick way didn't take.
+/// Judges a frame of the client, and appends what goes to the upstream where it is passed.
 #[inline(never)]
-fn judge_by_events(
+pub fn judge_client(
     schema: &Schema,
     service: Option<ServiceId>,
     from: Proto,

@@ -2,14 +2,14 @@
 ghost use Rattle.std.specs.Prelude.{◌≡◌, ◌^◌, ◌<◌, IfOk, IfSome, length};
 ghost use Rattle.session_judge.specs.Setups.{setting_of};
 
-use crate::calls::judge_client;
-use crate::replies::judge_reply;
+use crate::calls::{judge_client, pass_call};
+use crate::replies::{judge_by_events, pass_reply};
 use crate::setup::Setup;
 use gate_base::OutOfMemory;
 use gate_io::Out;
 use protocol_pairs::answer;
 use protocol_traits::Proto;
-use session_core::{Call, ClientJudged, Judge, UpstreamJudged};
+use session_core::{Call, CallLook, ClientJudged, Judge, UpstreamJudged};
 use std::alloc::Global;
 use std::marker::Model;
 use translate_core::Cause;
@@ -64,7 +64,14 @@ impl<'s> Judge for PairJudge<'s> {
 
     ghost longest = { λ j. j.longest };
 
-    #[inline(never)]
+    #[inline(always)]
+    fn pass_call(&mut self, frame: &[u8], out: &mut Out) -> CallLook {
+        let (from, to) = (self.client, self.upstream);
+        self.room.clear();
+        let room = self.room.tail(frame.len());
+        pass_call(self.schema, self.service, from, to, frame, room, out)
+    }
+
     fn client(&mut self, frame: &[u8], out: &mut Out) -> ClientJudged {
         let (from, to) = (self.client, self.upstream);
         self.room.clear();
@@ -79,11 +86,18 @@ impl<'s> Judge for PairJudge<'s> {
         answer(own, own, frame, room, &cause, out);
     }
 
-    #[inline(never)]
+    #[inline(always)]
+    fn pass_reply(&mut self, call: Call, frame: &[u8], out: &mut Out) -> bool {
+        let (from, to) = (self.upstream, self.client);
+        self.room.clear();
+        let room = self.room.tail(frame.len());
+        pass_reply(self.schema, call.result, from, to, frame, room, out)
+    }
+
     fn upstream(&mut self, call: Call, frame: &[u8], out: &mut Out) -> UpstreamJudged {
         let (from, to) = (self.upstream, self.client);
         self.room.clear();
         let room = self.room.tail(frame.len());
-        judge_reply(self.schema, call.result, from, to, frame, room, out)
+        judge_by_events(self.schema, call.result, from, to, frame, room, out)
     }
 }

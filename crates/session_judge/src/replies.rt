@@ -1,5 +1,5 @@
 //! What becomes of a frame of the upstream.
-ghost use Rattle.std.specs.Prelude.{◌≡◌, ◌+◌, ◌^◌, ◌<◌, ◌≤◌, ◌++◌, Some, None, length, take, drop};
+ghost use Rattle.std.specs.Prelude.{◌≡◌, ◌+◌, ◌^◌, ◌<◌, ◌≤◌, ◌++◌, Some, None, length, take, drop, true, false};
 ghost use Rattle.translate_core.specs.Routes.{IsKnownRoute};
 ghost use Rattle.protocol_pairs.specs.Pairs.{judged, answered};
 ghost use Rattle.protocol_traits.specs.Room.{room_for};
@@ -51,9 +51,40 @@ fn seen_of(mtype: MessageType) -> ReplySeen
     }
 }
 
-/// Judges a frame of the upstream as the reply of this struct, and appends what goes to the client.
+/// Whether a quick look passes a frame of the upstream as the reply of this struct: then what goes to the client is appended.
 ///
 /// A call, which no upstream sends, is gone through like a reply, and what was written of it is let go.
+#[inline(always)]
+pub fn pass_reply(
+    schema: &Schema,
+    reply: Option<StructId>,
+    from: Proto,
+    to: Proto,
+    frame: &[u8],
+    room: &mut [u8],
+    out: &mut Out,
+) -> bool
+    requires room { length frame.now ≤ length room.old }
+    requires size { length frame.now < 2 ^ 31 }
+    requires fits { length out.old.bytes + room_for (length frame.now) ≤ out.old.room }
+    ensures verdict { result ≡ true → of_upstream (judged schema.now (Route.Answer (expected schema.now reply)) from to frame.now).verdict ≡ UpstreamJudged.Answers None }
+    ensures out { result ≡ true → out.new ≡ record out.old { bytes = out.old.bytes ++ reply_bytes schema.now reply from to frame.now } }
+    ensures left { result ≡ false → out.new ≡ out.old }
+    ensures within { length out.new.bytes ≤ out.new.room }
+{
+    let start = out.bytes().len();
+    let route = Route::Answer(expected(schema, reply));
+    match translate_quickly::<ReplySeen>(schema, route, from, to, frame, room, out) {
+        ReplySeen::Answers => true,
+        ReplySeen::WrongWay => {
+            out.cut(start);
+            false
+        }
+        ReplySeen::Nothing => false,
+    }
+}
+
+/// Judges a frame of the upstream as the reply of this struct, and appends what goes to the client.
 #[inline(always)]
 pub fn judge_reply(
     schema: &Schema,
@@ -71,21 +102,15 @@ pub fn judge_reply(
     ensures out { out.new ≡ record out.old { bytes = out.old.bytes ++ reply_bytes schema.now reply from to frame.now } }
     ensures within { length out.new.bytes ≤ out.new.room }
 {
-    let start = out.bytes().len();
-    let route = Route::Answer(expected(schema, reply));
-    match translate_quickly::<ReplySeen>(schema, route, from, to, frame, room, out) {
-        ReplySeen::Answers => UpstreamJudged::Answers(None),
-        ReplySeen::WrongWay => {
-            out.cut(start);
-            UpstreamJudged::Halts(Halt::WrongWay)
-        }
-        ReplySeen::Nothing => judge_by_events(schema, reply, from, to, frame, room, out),
+    if pass_reply(schema, reply, from, to, frame, room, out) {
+        return UpstreamJudged::Answers(None);
     }
+    judge_by_events(schema, reply, from, to, frame, room, out)
 }
 
 /// The same for a frame that the quick way didn't take.
 #[inline(never)]
-fn judge_by_events(
+pub fn judge_by_events(
     schema: &Schema,
     reply: Option<StructId>,
     from: Proto,

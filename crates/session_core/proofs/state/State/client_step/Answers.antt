@@ -20,8 +20,8 @@ stored_step-requires-clause-found g c = found_of (g.J.Judge.rules c.args.judge.n
 pub stored_step-requires-clause-empty : goal.stored_step-requires-clause-empty
 stored_step-requires-clause-empty g c = paid_none c.is_paid.result c.args.self.now.upstream.due.bytes c.if-not-is_paid.false c.is_paid.ensures
 
-pub judge_step-requires-clause-empty : goal.judge_step-requires-clause-empty
-judge_step-requires-clause-empty g c = paid_none c.is_paid.result c.args.self.now.upstream.due.bytes c.if-not-is_paid.false c.is_paid.ensures
+pub call_step-requires-clause-empty : goal.call_step-requires-clause-empty
+call_step-requires-clause-empty g c = paid_none c.is_paid.result c.args.self.now.upstream.due.bytes c.if-not-is_paid.false c.is_paid.ensures
 
 pub returns-then-not-is_paid-clause-keeps : goal.returns-then-not-is_paid-clause-keeps
 returns-then-not-is_paid-clause-keeps g c = keeps_still (g.J.Judge.rules c.args.judge.now) _ c.args.self.now c.requires.works

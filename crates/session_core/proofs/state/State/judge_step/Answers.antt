@@ -121,7 +121,7 @@ returns-in-Opens-clause-keeps g c =
     let many : length c.push_back.new.self.items ≤ s.calls.capacity = omega (arith, ap length items, length-append s.calls.items (c.in-Opens.call ∷ []), c.requires.few) in
     record {
       ready = c.count_frame.ensures.ready _ _ (ready_calling s.client.held.limit s.calls.capacity (record s { upstream = record (s.upstream) { due = out } }) c.push_back.new.self (ap (λ (b : Ring Call). b.capacity) c.push_back.ensures.items) many written);
-      known = knows_nothing (g.J.Judge.rules c.args.judge.now) c.count_frame.new.self c.count_frame.ensures.unknown;
+      known = knows_nothing (g.J.Judge.rules c.args.judge.now) c.count_frame.new.self (c.count_frame.ensures.kept ∙ c.requires.unknown);
     }
 
 pub returns-in-Goes-clause-keeps : goal.returns-in-Goes-clause-keeps
@@ -129,7 +129,7 @@ returns-in-Goes-clause-keeps g c =
     let s = c.args.self.now in
     record {
       ready = c.count_frame-in-Goes.ensures.ready _ _ (ready_written side.Upstream s.client.held.limit s.calls.capacity s c.judge_client.new.out (ap (λ (b : Buffer). b.room) c.judge_client.ensures.out) c.judge_client.ensures.within c.requires.works.ready);
-      known = knows_nothing (g.J.Judge.rules c.args.judge.now) c.count_frame-in-Goes.new.self c.count_frame-in-Goes.ensures.unknown;
+      known = knows_nothing (g.J.Judge.rules c.args.judge.now) c.count_frame-in-Goes.new.self (c.count_frame-in-Goes.ensures.kept ∙ c.requires.unknown);
     }
 
 pub returns-in-Dropped-clause-keeps : goal.returns-in-Dropped-clause-keeps
@@ -138,7 +138,7 @@ returns-in-Dropped-clause-keeps g c =
     let room = ap (λ (b : Buffer). b.room) c.cut.ensures ∙ ap (λ (b : Buffer). b.room) c.judge_client.ensures.out in
     record {
       ready = c.count_frame-in-Dropped.ensures.ready _ _ (ready_written side.Upstream s.client.held.limit s.calls.capacity s c.cut.new.self room (cut_within c.cut.new.self (ap (λ (b : Buffer). b.bytes) c.cut.ensures)) c.requires.works.ready);
-      known = knows_nothing (g.J.Judge.rules c.args.judge.now) c.count_frame-in-Dropped.new.self c.count_frame-in-Dropped.ensures.unknown;
+      known = knows_nothing (g.J.Judge.rules c.args.judge.now) c.count_frame-in-Dropped.new.self (c.count_frame-in-Dropped.ensures.kept ∙ c.requires.unknown);
     }
 
 pub returns-in-Halts-clause-keeps : goal.returns-in-Halts-clause-keeps
