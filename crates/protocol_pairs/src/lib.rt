@@ -12,4 +12,4 @@ mod pairs;
 pub use answers::answer;
 pub use methods::{served, translate_method};
 pub use outcome::Outcome;
-pub use pairs::{passes, translate, translate_by_events, translate_quickly};
+pub use pairs::{translate, translate_by_events, translate_quickly};

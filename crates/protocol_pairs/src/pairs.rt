@@ -4,15 +4,15 @@ ghost use Rattle.protocol_traits.specs.Room.{room_for};
 ghost use Rattle.translate_core.specs.Body.{source_in};
 ghost use Rattle.translate_core.specs.Judged.{IsJudged, IsLeft, judged_frame};
 ghost use Rattle.translate_core.specs.Routes.{IsKnownRoute};
-ghost use Rattle.translate_core.specs.declared.verdict.HeadInfo.{HeadInfo};
-ghost use Rattle.translate_core.specs.declared.verdict.Verdict.TheVariants.{Passed};
-ghost use Rattle.protocol_pairs.specs.Pairs.{judged, judged_to};
+ghost use Rattle.protocol_pairs.specs.Pairs.{binary_source, compact_source, json_source, judged, judged_to};
 
 use crate::outcome::Outcome;
 use binary_protocol::{BinaryRead, BinaryWrite};
 use compact_protocol::{CompactRead, CompactWrite};
 use gate_io::Out;
 use json_protocol::{JsonRead, JsonWrite};
+use kept_forms::FormKeep;
+use kept_messages::pass_kept;
 use protocol_traits::{FormRead, FormWrite, Proto, WireRead};
 use translate_core::{HeadInfo, Route, Verdict, pass_quickly};
 use type_tables::Schema;
@@ -45,33 +45,6 @@ pub fn translate(
     }
 }
 
-/// Whether a frame's translation was appended by the quick way, for whoever doesn't ask what its header says: that is large,
-/// and here it is neither made nor moved. False: the output is as it was, which says nothing of the frame, and
-/// `translate_by_events` tells its verdict.
-///
-/// `room` has at least as many bytes as the frame, and `out` room for 24 bytes for each of the frame's and 256 more. What
-/// the route names is of this schema.
-pub fn passes(
-    schema: &Schema,
-    route: Route,
-    from: Proto,
-    to: Proto,
-    frame: &[u8],
-    room: &mut [u8],
-    out: &mut Out,
-) -> bool
-    requires known { IsKnownRoute schema.now route }
-    requires room { length frame.now ≤ length room.old }
-    requires size { length frame.now < 2 ^ 31 }
-    requires fits { length out.old.bytes + room_for (length frame.now) ≤ out.old.room }
-    ensures left { result ≡ false → out.new ≡ out.old }
-    ensures room { out.new.room ≡ out.old.room }
-    ensures short { length out.new.bytes ≤ length out.old.bytes + room_for (length frame.now) }
-    ensures passes { result ≡ true → (info : HeadInfo) × IsJudged (Passed info) out.old.bytes out.new.bytes (judged schema.now route from to frame.now) }
-{
-    translate_quickly::<bool>(schema, route, from, to, frame, room, out)
-}
-
 /// Appends a message's translation by the quick way, and tells of it what the caller asks for; or leaves the output as it was,
 /// which says nothing of the frame, and `translate_by_events` tells its verdict. Nearly all messages go no further than this,
 /// and a verdict is large: what isn't asked for is neither made nor moved.
@@ -99,15 +72,15 @@ pub fn translate_quickly<O: Outcome>(
     ensures passes { O.passes result out.old.bytes out.new.bytes (judged schema.now route from to frame.now) }
 {
     match from {
-        Proto::Binary => pass_to::<BinaryRead, O>(schema, route, to, frame, room, out),
-        Proto::Compact => pass_to::<CompactRead, O>(schema, route, to, frame, room, out),
-        Proto::Json => pass_to::<JsonRead, O>(schema, route, to, frame, room, out),
+        Proto::Binary => pass_binary::<O>(schema, route, to, frame, room, out),
+        Proto::Compact => pass_compact::<O>(schema, route, to, frame, room, out),
+        Proto::Json => pass_json::<O>(schema, route, to, frame, room, out),
     }
 }
 
-/// The same for the reader of the frame's protocol.
+/// The same for a frame in the Binary protocol.
 #[inline(always)]
-fn pass_to<R: FormRead, O: Outcome>(
+fn pass_binary<O: Outcome>(
     schema: &Schema,
     route: Route,
     to: Proto,
@@ -122,12 +95,90 @@ fn pass_to<R: FormRead, O: Outcome>(
     ensures left { O.fails result → out.new ≡ out.old }
     ensures room { out.new.room ≡ out.old.room }
     ensures short { length out.new.bytes ≤ length out.old.bytes + room_for (length frame.now) }
-    ensures passes { O.passes result out.old.bytes out.new.bytes (judged_to (source_in R.ReadRules) schema.now route to frame.now) }
+    ensures passes { O.passes result out.old.bytes out.new.bytes (judged_to binary_source schema.now route to frame.now) }
 {
     match to {
-        Proto::Binary => pass_apart::<R, BinaryWrite, O>(schema, route, frame, room, out),
-        Proto::Compact => pass_apart::<R, CompactWrite, O>(schema, route, frame, room, out),
-        Proto::Json => pass_apart::<R, JsonWrite, O>(schema, route, frame, room, out),
+        Proto::Binary => pass_own::<BinaryRead, BinaryWrite, O>(schema, route, frame, room, out),
+        Proto::Compact => pass_apart::<BinaryRead, CompactWrite, O>(
+            schema, route, frame, room, out,
+        ),
+        Proto::Json => pass_apart::<BinaryRead, JsonWrite, O>(schema, route, frame, room, out),
+    }
+}
+
+/// The same for a frame in the Compact protocol.
+#[inline(always)]
+fn pass_compact<O: Outcome>(
+    schema: &Schema,
+    route: Route,
+    to: Proto,
+    frame: &[u8],
+    room: &mut [u8],
+    out: &mut Out,
+) -> O
+    requires known { IsKnownRoute schema.now route }
+    requires room { length frame.now ≤ length room.old }
+    requires size { length frame.now < 2 ^ 31 }
+    requires fits { length out.old.bytes + room_for (length frame.now) ≤ out.old.room }
+    ensures left { O.fails result → out.new ≡ out.old }
+    ensures room { out.new.room ≡ out.old.room }
+    ensures short { length out.new.bytes ≤ length out.old.bytes + room_for (length frame.now) }
+    ensures passes { O.passes result out.old.bytes out.new.bytes (judged_to compact_source schema.now route to frame.now) }
+{
+    match to {
+        Proto::Binary => pass_apart::<CompactRead, BinaryWrite, O>(schema, route, frame, room, out),
+        Proto::Compact => pass_own::<CompactRead, CompactWrite, O>(schema, route, frame, room, out),
+        Proto::Json => pass_apart::<CompactRead, JsonWrite, O>(schema, route, frame, room, out),
+    }
+}
+
+/// The same for a frame in the JSON protocol.
+#[inline(always)]
+fn pass_json<O: Outcome>(
+    schema: &Schema,
+    route: Route,
+    to: Proto,
+    frame: &[u8],
+    room: &mut [u8],
+    out: &mut Out,
+) -> O
+    requires known { IsKnownRoute schema.now route }
+    requires room { length frame.now ≤ length room.old }
+    requires size { length frame.now < 2 ^ 31 }
+    requires fits { length out.old.bytes + room_for (length frame.now) ≤ out.old.room }
+    ensures left { O.fails result → out.new ≡ out.old }
+    ensures room { out.new.room ≡ out.old.room }
+    ensures short { length out.new.bytes ≤ length out.old.bytes + room_for (length frame.now) }
+    ensures passes { O.passes result out.old.bytes out.new.bytes (judged_to json_source schema.now route to frame.now) }
+{
+    match to {
+        Proto::Binary => pass_apart::<JsonRead, BinaryWrite, O>(schema, route, frame, room, out),
+        Proto::Compact => pass_apart::<JsonRead, CompactWrite, O>(schema, route, frame, room, out),
+        Proto::Json => pass_apart::<JsonRead, JsonWrite, O>(schema, route, frame, room, out),
+    }
+}
+
+/// The same where the message goes on in its own protocol: nearly always the bytes that came are those that go out.
+#[inline(never)]
+fn pass_own<R: FormKeep<W>, W: FormWrite, O: Outcome>(
+    schema: &Schema,
+    route: Route,
+    frame: &[u8],
+    room: &mut [u8],
+    out: &mut Out,
+) -> O
+    requires known { IsKnownRoute schema.now route }
+    requires room { length frame.now ≤ length room.old }
+    requires size { length frame.now < 2 ^ 31 }
+    requires fits { length out.old.bytes + room_for (length frame.now) ≤ out.old.room }
+    ensures left { O.fails result → out.new ≡ out.old }
+    ensures room { out.new.room ≡ out.old.room }
+    ensures short { length out.new.bytes ≤ length out.old.bytes + room_for (length frame.now) }
+    ensures passes { O.passes result out.old.bytes out.new.bytes (judged_frame R.ReadRules W.WireWrite schema.now route frame.now) }
+{
+    match pass_kept::<R, W>(schema, route, frame, room, out) {
+        Some(info) => O::of(Some(info)),
+        None => pass_apart::<R, W, O>(schema, route, frame, room, out),
     }
 }
 

@@ -1,0 +1,9 @@
+-- Lemmas.
+pub mod Beginnings
+pub mod Fronts
+pub mod Heads
+pub mod InBinary
+pub mod InCompact
+pub mod Numbers
+pub mod Plainly
+pub mod Varints

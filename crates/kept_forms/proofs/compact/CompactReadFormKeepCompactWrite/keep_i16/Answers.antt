@@ -1,0 +1,5 @@
+use Rattle.kept_forms.proofs.InCompact.{i16_stands}
+use Rattle.kept_forms.proofs.compact.CompactReadFormKeepCompactWrite.keep_i16.Goals as goal
+
+pub returns-in-Some-clause-keeps : goal.returns-in-Some-clause-keeps
+returns-in-Some-clause-keeps c = i16_stands c.args.frame.now c.args.at c.in-Some.count c.args.stand c.in-Some.ensures.stands

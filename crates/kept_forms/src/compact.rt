@@ -1,0 +1,359 @@
+//! The Compact protocol leaves a choice where a number may be padded, a field's id or a size may stand in full, and a bool
+//! and its kind have two codes: these are looked at, and nothing else is compared.
+ghost use Rattle.std.specs.Prelude.{◌≡◌, ◌+◌, ◌-◌, ◌≤◌, ◌<◌, ◌%◌, ◌/◌, length, drop, true, false, IfSome, Some, None};
+ghost use Rattle.thrift_value.specs.declared.kind.Kind.{Kind};
+ghost use Rattle.protocol_traits.specs.declared.forms.Container.{Container};
+ghost use Rattle.protocol_traits.specs.declared.forms.Lead.{Lead};
+ghost use Rattle.protocol_traits.specs.declared.forms.Stand.{Stand};
+ghost use Rattle.protocol_traits.specs.Forms.{IsPast, SpellsNoPairs};
+ghost use Rattle.varint_zigzag.specs.Places.{found_at};
+ghost use Rattle.varint_zigzag.specs.Varint.{varint_at};
+ghost use Rattle.compact_protocol.specs.Plain.{short_step};
+ghost use Rattle.compact_protocol.specs.WriteForms.{stands_at as writer_at};
+ghost use Rattle.kept_forms.specs.InCompact.{own_bar, own_plain, KeepsElements, KeepsEnd, KeepsFlag, KeepsLead, KeepsPairs, KeepsStruct, KeepsValue};
+ghost use Rattle.kept_forms.specs.Shortest.{IsOwnHead, IsOwnId, IsOwnSize, IsTight};
+
+use crate::keeping::FormKeep;
+use crate::renewing::renew;
+use crate::shortest::is_tight;
+use compact_protocol::{CompactRead, CompactWrite};
+use protocol_traits::{Container, FormRead, Lead, Mark, Opening, Pairs, Stand, UUID};
+use thrift_value::Kind;
+use varint_zigzag::{
+    read_u16_at, read_u32_at, read_u64_at, shortest_u16_at, shortest_u32_at, shortest_u64_at,
+};
+
+/// The bytes of a double.
+const DOUBLE: usize = 8;
+
+/// The byte that is written for false; true has 1. A byte 0 is read as false too.
+const FALSE: u8 = 2;
+
+/// The code of a bool's kind that is read in the head of a container, but not written.
+const OTHER_BOOL: u8 = 2;
+
+/// A list or set of as many elements has its size in full.
+const MANY: u32 = 15;
+
+impl<'f> FormKeep<CompactWrite> for CompactRead<'f> {
+    #[inline(always)]
+    fn keep_next(frame: &[u8], at: usize, opening: Opening, last: i16) -> Option<(Lead, i16, usize)>
+        requires { at ≤ length frame.now }
+        ensures past { IfSome result (λ x. (x.0 ≡ Lead.Bad → ⊥) → IsPast at frame.now x.2) }
+        ensures keeps { IfSome result (λ x. KeepsLead frame.now at opening last x.0 x.1 x.2) }
+    {
+        let (lead, id, behind) = CompactRead::next_field(frame, at, opening, last)?;
+        if !is_own_id(frame, at, behind, last, id) {
+            return None;
+        }
+        Some((lead, id, behind))
+    }
+
+    #[inline(always)]
+    fn keep_flag(
+        frame: &[u8],
+        at: usize,
+        behind: usize,
+        opening: Opening,
+        last: i16,
+        id: i16,
+    ) -> Option<usize>
+        requires { IsPast at frame.now behind }
+        ensures past { IfSome result (λ x. IsPast at frame.now x) }
+        ensures keeps { IfSome result (λ x. KeepsFlag frame.now at opening last id behind x) }
+    {
+        if !is_own_id(frame, at, behind, last, id) {
+            return None;
+        }
+        Some(behind)
+    }
+
+    #[inline(always)]
+    fn keep_bool(frame: &[u8], at: usize, stand: Stand) -> Option<usize>
+        requires place { at ≤ length frame.now }
+        requires apart { stand ≡ Stand.Field → ⊥ }
+        ensures past { IfSome result (λ x. IsPast at frame.now x) }
+        ensures keeps { IfSome result (λ x. KeepsValue frame.now at stand Kind.Bool x) }
+    {
+        if at >= frame.len() || frame[at] == 0 || frame[at] > FALSE {
+            return None;
+        }
+        Some(at + 1)
+    }
+
+    #[inline(always)]
+    fn keep_i8(frame: &[u8], at: usize, stand: Stand) -> Option<usize>
+        requires { at ≤ length frame.now }
+        ensures past { IfSome result (λ x. IsPast at frame.now x) }
+        ensures keeps { IfSome result (λ x. KeepsValue frame.now at stand Kind.I8 x) }
+    {
+        if at >= frame.len() {
+            return None;
+        }
+        Some(at + 1)
+    }
+
+    #[inline(always)]
+    fn keep_i16(frame: &[u8], at: usize, stand: Stand) -> Option<usize>
+        requires { at ≤ length frame.now }
+        ensures past { IfSome result (λ x. IsPast at frame.now x) }
+        ensures keeps { IfSome result (λ x. KeepsValue frame.now at stand Kind.I16 x) }
+    {
+        match shortest_u16_at(frame, at) {
+            Some(count) => Some(at + count),
+            None => rest_i16(frame, at, stand),
+        }
+    }
+
+    #[inline(always)]
+    fn keep_i32(frame: &[u8], at: usize, stand: Stand) -> Option<usize>
+        requires { at ≤ length frame.now }
+        ensures past { IfSome result (λ x. IsPast at frame.now x) }
+        ensures keeps { IfSome result (λ x. KeepsValue frame.now at stand Kind.I32 x) }
+    {
+        match shortest_u32_at(frame, at) {
+            Some(count) => Some(at + count),
+            None => rest_i32(frame, at, stand),
+        }
+    }
+
+    #[inline(always)]
+    fn keep_i64(frame: &[u8], at: usize, stand: Stand) -> Option<usize>
+        requires { at ≤ length frame.now }
+        ensures past { IfSome result (λ x. IsPast at frame.now x) }
+        ensures keeps { IfSome result (λ x. KeepsValue frame.now at stand Kind.I64 x) }
+    {
+        match shortest_u64_at(frame, at) {
+            Some(count) => Some(at + count),
+            None => rest_i64(frame, at, stand),
+        }
+    }
+
+    #[inline(always)]
+    fn keep_double(frame: &[u8], at: usize, stand: Stand) -> Option<usize>
+        requires { at ≤ length frame.now }
+        ensures past { IfSome result (λ x. IsPast at frame.now x) }
+        ensures keeps { IfSome result (λ x. KeepsValue frame.now at stand Kind.Double x) }
+    {
+        if frame.len() - at < DOUBLE {
+            return None;
+        }
+        Some(at + DOUBLE)
+    }
+
+    #[inline(always)]
+    fn keep_uuid(frame: &[u8], at: usize, stand: Stand) -> Option<usize>
+        requires { at ≤ length frame.now }
+        ensures past { IfSome result (λ x. IsPast at frame.now x) }
+        ensures keeps { IfSome result (λ x. KeepsValue frame.now at stand Kind.Uuid x) }
+    {
+        if frame.len() - at < UUID {
+            return None;
+        }
+        Some(at + UUID)
+    }
+
+    #[inline(always)]
+    fn keep_text(frame: &[u8], at: usize, stand: Stand) -> Option<usize>
+        requires { at ≤ length frame.now }
+        ensures past { IfSome result (λ x. IsPast at frame.now x) }
+        ensures keeps { IfSome result (λ x. KeepsValue frame.now at stand Kind.Str x) }
+    {
+        let (size, begin) = tight_size(frame, at)?;
+        if size >= 1 << 31 || frame.len() - begin < size as usize {
+            return None;
+        }
+        Some(begin + size as usize)
+    }
+
+    #[inline(always)]
+    fn keep_struct(frame: &[u8], at: usize, stand: Stand) -> Option<usize>
+        requires { at ≤ length frame.now }
+        ensures within { IfSome result (λ x. (at ≤ x) × (x ≤ length frame.now)) }
+        ensures keeps { IfSome result (λ x. KeepsStruct frame.now at stand x) }
+    {
+        Some(at)
+    }
+
+    #[inline(always)]
+    fn keep_elements(
+        frame: &[u8],
+        at: usize,
+        stand: Stand,
+        container: Container,
+    ) -> Option<(Kind, u32, usize)>
+        requires place { at ≤ length frame.now }
+        requires no_map { container ≡ Container.Map → ⊥ }
+        ensures past { IfSome result (λ x. IsPast at frame.now x.2) }
+        ensures keeps { IfSome result (λ x. KeepsElements frame.now at stand container x.0 x.1 x.2) }
+    {
+        let (kind, size, behind) = CompactRead::elements(frame, at, stand, container)?;
+        if frame[at] % 16 == OTHER_BOOL || !is_own_size(frame, at, behind, size) {
+            return None;
+        }
+        Some((kind, size, behind))
+    }
+
+    #[inline(always)]
+    fn keep_pairs(frame: &[u8], at: usize, stand: Stand) -> Option<Pairs>
+        requires { at ≤ length frame.now }
+        ensures past { IfSome result (λ x. IsPast at frame.now x.behind) }
+        ensures keeps { IfSome result (λ x. KeepsPairs frame.now at stand x) }
+    {
+        let pairs = CompactRead::pairs(frame, at, stand)?;
+        if pairs.size == 0 {
+            return Some(pairs);
+        }
+        if !is_own_head(frame, at, pairs.behind) {
+            return None;
+        }
+        Some(pairs)
+    }
+
+    #[inline(always)]
+    fn renew_no_pairs(cells: &mut [u8], at: usize, behind: usize, stand: Stand, known: Mark) -> bool
+        requires { IsPast at cells.old behind }
+        ensures kept { length cells.new ≡ length cells.old }
+        ensures rest { drop behind cells.new ≡ drop behind cells.old }
+        ensures spells { result ≡ true → SpellsNoPairs own_bar own_plain writer_at false known cells.old at cells.new behind stand }
+    {
+        renew::<CompactWrite>(cells, at, behind, stand, known)
+    }
+
+    #[inline(always)]
+    fn keep_end(frame: &[u8], at: usize, container: Container) -> Option<usize>
+        requires { at ≤ length frame.now }
+        ensures within { IfSome result (λ x. (at ≤ x) × (x ≤ length frame.now)) }
+        ensures keeps { IfSome result (λ x. KeepsEnd frame.now at container x) }
+    {
+        Some(at)
+    }
+}
+
+/// Whether a field's id that was read between two places stands as the writer spells it: in the field's byte, or in full
+/// and short where the byte can't tell it.
+#[inline(always)]
+fn is_own_id(frame: &[u8], at: usize, behind: usize, last: i16, id: i16) -> bool
+    requires { at ≤ length frame.now }
+    ensures { result ≡ true → IsOwnId frame.now at behind last id }
+{
+    behind <= at + 1 || is_long_id(frame, at, behind, last, id)
+}
+
+// An id that stands in full.
+#[inline(never)]
+fn is_long_id(frame: &[u8], at: usize, behind: usize, last: i16, id: i16) -> bool
+    requires { at + 1 < behind }
+    ensures { result ≡ true → (short_step last id ≡ None) × IsTight frame.now (at + 1) behind }
+{
+    if is_near(last, id) || behind > frame.len() {
+        return false;
+    }
+    is_tight(frame, at + 1, behind)
+}
+
+// Whether a field's byte can tell the id behind the last one.
+#[tactic(auto, unfolding(compact_protocol::specs::Plain::short_step))]
+fn is_near(last: i16, id: i16) -> bool
+    ensures { result ≡ false → short_step last id ≡ None }
+{
+    let step = i32::from(id) - i32::from(last);
+    if 0 < step {
+        if step < 16 {
+            return true;
+        }
+    }
+    false
+}
+
+/// Whether the size of a list or set that was read between two places stands as the writer spells it: in the first byte,
+/// or in full and short where the byte can't tell it.
+#[inline(always)]
+fn is_own_size(frame: &[u8], at: usize, behind: usize, size: u32) -> bool
+    requires { IsPast at frame.now behind }
+    ensures { result ≡ true → IsOwnSize frame.now at behind size }
+{
+    behind == at + 1 || size >= MANY && is_tight(frame, at + 1, behind)
+}
+
+/// Whether the size and the kinds of a map's pairs stand as the writer spells them.
+#[inline(always)]
+fn is_own_head(frame: &[u8], at: usize, behind: usize) -> bool
+    requires within { behind ≤ length frame.now }
+    requires order { at + 2 ≤ behind }
+    ensures { result ≡ true → IsOwnHead frame.now at behind }
+{
+    let kinds = frame[behind - 1];
+    kinds / 16 != OTHER_BOOL && kinds % 16 != OTHER_BOOL && is_tight(frame, at, behind - 1)
+}
+
+/// A size or length that stands by its shortest bytes, and the place behind it. Nearly all have one byte.
+#[inline(always)]
+fn tight_size(frame: &[u8], at: usize) -> Option<(u32, usize)>
+    requires { at ≤ length frame.now }
+    ensures within { IfSome result (λ x. x.1 ≤ length frame.now) }
+    ensures exact { IfSome result (λ x. Some x ≡ found_at at (varint_at 5 32 (drop at frame.now))) }
+    ensures tight { IfSome result (λ x. IsTight frame.now at x.1) }
+{
+    if at < frame.len() && frame[at] < 128 {
+        return Some((u32::from(frame[at]), at + 1));
+    }
+    long_size(frame, at)
+}
+
+// A size of two bytes or more.
+#[inline(never)]
+fn long_size(frame: &[u8], at: usize) -> Option<(u32, usize)>
+    requires { at ≤ length frame.now }
+    ensures within { IfSome result (λ x. x.1 ≤ length frame.now) }
+    ensures exact { IfSome result (λ x. Some x ≡ found_at at (varint_at 5 32 (drop at frame.now))) }
+    ensures tight { IfSome result (λ x. IsTight frame.now at x.1) }
+{
+    let (size, behind) = read_u32_at(frame, at)?;
+    if !is_tight(frame, at, behind) {
+        return None;
+    }
+    Some((size, behind))
+}
+
+// An i16 near the end of the frame, or one that is padded or long.
+#[inline(never)]
+fn rest_i16(frame: &[u8], at: usize, stand: Stand) -> Option<usize>
+    requires { at ≤ length frame.now }
+    ensures past { IfSome result (λ x. IsPast at frame.now x) }
+    ensures keeps { IfSome result (λ x. KeepsValue frame.now at stand Kind.I16 x) }
+{
+    let (_, behind) = read_u16_at(frame, at)?;
+    if !is_tight(frame, at, behind) {
+        return None;
+    }
+    Some(behind)
+}
+
+// An i32 near the end of the frame, or one that is padded or long.
+#[inline(never)]
+fn rest_i32(frame: &[u8], at: usize, stand: Stand) -> Option<usize>
+    requires { at ≤ length frame.now }
+    ensures past { IfSome result (λ x. IsPast at frame.now x) }
+    ensures keeps { IfSome result (λ x. KeepsValue frame.now at stand Kind.I32 x) }
+{
+    let (_, behind) = read_u32_at(frame, at)?;
+    if !is_tight(frame, at, behind) {
+        return None;
+    }
+    Some(behind)
+}
+
+// An i64 near the end of the frame, or one that is padded or long.
+#[inline(never)]
+fn rest_i64(frame: &[u8], at: usize, stand: Stand) -> Option<usize>
+    requires { at ≤ length frame.now }
+    ensures past { IfSome result (λ x. IsPast at frame.now x) }
+    ensures keeps { IfSome result (λ x. KeepsValue frame.now at stand Kind.I64 x) }
+{
+    let (_, behind) = read_u64_at(frame, at)?;
+    if !is_tight(frame, at, behind) {
+        return None;
+    }
+    Some(behind)
+}

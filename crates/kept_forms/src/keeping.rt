@@ -1,0 +1,116 @@
+//! One item of a frame that goes on in its own protocol: read, and its bytes are those that the writer would lay.
+ghost use Rattle.std.specs.Prelude.{◌≡◌, ◌+◌, ◌≤◌, ◌<◌, length, drop, true, IfSome};
+ghost use Rattle.thrift_value.specs.declared.kind.Kind.{Kind};
+ghost use Rattle.protocol_traits.specs.declared.forms.Container.{Container};
+ghost use Rattle.protocol_traits.specs.declared.forms.Lead.{Lead};
+ghost use Rattle.protocol_traits.specs.declared.forms.Stand.{Stand};
+ghost use Rattle.protocol_traits.specs.Forms.{IsPast, SpellsNoPairs};
+ghost use Rattle.kept_forms.specs.Keeping.{KeepsElements, KeepsEnd, KeepsFlag, KeepsLead, KeepsPairs, KeepsStruct, KeepsValue};
+
+use protocol_traits::{Container, FormRead, FormWrite, Lead, Mark, Opening, Pairs, Stand};
+use thrift_value::Kind;
+
+/// A protocol's quick reader that tells which bytes its protocol's quick writer would lay as they stand. Each call reads one
+/// item at a place of a frame, and answers the place behind it; `None` says nothing of the frame: the item may be at fault,
+/// or spelled in a way that the writer doesn't choose.
+pub trait FormKeep<W: FormWrite>: FormRead {
+    /// What stands next in a struct, a field's id, and the place behind.
+    fn keep_next(frame: &[u8], at: usize, opening: Opening, last: i16) -> Option<(Lead, i16, usize)>
+        requires { at ≤ length frame.now }
+        ensures past { IfSome result (λ x. (x.0 ≡ Lead.Bad → ⊥) → IsPast at frame.now x.2) }
+        ensures keeps { IfSome result (λ x. KeepsLead Self.reads Self.stands_at W.bar W.plain W.stands_at frame.now at opening last x.0 x.1 x.2) };
+
+    /// A bool field whose id was read between these places.
+    fn keep_flag(
+        frame: &[u8],
+        at: usize,
+        behind: usize,
+        opening: Opening,
+        last: i16,
+        id: i16,
+    ) -> Option<usize>
+        requires { IsPast at frame.now behind }
+        ensures past { IfSome result (λ x. IsPast at frame.now x) }
+        ensures keeps { IfSome result (λ x. KeepsFlag Self.reads Self.stands_at W.bar W.plain W.stands_at W.after frame.now at opening last id behind x) };
+
+    /// A bool that is no field's.
+    fn keep_bool(frame: &[u8], at: usize, stand: Stand) -> Option<usize>
+        requires place { at ≤ length frame.now }
+        requires apart { stand ≡ Stand.Field → ⊥ }
+        ensures past { IfSome result (λ x. IsPast at frame.now x) }
+        ensures keeps { IfSome result (λ x. KeepsValue Self.reads Self.stands_at W.bar W.plain W.stands_at frame.now at stand Kind.Bool x) };
+
+    fn keep_i8(frame: &[u8], at: usize, stand: Stand) -> Option<usize>
+        requires { at ≤ length frame.now }
+        ensures past { IfSome result (λ x. IsPast at frame.now x) }
+        ensures keeps { IfSome result (λ x. KeepsValue Self.reads Self.stands_at W.bar W.plain W.stands_at frame.now at stand Kind.I8 x) };
+
+    fn keep_i16(frame: &[u8], at: usize, stand: Stand) -> Option<usize>
+        requires { at ≤ length frame.now }
+        ensures past { IfSome result (λ x. IsPast at frame.now x) }
+        ensures keeps { IfSome result (λ x. KeepsValue Self.reads Self.stands_at W.bar W.plain W.stands_at frame.now at stand Kind.I16 x) };
+
+    fn keep_i32(frame: &[u8], at: usize, stand: Stand) -> Option<usize>
+        requires { at ≤ length frame.now }
+        ensures past { IfSome result (λ x. IsPast at frame.now x) }
+        ensures keeps { IfSome result (λ x. KeepsValue Self.reads Self.stands_at W.bar W.plain W.stands_at frame.now at stand Kind.I32 x) };
+
+    fn keep_i64(frame: &[u8], at: usize, stand: Stand) -> Option<usize>
+        requires { at ≤ length frame.now }
+        ensures past { IfSome result (λ x. IsPast at frame.now x) }
+        ensures keeps { IfSome result (λ x. KeepsValue Self.reads Self.stands_at W.bar W.plain W.stands_at frame.now at stand Kind.I64 x) };
+
+    fn keep_double(frame: &[u8], at: usize, stand: Stand) -> Option<usize>
+        requires { at ≤ length frame.now }
+        ensures past { IfSome result (λ x. IsPast at frame.now x) }
+        ensures keeps { IfSome result (λ x. KeepsValue Self.reads Self.stands_at W.bar W.plain W.stands_at frame.now at stand Kind.Double x) };
+
+    fn keep_uuid(frame: &[u8], at: usize, stand: Stand) -> Option<usize>
+        requires { at ≤ length frame.now }
+        ensures past { IfSome result (λ x. IsPast at frame.now x) }
+        ensures keeps { IfSome result (λ x. KeepsValue Self.reads Self.stands_at W.bar W.plain W.stands_at frame.now at stand Kind.Uuid x) };
+
+    /// A string.
+    fn keep_text(frame: &[u8], at: usize, stand: Stand) -> Option<usize>
+        requires { at ≤ length frame.now }
+        ensures past { IfSome result (λ x. IsPast at frame.now x) }
+        ensures keeps { IfSome result (λ x. KeepsValue Self.reads Self.stands_at W.bar W.plain W.stands_at frame.now at stand Kind.Str x) };
+
+    /// The beginning of a struct. It may have no bytes.
+    fn keep_struct(frame: &[u8], at: usize, stand: Stand) -> Option<usize>
+        requires { at ≤ length frame.now }
+        ensures within { IfSome result (λ x. (at ≤ x) × (x ≤ length frame.now)) }
+        ensures keeps { IfSome result (λ x. KeepsStruct Self.reads Self.stands_at W.bar W.plain W.stands_at frame.now at stand x) };
+
+    /// The beginning of a list or set: the kind of its elements and their number.
+    fn keep_elements(
+        frame: &[u8],
+        at: usize,
+        stand: Stand,
+        container: Container,
+    ) -> Option<(Kind, u32, usize)>
+        requires place { at ≤ length frame.now }
+        requires no_map { container ≡ Container.Map → ⊥ }
+        ensures past { IfSome result (λ x. IsPast at frame.now x.2) }
+        ensures keeps { IfSome result (λ x. KeepsElements Self.reads Self.stands_at W.bar W.plain W.stands_at frame.now at stand container x.0 x.1 x.2) };
+
+    /// The beginning of a map, or an empty one, which may be spelled with other kinds.
+    fn keep_pairs(frame: &[u8], at: usize, stand: Stand) -> Option<Pairs>
+        requires { at ≤ length frame.now }
+        ensures past { IfSome result (λ x. IsPast at frame.now x.behind) }
+        ensures keeps { IfSome result (λ x. KeepsPairs Self.reads Self.stands_at W.bar W.plain W.stands_at frame.now at stand x) };
+
+    /// Lays an empty map over cells between these places, and no others, if it has as many bytes. Where writing depends on the
+    /// position, `known` is what it says.
+    fn renew_no_pairs(cells: &mut [u8], at: usize, behind: usize, stand: Stand, known: Mark) -> bool
+        requires { IsPast at cells.old behind }
+        ensures kept { length cells.new ≡ length cells.old }
+        ensures rest { drop behind cells.new ≡ drop behind cells.old }
+        ensures spells { result ≡ true → SpellsNoPairs W.bar W.plain W.stands_at W.marked known cells.old at cells.new behind stand };
+
+    /// The end of a container. It may have no bytes.
+    fn keep_end(frame: &[u8], at: usize, container: Container) -> Option<usize>
+        requires { at ≤ length frame.now }
+        ensures within { IfSome result (λ x. (at ≤ x) × (x ≤ length frame.now)) }
+        ensures keeps { IfSome result (λ x. KeepsEnd Self.reads Self.stands_at W.bar W.plain W.stands_at frame.now at container x) };
+}

@@ -1,0 +1,110 @@
+-- Items that stand in a frame as they are to be written lead a body on.
+use Rattle.std.proofs.Common.{◌≡◌, ◌+◌, ◌≤◌, ◌<◌, ℕ, ℤ, List, Option, length, Some, subst}
+use Rattle.std.specs.Prelude.{IfOk}
+use Rattle.thrift_value.specs.declared.kind.Kind.{Kind}
+use Rattle.thrift_value.specs.declared.kind.Kind.TheVariants as kinds
+use Rattle.thrift_value.specs.Items.{Item, bool_value, i8_value, i16_value, i32_value, i64_value, double_value, text, uuid_value, field}
+use Rattle.protocol_traits.specs.declared.fault.Bar.{Bar}
+use Rattle.protocol_traits.specs.declared.forms.Container.{Container}
+use Rattle.protocol_traits.specs.declared.forms.Container.TheVariants as containers
+use Rattle.protocol_traits.specs.declared.forms.Lead.{Lead}
+use Rattle.protocol_traits.specs.declared.forms.Lead.TheVariants as leads
+use Rattle.protocol_traits.specs.declared.forms.Opening.{Opening}
+use Rattle.protocol_traits.specs.declared.forms.Stand.{Stand}
+use Rattle.protocol_traits.specs.declared.forms.Stand.TheVariants as stands
+use Rattle.protocol_traits.specs.declared.nest.Slot.{Slot}
+use Rattle.protocol_traits.specs.declared.proto.Hint.{Hint}
+use Rattle.protocol_traits.specs.declared.proto.Mark.{Mark}
+use Rattle.protocol_traits.specs.Follow.{after as levels_after}
+use Rattle.protocol_traits.specs.Forms.{SpellsField, container_kind, lead_item, opening_after}
+use Rattle.protocol_traits.specs.Room.{weight}
+use Rattle.protocol_traits.specs.Steps.{Step}
+use Rattle.type_tables.specs.declared.declared.Ty.{Ty}
+use Rattle.type_tables.specs.Declarations.{Declarations}
+use Rattle.type_walk.specs.Positions.{Position, field_type, hint_of, in_struct, mark_of}
+use Rattle.translate_core.specs.Body.{Source, TargetRules}
+use Rattle.translate_core.specs.Quick.{TakesField, TakesValue, called}
+use Rattle.translate_core.proofs.Taking.{calls_some, takes_item}
+use Rattle.translate_core.proofs.Levels.{takes_field}
+use Rattle.kept_forms.specs.Keeping.{KeepsValue, SpellsLead}
+
+module _ {S T : Type 0} (source : Source S) (target : TargetRules T) (reader_at : S → List ℕ → ℕ → Opening → List Slot → Type 0) (writer_at : T → Opening → List Slot → Type 0) (frame : List ℕ)
+    (pays : (s : S) (hint : Hint) → IfOk (source.reads s hint) (λ x. weight x.0 + source.ahead x.1 ≤ source.ahead s))
+    (goes_on : (t : T) (opening : Opening) (nest : List Slot) (item : Item) (mark : Mark) → 0 < length nest → writer_at t opening nest → writer_at (target.after t item mark) (opening_after item) (levels_after item nest)) where
+  -- a value that is no level
+  pub takes_leaf : (kind : Kind) (d : Declarations) (ty : Ty) (depth at behind : ℕ) (stand : Stand) → KeepsValue source.reads reader_at target.bar target.plain writer_at frame at stand kind behind
+      → TakesValue source target reader_at writer_at d ty depth frame at stand kind frame at frame behind behind
+  takes_leaf kinds.Bool d ty depth at behind stand keeps opening nest outer calls deep =
+      let p : Position = called d outer ty in
+      let item : Item = bool_value keeps.0 in
+      takes_item source target reader_at writer_at frame pays goes_on at behind opening nest p item frame frame at behind (calls_some stand kinds.Bool opening nest calls)
+      (keeps.1 opening nest (hint_of p) calls) (keeps.2 opening nest (mark_of p item) calls)
+  takes_leaf kinds.I8 d ty depth at behind stand keeps opening nest outer calls deep =
+      let p : Position = called d outer ty in
+      let item : Item = i8_value keeps.0 in
+      takes_item source target reader_at writer_at frame pays goes_on at behind opening nest p item frame frame at behind (calls_some stand kinds.I8 opening nest calls)
+      (keeps.1 opening nest (hint_of p) calls) (keeps.2 opening nest (mark_of p item) calls)
+  takes_leaf kinds.I16 d ty depth at behind stand keeps opening nest outer calls deep =
+      let p : Position = called d outer ty in
+      let item : Item = i16_value keeps.0 in
+      takes_item source target reader_at writer_at frame pays goes_on at behind opening nest p item frame frame at behind (calls_some stand kinds.I16 opening nest calls)
+      (keeps.1 opening nest (hint_of p) calls) (keeps.2 opening nest (mark_of p item) calls)
+  takes_leaf kinds.I32 d ty depth at behind stand keeps opening nest outer calls deep =
+      let p : Position = called d outer ty in
+      let item : Item = i32_value keeps.0 in
+      takes_item source target reader_at writer_at frame pays goes_on at behind opening nest p item frame frame at behind (calls_some stand kinds.I32 opening nest calls)
+      (keeps.1 opening nest (hint_of p) calls) (keeps.2 opening nest (mark_of p item) calls)
+  takes_leaf kinds.I64 d ty depth at behind stand keeps opening nest outer calls deep =
+      let p : Position = called d outer ty in
+      let item : Item = i64_value keeps.0 in
+      takes_item source target reader_at writer_at frame pays goes_on at behind opening nest p item frame frame at behind (calls_some stand kinds.I64 opening nest calls)
+      (keeps.1 opening nest (hint_of p) calls) (keeps.2 opening nest (mark_of p item) calls)
+  takes_leaf kinds.Double d ty depth at behind stand keeps opening nest outer calls deep =
+      let p : Position = called d outer ty in
+      let item : Item = double_value keeps.0 in
+      takes_item source target reader_at writer_at frame pays goes_on at behind opening nest p item frame frame at behind (calls_some stand kinds.Double opening nest calls)
+      (keeps.1 opening nest (hint_of p) calls) (keeps.2 opening nest (mark_of p item) calls)
+  takes_leaf kinds.Str d ty depth at behind stand keeps opening nest outer calls deep =
+      let p : Position = called d outer ty in
+      let item : Item = text keeps.0 in
+      takes_item source target reader_at writer_at frame pays goes_on at behind opening nest p item frame frame at behind (calls_some stand kinds.Str opening nest calls)
+      (keeps.1 opening nest (hint_of p) calls) (keeps.2 opening nest (mark_of p item) calls)
+  takes_leaf kinds.Uuid d ty depth at behind stand keeps opening nest outer calls deep =
+      let p : Position = called d outer ty in
+      let item : Item = uuid_value keeps.0 in
+      takes_item source target reader_at writer_at frame pays goes_on at behind opening nest p item frame frame at behind (calls_some stand kinds.Uuid opening nest calls)
+      (keeps.1 opening nest (hint_of p) calls) (keeps.2 opening nest (mark_of p item) calls)
+  takes_leaf kinds.Struct d ty depth at behind stand keeps opening nest outer calls deep = absurd keeps.0
+  takes_leaf kinds.Map d ty depth at behind stand keeps opening nest outer calls deep = absurd keeps.0
+  takes_leaf kinds.Set d ty depth at behind stand keeps opening nest outer calls deep = absurd keeps.0
+  takes_leaf kinds.List d ty depth at behind stand keeps opening nest outer calls deep = absurd keeps.0
+
+  -- a field whose value is no level
+  pub takes_leaf_field : (kind : Kind) (d : Declarations) (ty : Ty) (depth at behind read : ℕ) (opening : Opening) (last id : ℤ)
+      → SpellsField target.bar target.plain writer_at frame at frame behind opening last (field id kind)
+      → KeepsValue source.reads reader_at target.bar target.plain writer_at frame behind stands.Field kind read
+      → TakesField source target reader_at writer_at d ty depth frame at opening last (field id kind) id behind frame at frame read read
+  takes_leaf_field kind d ty depth at behind read opening last id spells keeps =
+      takes_field source target reader_at writer_at frame pays goes_on d ty depth at behind read opening last id kind frame frame frame at behind read spells
+      (takes_leaf kind d (field_type d (Some (in_struct ty)) id kind) depth behind read stands.Field keeps)
+
+-- the lead of a list or set is spelled as its field
+pub lead_spells : {S T : Type 0} (reads : S → Hint → Step S Item) (reader_at : S → List ℕ → ℕ → Opening → List Slot → Type 0) (bar : Item → Mark → Option Bar) (plain : T → Item → Mark → List ℕ) (writer_at : T → Opening → List Slot → Type 0)
+    (frame : List ℕ) (at : ℕ) (opening : Opening) (last id : ℤ) (behind : ℕ) (lead : Lead) (container : Container) → lead_item lead id ≡ field id (container_kind container)
+    → SpellsLead reads reader_at bar plain writer_at frame at opening last lead id behind → SpellsField bar plain writer_at frame at frame behind opening last (field id (container_kind container))
+lead_spells reads reader_at bar plain writer_at frame at opening last id behind leads.Bool containers.Map is spells = absurd (cc)
+lead_spells reads reader_at bar plain writer_at frame at opening last id behind leads.Bool containers.Set is spells = absurd (cc)
+lead_spells reads reader_at bar plain writer_at frame at opening last id behind leads.Bool containers.List is spells = absurd (cc)
+lead_spells reads reader_at bar plain writer_at frame at opening last id behind leads.Stop container is spells = absurd (cc)
+lead_spells reads reader_at bar plain writer_at frame at opening last id behind leads.Bad container is spells = absurd (cc)
+lead_spells reads reader_at bar plain writer_at frame at opening last id behind leads.I8 container is spells = subst (λ (item : Item). SpellsField bar plain writer_at frame at frame behind opening last item) is spells
+lead_spells reads reader_at bar plain writer_at frame at opening last id behind leads.I16 container is spells = subst (λ (item : Item). SpellsField bar plain writer_at frame at frame behind opening last item) is spells
+lead_spells reads reader_at bar plain writer_at frame at opening last id behind leads.I32 container is spells = subst (λ (item : Item). SpellsField bar plain writer_at frame at frame behind opening last item) is spells
+lead_spells reads reader_at bar plain writer_at frame at opening last id behind leads.I64 container is spells = subst (λ (item : Item). SpellsField bar plain writer_at frame at frame behind opening last item) is spells
+lead_spells reads reader_at bar plain writer_at frame at opening last id behind leads.Double container is spells = subst (λ (item : Item). SpellsField bar plain writer_at frame at frame behind opening last item) is spells
+lead_spells reads reader_at bar plain writer_at frame at opening last id behind leads.Str container is spells = subst (λ (item : Item). SpellsField bar plain writer_at frame at frame behind opening last item) is spells
+lead_spells reads reader_at bar plain writer_at frame at opening last id behind leads.Struct container is spells = subst (λ (item : Item). SpellsField bar plain writer_at frame at frame behind opening last item) is spells
+lead_spells reads reader_at bar plain writer_at frame at opening last id behind leads.Map container is spells = subst (λ (item : Item). SpellsField bar plain writer_at frame at frame behind opening last item) is spells
+lead_spells reads reader_at bar plain writer_at frame at opening last id behind leads.Set container is spells = subst (λ (item : Item). SpellsField bar plain writer_at frame at frame behind opening last item) is spells
+lead_spells reads reader_at bar plain writer_at frame at opening last id behind leads.List container is spells = subst (λ (item : Item). SpellsField bar plain writer_at frame at frame behind opening last item) is spells
+lead_spells reads reader_at bar plain writer_at frame at opening last id behind leads.Uuid container is spells = subst (λ (item : Item). SpellsField bar plain writer_at frame at frame behind opening last item) is spells

@@ -1,0 +1,3 @@
+-- Lemmas.
+pub mod Mirroring
+pub mod Keeping

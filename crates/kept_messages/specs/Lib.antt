@@ -1,0 +1,2 @@
+-- A message that is kept as its bytes stand.
+pub mod Kept
