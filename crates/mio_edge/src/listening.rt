@@ -278,6 +278,7 @@ impl<S: Stream> Listening<S> {
     }
 
     // Begins the connection of a port to its target, and says whether there is one.
+    #[inline(never)]
     #[tactic(auto, using(crate::proofs::Closing::others_same))]
     fn connect<W: Network<Stream = S>>(
         &mut self,
@@ -304,6 +305,7 @@ impl<S: Stream> Listening<S> {
 
     /// Begins the connection of a port of session `number` where that was left to the first write.
     /// Where it can't be begun the port stays without one.
+    #[inline]
     pub(crate) fn connect_for_write<W: Network<Stream = S>>(
         &mut self,
         network: &mut W,

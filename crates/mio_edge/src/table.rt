@@ -261,6 +261,7 @@ impl<S: Stream> Table<S> {
     }
 
     /// The place of an open session whose connection of a port is to be begun.
+    #[inline(never)]
     pub(crate) fn find_deferred(&self, number: u64, port: usize) -> Option<usize>
         ensures deferred { IfSome result (λ place. IsDeferredIn self.now.sessions place port) }
         ensures open { (world : World) → TableTells S.tells self.now world → IfSome result (λ place. place_of self.now.entries.items number ≡ Some place) }
@@ -474,6 +475,7 @@ impl<S: Stream> Table<S> {
     }
 
     /// Writes to a port of a session.
+    #[inline(always)]
     #[tactic(auto, using(crate::specs::Lines::grows_same))]
     pub(crate) fn write(&mut self, number: u64, port: usize, from: &[u8]) -> LinkPut
         requires { 0 < length from.now }
