@@ -15,4 +15,4 @@ mod write_forms;
 mod writer;
 
 pub use reader::CompactRead;
-pub use writer::CompactWrite;
+pub use writer::{CompactWrite, short_step};

@@ -28,7 +28,7 @@ use Rattle.compact_protocol.specs.Forms.{next_read, stands_at, called}
 use Rattle.compact_protocol.specs.Plain.{short_step, field_with, field_spelling, elements_spelling}
 use Rattle.compact_protocol.specs.Reading.{State, moved, reads, scan_at}
 use Rattle.compact_protocol.specs.Scan.{Scan, shifted, ◌>>=◌, varint_of, varint16_at, varint32_at, id_at, size_at, next_id, short_field, long_field, field_of, field_at, elements_of, elements_at, both_kinds, kinds_at, map_at, value_at, value_in, opens, is_bool, item_in}
-use Rattle.kept_forms.proofs.Fronts.{Small, calling}
+use Rattle.kept_forms.proofs.Fronts.{Small, calling, past, long_enough}
 use Rattle.kept_forms.proofs.Varints.{Tight, fewest, folded_again}
 
 -- ---- from a step to what its scan found
@@ -91,14 +91,6 @@ kind_code code kinds.List e other = grind (arith, nat_tests)
 kind_code code kinds.Uuid e other = grind (arith, nat_tests)
 
 -- ---- numbers
-
--- what isn't a fault
-past : {X : Type 0} (P : X × ℕ → Type 0) (f : Fault) (fails : Bool) (scan : Scan X) → (fails ≡ false → IfOk scan P) → IfOk (if fails then Err f else scan) P
-past P f true scan good = tt
-past P f false scan good = good refl
-
-long_enough : (size most : ℕ) → nat_lt size most ≡ false → most ≤ size
-long_enough size most e = grind (arith, nat_tests)
 
 -- a size that was found has its fewest bytes where it is tight
 abbrev IsSize : List ℕ → ℕ × ℕ → Type 0

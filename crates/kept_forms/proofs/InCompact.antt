@@ -26,7 +26,7 @@ use Rattle.compact_protocol.specs.Scan.{value_at, bool_at, i8_at, double_at}
 use Rattle.compact_protocol.specs.WriteForms.{spells_varints}
 use Rattle.kept_forms.specs.InCompact.{own_bar, own_plain, KeepsEnd, KeepsStruct, KeepsValue}
 use Rattle.kept_forms.specs.Shortest.{IsTight}
-use Rattle.kept_forms.proofs.Fronts.{Small, small_behind, laid_there}
+use Rattle.kept_forms.proofs.Fronts.{Small, small_behind, laid_there, laid_on}
 use Rattle.kept_forms.proofs.Varints.{Tight, fewest}
 
 -- ---- varints
@@ -36,22 +36,17 @@ tight_behind frame at behind count size tight more =
     let place : behind - 1 ≡ at + (count - 1) = omega (arith, size, more) in
     rw (get_or-drop at frame (count - 1) 0) (subst (λ n. 0 < get_or frame n 0) place (tight (omega (arith, size, more))))
 
-shortest_laid : (frame : List ℕ) (at number count : ℕ) → take count (drop at frame) ≡ shortest number → take (at + count) frame ≡ take at frame ++ shortest number
-shortest_laid frame at number count is =
-    let size : at + count - at ≡ count = omega arith in
-    laid_there frame (shortest number) at (at + count) (omega arith) (ap (λ n. take n (drop at frame)) size ∙ is)
-
 pub i16_stands : (frame : List ℕ) (at count : ℕ) (stand : Stand) → StandsShortest 5 16 (drop at frame) count → KeepsValue frame at stand kinds.I16 (at + count)
 i16_stands frame at count stand s =
-    (unfolded s.number, reads_varints.i16 frame at s.number count stand s.stands, spells_varints.i16 frame at frame (at + count) s.number stand (shortest_laid frame at s.number count s.shortest_is))
+    (unfolded s.number, reads_varints.i16 frame at s.number count stand s.stands, spells_varints.i16 frame at frame (at + count) s.number stand (laid_on frame (shortest s.number) at count s.shortest_is))
 
 pub i32_stands : (frame : List ℕ) (at count : ℕ) (stand : Stand) → StandsShortest 5 32 (drop at frame) count → KeepsValue frame at stand kinds.I32 (at + count)
 i32_stands frame at count stand s =
-    (unfolded s.number, reads_varints.i32 frame at s.number count stand s.stands, spells_varints.i32 frame at frame (at + count) s.number stand (shortest_laid frame at s.number count s.shortest_is))
+    (unfolded s.number, reads_varints.i32 frame at s.number count stand s.stands, spells_varints.i32 frame at frame (at + count) s.number stand (laid_on frame (shortest s.number) at count s.shortest_is))
 
 pub i64_stands : (frame : List ℕ) (at count : ℕ) (stand : Stand) → StandsShortest 10 64 (drop at frame) count → KeepsValue frame at stand kinds.I64 (at + count)
 i64_stands frame at count stand s =
-    (unfolded s.number, reads_varints.i64 frame at s.number count stand s.stands, spells_varints.i64 frame at frame (at + count) s.number stand (shortest_laid frame at s.number count s.shortest_is))
+    (unfolded s.number, reads_varints.i64 frame at s.number count stand s.stands, spells_varints.i64 frame at frame (at + count) s.number stand (laid_on frame (shortest s.number) at count s.shortest_is))
 
 -- a varint that was read, and has no more bytes than it needs
 pub record Stands (most width : ℕ) (frame : List ℕ) (at behind : ℕ) : Type 0 where

@@ -1,6 +1,8 @@
 -- Lemmas.
 pub mod Beginnings
 pub mod Fronts
+pub mod HeaderInBinary
+pub mod HeaderInCompact
 pub mod Heads
 pub mod InBinary
 pub mod InCompact

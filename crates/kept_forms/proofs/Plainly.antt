@@ -13,11 +13,11 @@ use Rattle.protocol_traits.specs.Stack.{first_of}
 use Rattle.binary_protocol.specs.declared.scan.Called.{Called}
 use Rattle.binary_protocol.specs.declared.scan.Called.TheVariants as calls
 use Rattle.binary_protocol.specs.Codes.{code_of_kind, kind_of_code}
-use Rattle.binary_protocol.specs.Grammar.{number, size, flag}
+use Rattle.binary_protocol.specs.Grammar.{number, size, string, flag}
 use Rattle.binary_protocol.specs.Plain.{plain}
 use Rattle.binary_protocol.specs.Reading.{State, rest, moved, reads, scan_at}
 use Rattle.binary_protocol.specs.Scan.{Scan, shifted, ◌>>=◌, unsigned_at, nests, called_for, item_called, value_in, value_at, field_of, field_at, bool_at, i8_at, i16_at, i32_at, i64_at, double_at, uuid_at, size_begun, size_at, zero_at, string_of, string_at, text_at, elements_of, elements_at, set_at, list_at, map_of, map_item, map_at, is_bad_kind}
-use Rattle.kept_forms.proofs.Fronts.{Small, small_behind}
+use Rattle.kept_forms.proofs.Fronts.{Small, small_behind, long_enough}
 use Rattle.kept_forms.proofs.Numbers.{one_byte, two_bytes, four_bytes, eight_bytes, size_bytes}
 
 -- an item is spelled by so many bytes at the front, unless it is an empty map
@@ -34,9 +34,6 @@ FindsPlain mark bytes (Err f) = Unit {0}
 past : (mark : Mark) (bytes : List ℕ) (f : Fault) (fails : Bool) (scan : Scan Item) → (fails ≡ false → FindsPlain mark bytes scan) → FindsPlain mark bytes (if fails then Err f else scan)
 past mark bytes f true scan good = tt
 past mark bytes f false scan good = good refl
-
-long_enough : (size most : ℕ) → nat_lt size most ≡ false → most ≤ size
-long_enough size most e = grind (arith, nat_tests)
 
 zero_byte : (byte : ℕ) → (byte == 0) ≡ true → byte ≡ 0
 zero_byte byte e = grind (arith, nat_tests)
@@ -161,18 +158,31 @@ text_laid (a ∷ b ∷ c ∷ d ∷ bytes) count long within is =
     let own : length (take count bytes) ≡ count = omega (arith, length-take count bytes, within) in
     ap (λ n. take n (a ∷ b ∷ c ∷ d ∷ bytes)) more ∙ ap (λ xs. xs ++ take count bytes) (is ∙ ap size (sym own))
 
-text_plain : (mark : Mark) (bytes : List ℕ) → Small bytes → FindsPlain mark bytes (text_at bytes)
-unfolding text_at string_at
-text_plain mark bytes small = of_size (size_at bytes) (size_plain bytes small)
+-- a string that was found is spelled by so many bytes
+abbrev pub FindsString : List ℕ → Scan (List ℕ) → Type 0
+FindsString bytes (Ok x) = take x.1 bytes ≡ string x.0
+FindsString bytes (Err f) = Unit {0}
+
+pub string_plain : (bytes : List ℕ) → Small bytes → FindsString bytes (string_at bytes)
+unfolding string_at
+string_plain bytes small = of_size (size_at bytes) (size_plain bytes small)
   where
     within : (count : ℕ) (short : Bool) → nat_lt (length bytes) (count + 4) ≡ short → (f : Fault) → 4 ≤ length bytes → take 4 bytes ≡ size count
-        → FindsPlain mark bytes ((if short then Err f else Ok (take count (drop 4 bytes), count + 4)) >>= λ x. Ok (text x.0, x.1))
+        → FindsString bytes (if short then Err f else Ok (take count (drop 4 bytes), count + 4))
     within count true e f long is = tt
     within count false e f long is = text_laid bytes count long (long_enough (length bytes) (count + 4) e) is
 
-    of_size : (scan : Scan ℕ) → FindsSize bytes scan → FindsPlain mark bytes (string_of bytes scan >>= λ x. Ok (text x.0, x.1))
+    of_size : (scan : Scan ℕ) → FindsSize bytes scan → FindsString bytes (string_of bytes scan)
     of_size (Ok x) good = within x.0 (nat_lt (length bytes) (x.0 + 4)) refl _ good.1 good.2
     of_size (Err f) good = tt
+
+text_plain : (mark : Mark) (bytes : List ℕ) → Small bytes → FindsPlain mark bytes (text_at bytes)
+unfolding text_at
+text_plain mark bytes small = of_string (string_at bytes) (string_plain bytes small)
+  where
+    of_string : (scan : Scan (List ℕ)) → FindsString bytes scan → FindsPlain mark bytes (scan >>= λ x. Ok (text x.0, x.1))
+    of_string (Ok x) good = good
+    of_string (Err f) good = tt
 
 -- ---- containers
 

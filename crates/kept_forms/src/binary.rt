@@ -1,22 +1,49 @@
 //! The Binary protocol spells every item in one way, but for an empty map, whose kinds mean nothing: what is read stands
-//! as its writer would lay it, and nothing is compared.
-ghost use Rattle.std.specs.Prelude.{◌≡◌, ◌+◌, ◌≤◌, ◌<◌, length, drop, true, IfSome};
+//! as its writer would lay it, and nothing is compared. A header has two forms, and the one that is written a byte that
+//! means nothing: these are looked at.
+ghost use Rattle.std.specs.Prelude.{◌≡◌, ◌+◌, ◌≤◌, ◌<◌, ◌^◌, length, take, drop, true, IfSome};
 ghost use Rattle.thrift_value.specs.declared.kind.Kind.{Kind};
 ghost use Rattle.protocol_traits.specs.declared.forms.Container.{Container};
 ghost use Rattle.protocol_traits.specs.declared.forms.Lead.{Lead};
 ghost use Rattle.protocol_traits.specs.declared.forms.Stand.{Stand};
-ghost use Rattle.protocol_traits.specs.Forms.{IsPast, SpellsNoPairs};
-ghost use Rattle.binary_protocol.specs.Plain.{bar as own_bar};
+ghost use Rattle.protocol_traits.specs.Forms.{IsPast, ReadsHead, SpellsNoPairs};
+ghost use Rattle.protocol_traits.specs.Heads.{header_of};
+ghost use Rattle.binary_protocol.specs.Forms.{stands_at as reader_at};
+ghost use Rattle.binary_protocol.specs.Plain.{bar as own_bar, plain_head};
+ghost use Rattle.binary_protocol.specs.Reading.{begun, reads_head};
 ghost use Rattle.binary_protocol.specs.WriteForms.{stands_at as writer_at};
 ghost use Rattle.kept_forms.specs.InBinary.{own_plain, KeepsElements, KeepsEnd, KeepsFlag, KeepsLead, KeepsPairs, KeepsStruct, KeepsValue};
 
 use crate::keeping::FormKeep;
 use crate::renewing::renew;
 use binary_protocol::{BinaryRead, BinaryWrite};
-use protocol_traits::{Container, FormRead, Hint, Lead, Mark, Opening, Pairs, Stand};
+use protocol_traits::{Container, FormRead, Head, Hint, Lead, Mark, Opening, Pairs, Stand};
 use thrift_value::Kind;
 
+/// So many bytes of a header stand in front of its name.
+const FRONT: usize = 4;
+
+/// The first byte of a header that tells its version. The old form, which tells none, isn't written.
+const VERSIONED: u8 = 0x80;
+
+/// What is written for a header's third byte, which means nothing.
+const UNUSED: u8 = 0;
+
 impl<'f> FormKeep<BinaryWrite> for BinaryRead<'f> {
+    #[inline(always)]
+    fn keep_front<'a>(frame: &'a [u8], room: &'a mut [u8]) -> Option<(Head<'a>, usize)>
+        requires size { length frame.now < 2 ^ 31 }
+        requires room { length frame.now ≤ length room.old }
+        ensures reads { IfSome result (λ x. ReadsHead reader_at (reads_head (begun frame.now)) frame.now (header_of x.0) x.1) }
+        ensures place { IfSome result (λ x. (length x.0.name.now ≤ x.1) × (x.1 ≤ length frame.now)) }
+        ensures own { IfSome result (λ x. take x.1 frame.now ≡ plain_head (header_of x.0)) }
+    {
+        if frame.len() < FRONT || frame[0] != VERSIONED || frame[2] != UNUSED {
+            return None;
+        }
+        BinaryRead::front(frame, room)
+    }
+
     #[inline(always)]
     fn keep_next(frame: &[u8], at: usize, opening: Opening, last: i16) -> Option<(Lead, i16, usize)>
         requires { at ≤ length frame.now }

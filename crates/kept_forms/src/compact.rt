@@ -1,23 +1,26 @@
 //! The Compact protocol leaves a choice where a number may be padded, a field's id or a size may stand in full, and a bool
 //! and its kind have two codes: these are looked at, and nothing else is compared.
-ghost use Rattle.std.specs.Prelude.{◌≡◌, ◌+◌, ◌-◌, ◌≤◌, ◌<◌, ◌%◌, ◌/◌, length, drop, true, false, IfSome, Some, None};
+ghost use Rattle.std.specs.Prelude.{◌≡◌, ◌+◌, ◌-◌, ◌≤◌, ◌<◌, ◌%◌, ◌/◌, ◌^◌, length, take, drop, true, false, IfSome, Some, None};
 ghost use Rattle.thrift_value.specs.declared.kind.Kind.{Kind};
 ghost use Rattle.protocol_traits.specs.declared.forms.Container.{Container};
 ghost use Rattle.protocol_traits.specs.declared.forms.Lead.{Lead};
 ghost use Rattle.protocol_traits.specs.declared.forms.Stand.{Stand};
-ghost use Rattle.protocol_traits.specs.Forms.{IsPast, SpellsNoPairs};
+ghost use Rattle.protocol_traits.specs.Forms.{IsPast, ReadsHead, SpellsNoPairs};
+ghost use Rattle.protocol_traits.specs.Heads.{header_of};
 ghost use Rattle.varint_zigzag.specs.Places.{found_at};
 ghost use Rattle.varint_zigzag.specs.Varint.{varint_at};
-ghost use Rattle.compact_protocol.specs.Plain.{short_step};
+ghost use Rattle.compact_protocol.specs.Forms.{stands_at as reader_at};
+ghost use Rattle.compact_protocol.specs.Plain.{short_step, head_spelling};
+ghost use Rattle.compact_protocol.specs.Reading.{begun, reads_head};
 ghost use Rattle.compact_protocol.specs.WriteForms.{stands_at as writer_at};
 ghost use Rattle.kept_forms.specs.InCompact.{own_bar, own_plain, KeepsElements, KeepsEnd, KeepsFlag, KeepsLead, KeepsPairs, KeepsStruct, KeepsValue};
-ghost use Rattle.kept_forms.specs.Shortest.{IsOwnHead, IsOwnId, IsOwnSize, IsTight};
+ghost use Rattle.kept_forms.specs.Shortest.{AreShortest, IsOwnFront, IsOwnHead, IsOwnId, IsOwnSize, IsTight};
 
 use crate::keeping::FormKeep;
 use crate::renewing::renew;
 use crate::shortest::is_tight;
-use compact_protocol::{CompactRead, CompactWrite};
-use protocol_traits::{Container, FormRead, Lead, Mark, Opening, Pairs, Stand, UUID};
+use compact_protocol::{CompactRead, CompactWrite, short_step};
+use protocol_traits::{Container, FormRead, Head, Lead, Mark, Opening, Pairs, Stand, UUID};
 use thrift_value::Kind;
 use varint_zigzag::{
     read_u16_at, read_u32_at, read_u64_at, shortest_u16_at, shortest_u32_at, shortest_u64_at,
@@ -35,7 +38,28 @@ const OTHER_BOOL: u8 = 2;
 /// A list or set of as many elements has its size in full.
 const MANY: u32 = 15;
 
+/// So many bytes of a header stand in front of its sequence number.
+const SEQUENCE: usize = 2;
+
+/// The name of a header begins behind so many bytes at least: one is the sequence number's, and one the name's length's.
+const NAME: usize = 4;
+
 impl<'f> FormKeep<CompactWrite> for CompactRead<'f> {
+    #[inline(always)]
+    fn keep_front<'a>(frame: &'a [u8], room: &'a mut [u8]) -> Option<(Head<'a>, usize)>
+        requires size { length frame.now < 2 ^ 31 }
+        requires room { length frame.now ≤ length room.old }
+        ensures reads { IfSome result (λ x. ReadsHead reader_at (reads_head (begun frame.now)) frame.now (header_of x.0) x.1) }
+        ensures place { IfSome result (λ x. (length x.0.name.now ≤ x.1) × (x.1 ≤ length frame.now)) }
+        ensures own { IfSome result (λ x. take x.1 frame.now ≡ head_spelling (header_of x.0)) }
+    {
+        let (head, behind) = CompactRead::front(frame, room)?;
+        if !is_own_front(frame, behind - head.name.len()) {
+            return None;
+        }
+        Some((head, behind))
+    }
+
     #[inline(always)]
     fn keep_next(frame: &[u8], at: usize, opening: Opening, last: i16) -> Option<(Lead, i16, usize)>
         requires { at ≤ length frame.now }
@@ -230,6 +254,27 @@ impl<'f> FormKeep<CompactWrite> for CompactRead<'f> {
     }
 }
 
+/// Whether the two numbers in front of a header's name, which was read from a place on, have no more bytes than they need.
+#[inline(always)]
+fn is_own_front(frame: &[u8], begin: usize) -> bool
+    requires { begin ≤ length frame.now }
+    ensures { result ≡ true → IsOwnFront frame.now begin }
+{
+    begin <= NAME || are_shortest(frame)
+}
+
+// A header's sequence number and its name's length, where one of them has two bytes or more.
+#[inline(always)]
+fn are_shortest(frame: &[u8]) -> bool
+    requires { 2 ≤ length frame.now }
+    ensures { result ≡ true → AreShortest frame.now 2 }
+{
+    match shortest_u32_at(frame, SEQUENCE) {
+        Some(count) => tight_size(frame, SEQUENCE + count).is_some(),
+        None => false,
+    }
+}
+
 /// Whether a field's id that was read between two places stands as the writer spells it: in the field's byte, or in full
 /// and short where the byte can't tell it.
 #[inline(always)]
@@ -246,24 +291,10 @@ fn is_long_id(frame: &[u8], at: usize, behind: usize, last: i16, id: i16) -> boo
     requires { at + 1 < behind }
     ensures { result ≡ true → (short_step last id ≡ None) × IsTight frame.now (at + 1) behind }
 {
-    if is_near(last, id) || behind > frame.len() {
+    if short_step(last, id).is_some() || behind > frame.len() {
         return false;
     }
     is_tight(frame, at + 1, behind)
-}
-
-// Whether a field's byte can tell the id behind the last one.
-#[tactic(auto, unfolding(compact_protocol::specs::Plain::short_step))]
-fn is_near(last: i16, id: i16) -> bool
-    ensures { result ≡ false → short_step last id ≡ None }
-{
-    let step = i32::from(id) - i32::from(last);
-    if 0 < step {
-        if step < 16 {
-            return true;
-        }
-    }
-    false
 }
 
 /// Whether the size of a list or set that was read between two places stands as the writer spells it: in the first byte,

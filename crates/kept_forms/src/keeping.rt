@@ -1,19 +1,30 @@
-//! One item of a frame that goes on in its own protocol: read, and its bytes are those that the writer would lay.
-ghost use Rattle.std.specs.Prelude.{◌≡◌, ◌+◌, ◌≤◌, ◌<◌, length, drop, true, IfSome};
+//! The header or one item of a frame that goes on in its own protocol: read, and its bytes are those that the writer would
+//! lay.
+ghost use Rattle.std.specs.Prelude.{◌≡◌, ◌+◌, ◌≤◌, ◌<◌, ◌^◌, length, take, drop, true, IfSome};
 ghost use Rattle.thrift_value.specs.declared.kind.Kind.{Kind};
 ghost use Rattle.protocol_traits.specs.declared.forms.Container.{Container};
 ghost use Rattle.protocol_traits.specs.declared.forms.Lead.{Lead};
 ghost use Rattle.protocol_traits.specs.declared.forms.Stand.{Stand};
-ghost use Rattle.protocol_traits.specs.Forms.{IsPast, SpellsNoPairs};
+ghost use Rattle.protocol_traits.specs.Forms.{IsPast, ReadsHead, SpellsNoPairs};
+ghost use Rattle.protocol_traits.specs.Heads.{header_of};
 ghost use Rattle.kept_forms.specs.Keeping.{KeepsElements, KeepsEnd, KeepsFlag, KeepsLead, KeepsPairs, KeepsStruct, KeepsValue};
 
-use protocol_traits::{Container, FormRead, FormWrite, Lead, Mark, Opening, Pairs, Stand};
+use protocol_traits::{Container, FormRead, FormWrite, Head, Lead, Mark, Opening, Pairs, Stand};
 use thrift_value::Kind;
 
 /// A protocol's quick reader that tells which bytes its protocol's quick writer would lay as they stand. Each call reads one
 /// item at a place of a frame, and answers the place behind it; `None` says nothing of the frame: the item may be at fault,
 /// or spelled in a way that the writer doesn't choose.
 pub trait FormKeep<W: FormWrite>: FormRead {
+    /// The header at the beginning of a frame, and the place behind it, where the body begins.
+    /// `room` is at least as long as the frame.
+    fn keep_front<'f>(frame: &'f [u8], room: &'f mut [u8]) -> Option<(Head<'f>, usize)>
+        requires size { length frame.now < 2 ^ 31 }
+        requires room { length frame.now ≤ length room.old }
+        ensures reads { IfSome result (λ x. ReadsHead Self.stands_at (Self.reads_head (Self.begun frame.now)) frame.now (header_of x.0) x.1) }
+        ensures place { IfSome result (λ x. (length x.0.name.now ≤ x.1) × (x.1 ≤ length frame.now)) }
+        ensures own { IfSome result (λ x. take x.1 frame.now ≡ W.plain_head (header_of x.0)) };
+
     /// What stands next in a struct, a field's id, and the place behind.
     fn keep_next(frame: &[u8], at: usize, opening: Opening, last: i16) -> Option<(Lead, i16, usize)>
         requires { at ≤ length frame.now }

@@ -1,0 +1,8 @@
+use Rattle.protocol_traits.specs.Heads.{header_of}
+use Rattle.kept_forms.proofs.HeaderInCompact.{front_kept}
+use Rattle.kept_forms.proofs.compact.CompactReadFormKeepCompactWrite.keep_front.Goals as goal
+
+pub returns-clause-own : goal.returns-clause-own
+returns-clause-own c =
+    let found = c.in_ok-head in
+    front_kept c.args.frame.now (header_of found.head) found.behind c.type_inv.frame found.ensures.reads (c.is_own_front.ensures c.if-not-is_own_front.false)
