@@ -9,14 +9,13 @@ use Rattle.protocol_traits.specs.declared.forms.Stand.{Stand}
 use Rattle.protocol_traits.specs.declared.traits.ReadRules.{Ghosts as ReadRules}
 use Rattle.protocol_traits.specs.declared.traits.WireWrite.{Ghosts as WriteRules}
 use Rattle.protocol_traits.specs.Forms.{lead_item}
-use Rattle.type_tables.specs.declared.declared.StructId.{StructId}
 use Rattle.type_tables.specs.declared.declared.Ty.{Ty}
 use Rattle.type_tables.specs.Declarations.{Declarations}
 use Rattle.type_walk.specs.declared.levels.Level.{Level}
 use Rattle.type_walk.specs.Positions.{called_for}
 use Rattle.translate_core.specs.Body.{source_in, target_in}
 use Rattle.kept_forms.specs.Keeping.{KeepsLead, KeepsValue}
-use Rattle.translate_core.specs.Quick.{IsFlat, TakesBody, TakesElements, TakesField, TakesFields, TakesPairs, TakesRun, TakesValue, Turns, turned}
+use Rattle.translate_core.specs.Quick.{IsFlat, TakesElements, TakesField, TakesFields, TakesPairs, TakesRun, TakesValue, Turns, turned}
 
 -- the cells are as many as the frame's bytes, and from this place on they are the frame's
 abbrev pub Mirrors : List ℕ → ℕ → List ℕ → Type 0
@@ -73,7 +72,3 @@ module _ {S T : Type 0} (reads : ReadRules S) (writes : WriteRules T) where
   KeptPairs keys values d depth frame pairs old new kept =
       IfSome kept (λ x. (level : Level) → Turns level → keys (called_for (Some level)) → values (called_for (Some (turned level)))
       → TakesPairs (source_in reads) (target_in writes) reads.stands_at writes.stands_at d level depth frame pairs.behind pairs.key pairs.value pairs.size old pairs.behind new x x)
-
-  -- a whole body of this struct, if any, was kept
-  abbrev pub KeptBody : Declarations → Option StructId → List ℕ → ℕ → List ℕ → List ℕ → Option ℕ → Type 0
-  KeptBody d body frame at old new kept = IfSome kept (λ x. TakesBody reads writes d body frame at old at new x x)

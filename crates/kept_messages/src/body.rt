@@ -13,7 +13,7 @@ use crate::leaves::{keep_leaf, keep_leaf_field, keep_leaf_run};
 use kept_forms::FormKeep;
 use protocol_traits::{Container, DEPTH, FormWrite, Lead, Mark, Opening, Pairs, Stand};
 use thrift_value::Kind;
-use translate_core::{Known, container_kind, sequence_kind, sequence_of};
+use translate_core::{Known, container_kind, mark_for, sequence_kind, sequence_of};
 use type_tables::Schema;
 
 /// Keeps the fields of an open struct of which this is known, to its end: answers the place behind it.
@@ -28,7 +28,6 @@ pub fn keep_fields<R: FormKeep<W>, W: FormWrite, K: Known>(
     depth: usize,
 ) -> Option<usize>
     requires known { K.sound known schema.now }
-    requires informed { W.marked ≡ true → K.tells ≡ true }
     requires place { from ≤ length frame.now }
     requires mirrors { Mirrors cells.old from frame.now }
     requires shallow { depth ≤ DEPTH }
@@ -72,7 +71,6 @@ fn keep_field<R: FormKeep<W>, W: FormWrite, K: Known>(
     depth: usize,
 ) -> Option<usize>
     requires known { K.sound known schema.now }
-    requires informed { W.marked ≡ true → K.tells ≡ true }
     requires place { IsPast at frame.now behind }
     requires lead { KeptLead R.ReadRules W.WireWrite frame.now at opening last lead id behind }
     requires mirrors { Mirrors cells.old at frame.now }
@@ -106,7 +104,6 @@ fn keep_level_field<R: FormKeep<W>, W: FormWrite, K: Known>(
     depth: usize,
 ) -> Option<usize>
     requires known { K.sound known schema.now }
-    requires informed { W.marked ≡ true → K.tells ≡ true }
     requires place { IsPast at frame.now behind }
     requires lead { KeptLead R.ReadRules W.WireWrite frame.now at opening last lead id behind }
     requires mirrors { Mirrors cells.old at frame.now }
@@ -147,7 +144,6 @@ fn keep_value<R: FormKeep<W>, W: FormWrite, K: Known>(
     depth: usize,
 ) -> Option<usize>
     requires known { K.sound known schema.now }
-    requires informed { W.marked ≡ true → K.tells ≡ true }
     requires place { at ≤ length frame.now }
     requires mirrors { Mirrors cells.old at frame.now }
     requires shallow { depth ≤ DEPTH }
@@ -178,7 +174,6 @@ fn keep_inner<R: FormKeep<W>, W: FormWrite, K: Known>(
     depth: usize,
 ) -> Option<usize>
     requires known { K.sound known schema.now }
-    requires informed { W.marked ≡ true → K.tells ≡ true }
     requires place { at ≤ length frame.now }
     requires mirrors { Mirrors cells.old at frame.now }
     requires shallow { depth ≤ DEPTH }
@@ -209,7 +204,6 @@ fn call_level<R: FormKeep<W>, W: FormWrite, K: Known>(
     depth: usize,
 ) -> Option<usize>
     requires known { K.sound known schema.now }
-    requires informed { W.marked ≡ true → K.tells ≡ true }
     requires place { at ≤ length frame.now }
     requires mirrors { Mirrors cells.old at frame.now }
     requires shallow { depth ≤ DEPTH }
@@ -239,7 +233,6 @@ fn keep_struct<R: FormKeep<W>, W: FormWrite, K: Known>(
     depth: usize,
 ) -> Option<usize>
     requires known { K.sound known schema.now }
-    requires informed { W.marked ≡ true → K.tells ≡ true }
     requires place { at ≤ length frame.now }
     requires mirrors { Mirrors cells.old at frame.now }
     requires shallow { depth ≤ DEPTH }
@@ -268,7 +261,6 @@ fn keep_list<R: FormKeep<W>, W: FormWrite, K: Known>(
     depth: usize,
 ) -> Option<usize>
     requires known { K.sound known schema.now }
-    requires informed { W.marked ≡ true → K.tells ≡ true }
     requires place { at ≤ length frame.now }
     requires mirrors { Mirrors cells.old at frame.now }
     requires shallow { depth ≤ DEPTH }
@@ -310,7 +302,6 @@ fn keep_elements<R: FormKeep<W>, W: FormWrite, K: Known>(
     depth: usize,
 ) -> Option<usize>
     requires known { K.sound known schema.now }
-    requires informed { W.marked ≡ true → K.tells ≡ true }
     requires place { at ≤ length frame.now }
     requires mirrors { Mirrors cells.old at frame.now }
     requires shallow { depth ≤ DEPTH }
@@ -337,7 +328,6 @@ fn keep_run<R: FormKeep<W>, W: FormWrite, K: Known>(
     depth: usize,
 ) -> Option<usize>
     requires known { K.sound known schema.now }
-    requires informed { W.marked ≡ true → K.tells ≡ true }
     requires place { at ≤ length frame.now }
     requires mirrors { Mirrors cells.old at frame.now }
     requires shallow { depth ≤ DEPTH }
@@ -367,7 +357,6 @@ fn keep_levels<R: FormKeep<W>, W: FormWrite, K: Known>(
     depth: usize,
 ) -> Option<usize>
     requires known { K.sound known schema.now }
-    requires informed { W.marked ≡ true → K.tells ≡ true }
     requires place { from ≤ length frame.now }
     requires mirrors { Mirrors cells.old from frame.now }
     requires shallow { depth ≤ DEPTH }
@@ -396,7 +385,6 @@ fn keep_map<R: FormKeep<W>, W: FormWrite, K: Known>(
     depth: usize,
 ) -> Option<usize>
     requires known { K.sound known schema.now }
-    requires informed { W.marked ≡ true → K.tells ≡ true }
     requires place { at ≤ length frame.now }
     requires mirrors { Mirrors cells.old at frame.now }
     requires shallow { depth ≤ DEPTH }
@@ -409,7 +397,7 @@ fn keep_map<R: FormKeep<W>, W: FormWrite, K: Known>(
     }
     let pairs = R::keep_pairs(frame, at, stand)?;
     if pairs.size == 0 {
-        let mark = known.mark(schema);
+        let mark = mark_for::<W, K>(known, schema)?;
         return renewed::<R, W>(cells, at, pairs.behind, stand, mark);
     }
     let key = known.key(schema, pairs.key, pairs.value);
@@ -452,7 +440,6 @@ fn keep_pairs<R: FormKeep<W>, W: FormWrite, K: Known>(
 ) -> Option<usize>
     requires key { K.sound key schema.now }
     requires value { K.sound value schema.now }
-    requires informed { W.marked ≡ true → K.tells ≡ true }
     requires place { pairs.behind ≤ length frame.now }
     requires mirrors { Mirrors cells.old pairs.behind frame.now }
     requires shallow { depth ≤ DEPTH }

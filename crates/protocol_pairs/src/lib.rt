@@ -6,10 +6,8 @@
 
 mod answers;
 mod methods;
-mod outcome;
 mod pairs;
 
 pub use answers::answer;
 pub use methods::{served, translate_method};
-pub use outcome::Outcome;
 pub use pairs::{translate, translate_by_events, translate_quickly};

@@ -6,7 +6,6 @@ ghost use Rattle.translate_core.specs.Judged.{IsJudged, IsLeft, judged_frame};
 ghost use Rattle.translate_core.specs.Routes.{IsKnownRoute};
 ghost use Rattle.protocol_pairs.specs.Pairs.{binary_source, compact_source, json_source, judged, judged_to};
 
-use crate::outcome::Outcome;
 use binary_protocol::{BinaryRead, BinaryWrite};
 use compact_protocol::{CompactRead, CompactWrite};
 use gate_io::Out;
@@ -14,7 +13,7 @@ use json_protocol::{JsonRead, JsonWrite};
 use kept_forms::FormKeep;
 use kept_messages::pass_kept;
 use protocol_traits::{FormRead, FormWrite, Proto, WireRead};
-use translate_core::{HeadInfo, Route, Verdict, pass_quickly};
+use translate_core::{HeadInfo, Outcome, Route, Verdict, pass_quickly};
 use type_tables::Schema;
 
 /// Translates a frame to the end of `out`, or leaves `out` as it was.
@@ -98,7 +97,7 @@ fn pass_binary<O: Outcome>(
     ensures passes { O.passes result out.old.bytes out.new.bytes (judged_to binary_source schema.now route to frame.now) }
 {
     match to {
-        Proto::Binary => pass_own::<BinaryRead, BinaryWrite, O>(schema, route, frame, room, out),
+        Proto::Binary => keep_own::<BinaryRead, BinaryWrite, O>(schema, route, frame, room, out),
         Proto::Compact => pass_apart::<BinaryRead, CompactWrite, O>(
             schema, route, frame, room, out,
         ),
@@ -158,8 +157,28 @@ fn pass_json<O: Outcome>(
     }
 }
 
-/// The same where the message goes on in its own protocol: nearly always the bytes that came are those that go out.
+/// The same where the message goes on in its own protocol, and what isn't kept is left.
 #[inline(never)]
+fn keep_own<R: FormKeep<W>, W: FormWrite, O: Outcome>(
+    schema: &Schema,
+    route: Route,
+    frame: &[u8],
+    room: &mut [u8],
+    out: &mut Out,
+) -> O
+    requires known { IsKnownRoute schema.now route }
+    requires room { length frame.now ≤ length room.old }
+    requires size { length frame.now < 2 ^ 31 }
+    requires fits { length out.old.bytes + room_for (length frame.now) ≤ out.old.room }
+    ensures left { O.fails result → out.new ≡ out.old }
+    ensures room { out.new.room ≡ out.old.room }
+    ensures short { length out.new.bytes ≤ length out.old.bytes + room_for (length frame.now) }
+    ensures passes { O.passes result out.old.bytes out.new.bytes (judged_frame R.ReadRules W.WireWrite schema.now route frame.now) }
+{
+    pass_kept::<R, W, O>(schema, route, frame, room, out)
+}
+
+/// The same where what isn't kept may be spelled in another way than the writer's.
 fn pass_own<R: FormKeep<W>, W: FormWrite, O: Outcome>(
     schema: &Schema,
     route: Route,
@@ -176,10 +195,11 @@ fn pass_own<R: FormKeep<W>, W: FormWrite, O: Outcome>(
     ensures short { length out.new.bytes ≤ length out.old.bytes + room_for (length frame.now) }
     ensures passes { O.passes result out.old.bytes out.new.bytes (judged_frame R.ReadRules W.WireWrite schema.now route frame.now) }
 {
-    match pass_kept::<R, W>(schema, route, frame, room, out) {
-        Some(info) => O::of(Some(info)),
-        None => pass_apart::<R, W, O>(schema, route, frame, room, out),
+    let kept = keep_own::<R, W, O>(schema, route, frame, room, out);
+    if kept.is_left() {
+        return pass_apart::<R, W, O>(schema, route, frame, room, out);
     }
+    kept
 }
 
 /// The same for the writer of the target's protocol, as a function of its own: what one pair of protocols needs fits the
@@ -201,7 +221,7 @@ fn pass_apart<R: FormRead, W: FormWrite, O: Outcome>(
     ensures short { length out.new.bytes ≤ length out.old.bytes + room_for (length frame.now) }
     ensures passes { O.passes result out.old.bytes out.new.bytes (judged_frame R.ReadRules W.WireWrite schema.now route frame.now) }
 {
-    O::of(pass_quickly::<R, W>(schema, route, frame, room, out))
+    pass_quickly::<R, W, O>(schema, route, frame, room, out)
 }
 
 /// Translates a frame to the end of `out` event by event, or leaves `out` as it was: `translate` for a frame that the quick

@@ -6,8 +6,13 @@ use Rattle.type_tables.specs.declared.declared.MethodInfo.{MethodInfo}
 use Rattle.translate_core.specs.declared.verdict.Cause.{Cause}
 use Rattle.translate_core.specs.declared.verdict.Verdict.{Verdict}
 use Rattle.translate_core.specs.declared.verdict.Verdict.TheVariants as verdicts
+use Rattle.type_tables.specs.declared.declared.ServiceId.{ServiceId}
+use Rattle.type_tables.specs.Declarations.{Declarations}
+use Rattle.protocol_traits.specs.declared.proto.Proto.{Proto}
+use Rattle.translate_core.specs.declared.route.Route.TheVariants.{ByName}
 use Rattle.translate_core.specs.Judged.{Judged}
 use Rattle.translate_core.specs.Routes.{result_of}
+use Rattle.protocol_pairs.specs.Pairs.{judged}
 use Rattle.session_core.specs.declared.judge.Call.{Call}
 use Rattle.session_core.specs.declared.judge.ClientJudged.{ClientJudged}
 use Rattle.session_core.specs.declared.judge.ClientJudged.TheVariants as client
@@ -51,6 +56,14 @@ onward (client.Dropped cause) bytes = []
 -- the same of a frame that was judged
 abbrev pub output_of : Judged → List ℕ
 output_of judged = onward (of_client judged.verdict) judged.bytes
+
+-- what becomes of a frame of the client by a schema, where names without a service are those of this one
+abbrev pub call_verdict : Declarations → Option ServiceId → Proto → Proto → List ℕ → ClientJudged
+call_verdict d service from to frame = of_client (judged d (ByName service) from to frame).verdict
+
+-- what goes to the upstream for it
+abbrev pub call_bytes : Declarations → Option ServiceId → Proto → Proto → List ℕ → List ℕ
+call_bytes d service from to frame = output_of (judged d (ByName service) from to frame)
 
 -- what answers the frame, where it is refused and waits for an answer
 abbrev pub answer_by : (Cause → List ℕ) → ClientJudged → List ℕ

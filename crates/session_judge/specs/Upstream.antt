@@ -47,6 +47,10 @@ returned answer (Unread fault) bytes = []
 abbrev pub reply_of : (Cause → List ℕ) → Judged → List ℕ
 reply_of answer judged = returned answer judged.verdict judged.bytes
 
--- what goes to the client for a frame of the upstream that is judged as the reply of this struct
+-- what becomes of a frame of the upstream that is judged as the reply of this struct
+abbrev pub reply_verdict : Declarations → Option StructId → Proto → Proto → List ℕ → UpstreamJudged
+reply_verdict d reply from to frame = of_upstream (judged d (Answer (expected d reply)) from to frame).verdict
+
+-- what goes to the client for it
 abbrev pub reply_bytes : Declarations → Option StructId → Proto → Proto → List ℕ → List ℕ
 reply_bytes d reply from to frame = reply_of (answered from to frame) (judged d (Answer (expected d reply)) from to frame)

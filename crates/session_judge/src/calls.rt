@@ -1,18 +1,17 @@
 //! What becomes of a frame of the client.
 ghost use Rattle.std.specs.Prelude.{◌≡◌, ◌+◌, ◌^◌, ◌<◌, ◌≤◌, ◌++◌, Some, length, take, drop, IfSome};
-ghost use Rattle.protocol_pairs.specs.Pairs.{judged};
 ghost use Rattle.protocol_traits.specs.Room.{room_for};
 ghost use Rattle.session_core.specs.Quick.{seen_as};
-ghost use Rattle.session_judge.specs.Client.{is_answered, call_of, passed_on, refused, of_client, onward, output_of};
+ghost use Rattle.session_judge.specs.Client.{call_bytes, call_of, call_verdict, is_answered, of_client, onward, passed_on, refused};
 ghost use Rattle.session_judge.specs.declared.calls.CallSeen.{CallSeen};
 ghost use Rattle.session_judge.specs.Quick.{client_told, PassedOn};
 
 use gate_io::Out;
-use protocol_pairs::{Outcome, translate_by_events, translate_quickly};
-use protocol_traits::Proto;
+use protocol_pairs::{translate_by_events, translate_quickly};
+use protocol_traits::{Head, Proto};
 use session_core::{Call, CallLook, ClientJudged, Halt};
 use thrift_value::MessageType;
-use translate_core::{Cause, HeadInfo, Route, Verdict};
+use translate_core::{Cause, HeadInfo, Outcome, Route, Verdict, told_of};
 use type_tables::{MethodInfo, Schema, ServiceId, StructId};
 
 /// What the quick way tells of a frame of the client: what a session asks of it and no more, so that it is handed on in
@@ -37,11 +36,24 @@ impl Outcome for CallSeen {
     ghost passes = { λ seen old new j. PassedOn seen old new j };
 
     #[inline(always)]
-    fn of(info: Option<HeadInfo>) -> Self {
-        match info {
-            Some(info) => seen_of(info.method, info.mtype),
-            None => CallSeen::Nothing,
-        }
+    fn left() -> Self {
+        CallSeen::Nothing
+    }
+
+    #[inline(always)]
+    fn is_left(self) -> bool {
+        matches!(self, CallSeen::Nothing)
+    }
+
+    #[inline(always)]
+    fn passed(info: HeadInfo) -> Self {
+        seen_of(info.method, info.mtype)
+    }
+
+    #[inline(always)]
+    fn passed_by(schema: &Schema, route: Route, head: &Head<'_>) -> Self {
+        let info = told_of(schema, route, head).info;
+        seen_of(info.method, info.mtype)
     }
 }
 
@@ -87,8 +99,8 @@ pub fn pass_call(
     requires room { length frame.now ≤ length room.old }
     requires size { length frame.now < 2 ^ 31 }
     requires fits { length out.old.bytes + room_for (length frame.now) ≤ out.old.room }
-    ensures verdict { IfSome (seen_as result) (λ told. told ≡ of_client (judged schema.now (Route.ByName service) from to frame.now).verdict) }
-    ensures out { IfSome (seen_as result) (λ told. out.new ≡ record out.old { bytes = out.old.bytes ++ output_of (judged schema.now (Route.ByName service) from to frame.now) }) }
+    ensures verdict { IfSome (seen_as result) (λ told. told ≡ call_verdict schema.now service from to frame.now) }
+    ensures out { IfSome (seen_as result) (λ told. out.new ≡ record out.old { bytes = out.old.bytes ++ call_bytes schema.now service from to frame.now }) }
     ensures left { result ≡ CallLook.Nothing → out.new ≡ out.old }
     ensures within { length out.new.bytes ≤ out.new.room }
 {
@@ -123,8 +135,8 @@ pub fn judge_client(
     requires room { length frame.now ≤ length room.old }
     requires size { length frame.now < 2 ^ 31 }
     requires fits { length out.old.bytes + room_for (length frame.now) ≤ out.old.room }
-    ensures verdict { result ≡ of_client (judged schema.now (Route.ByName service) from to frame.now).verdict }
-    ensures out { out.new ≡ record out.old { bytes = out.old.bytes ++ output_of (judged schema.now (Route.ByName service) from to frame.now) } }
+    ensures verdict { result ≡ call_verdict schema.now service from to frame.now }
+    ensures out { out.new ≡ record out.old { bytes = out.old.bytes ++ call_bytes schema.now service from to frame.now } }
     ensures within { length out.new.bytes ≤ out.new.room }
 {
     let start = out.bytes().len();

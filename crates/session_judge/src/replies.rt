@@ -3,16 +3,16 @@ ghost use Rattle.std.specs.Prelude.{◌≡◌, ◌+◌, ◌^◌, ◌<◌, ◌≤
 ghost use Rattle.translate_core.specs.Routes.{IsKnownRoute};
 ghost use Rattle.protocol_pairs.specs.Pairs.{judged, answered};
 ghost use Rattle.protocol_traits.specs.Room.{room_for};
-ghost use Rattle.session_judge.specs.Upstream.{expected, of_type, of_upstream, back, reply_bytes};
+ghost use Rattle.session_judge.specs.Upstream.{back, expected, of_type, of_upstream, reply_bytes, reply_verdict};
 ghost use Rattle.session_judge.specs.declared.replies.ReplySeen.{ReplySeen};
 ghost use Rattle.session_judge.specs.Quick.{upstream_told, PassedBack};
 
 use gate_io::Out;
-use protocol_pairs::{Outcome, answer, translate_by_events, translate_quickly};
-use protocol_traits::Proto;
+use protocol_pairs::{answer, translate_by_events, translate_quickly};
+use protocol_traits::{Head, Proto};
 use session_core::{Halt, UpstreamJudged};
 use thrift_value::MessageType;
-use translate_core::{Cause, HeadInfo, Route, Verdict};
+use translate_core::{Cause, HeadInfo, Outcome, Route, Verdict};
 use type_tables::{Schema, StructId};
 
 /// What the quick way tells of a frame of the upstream: what a session asks of it and no more.
@@ -32,11 +32,24 @@ impl Outcome for ReplySeen {
     ghost passes = { λ seen old new j. PassedBack seen old new j };
 
     #[inline(always)]
-    fn of(info: Option<HeadInfo>) -> Self {
-        match info {
-            Some(info) => seen_of(info.mtype),
-            None => ReplySeen::Nothing,
-        }
+    fn left() -> Self {
+        ReplySeen::Nothing
+    }
+
+    #[inline(always)]
+    fn is_left(self) -> bool {
+        matches!(self, ReplySeen::Nothing)
+    }
+
+    #[inline(always)]
+    fn passed(info: HeadInfo) -> Self {
+        seen_of(info.mtype)
+    }
+
+    #[inline(always)]
+    #[tactic(auto, unfolding(translate_core::specs::Routes::info_of))]
+    fn passed_by(_schema: &Schema, _route: Route, head: &Head<'_>) -> Self {
+        seen_of(head.mtype)
     }
 }
 
@@ -67,7 +80,7 @@ pub fn pass_reply(
     requires room { length frame.now ≤ length room.old }
     requires size { length frame.now < 2 ^ 31 }
     requires fits { length out.old.bytes + room_for (length frame.now) ≤ out.old.room }
-    ensures verdict { result ≡ true → of_upstream (judged schema.now (Route.Answer (expected schema.now reply)) from to frame.now).verdict ≡ UpstreamJudged.Answers None }
+    ensures verdict { result ≡ true → reply_verdict schema.now reply from to frame.now ≡ UpstreamJudged.Answers None }
     ensures out { result ≡ true → out.new ≡ record out.old { bytes = out.old.bytes ++ reply_bytes schema.now reply from to frame.now } }
     ensures left { result ≡ false → out.new ≡ out.old }
     ensures within { length out.new.bytes ≤ out.new.room }
@@ -98,7 +111,7 @@ pub fn judge_reply(
     requires room { length frame.now ≤ length room.old }
     requires size { length frame.now < 2 ^ 31 }
     requires fits { length out.old.bytes + room_for (length frame.now) ≤ out.old.room }
-    ensures verdict { result ≡ of_upstream (judged schema.now (Route.Answer (expected schema.now reply)) from to frame.now).verdict }
+    ensures verdict { result ≡ reply_verdict schema.now reply from to frame.now }
     ensures out { out.new ≡ record out.old { bytes = out.old.bytes ++ reply_bytes schema.now reply from to frame.now } }
     ensures within { length out.new.bytes ≤ out.new.room }
 {
@@ -122,7 +135,7 @@ pub fn judge_by_events(
     requires room { length frame.now ≤ length room.old }
     requires size { length frame.now < 2 ^ 31 }
     requires fits { length out.old.bytes + room_for (length frame.now) ≤ out.old.room }
-    ensures verdict { result ≡ of_upstream (judged schema.now (Route.Answer (expected schema.now reply)) from to frame.now).verdict }
+    ensures verdict { result ≡ reply_verdict schema.now reply from to frame.now }
     ensures out { out.new ≡ record out.old { bytes = out.old.bytes ++ reply_bytes schema.now reply from to frame.now } }
     ensures within { length out.new.bytes ≤ out.new.room }
 {

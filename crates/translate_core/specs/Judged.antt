@@ -72,6 +72,10 @@ module _ {S P T : Type 0} (source : Source S) (positions : Positions P) (start :
 abbrev pub IsJudged : Verdict → List ℕ → List ℕ → Judged → Type 0
 IsJudged verdict old new j = (j.verdict ≡ verdict) × (new ≡ old ++ j.bytes)
 
+-- the verdict is that the message passed, and of its header this is told
+abbrev pub IsPassed : HeadInfo → List ℕ → List ℕ → Judged → Type 0
+IsPassed info old new j = IsJudged (Passed info) old new j
+
 -- where the message does not pass the output is as it was
 abbrev pub IsLeft : Verdict → List ℕ → List ℕ → Type 0
 IsLeft (Passed info) old new = Unit {0}

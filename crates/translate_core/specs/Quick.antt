@@ -14,10 +14,11 @@ use Rattle.protocol_traits.specs.declared.forms.Stand.{Stand}
 use Rattle.protocol_traits.specs.declared.nest.Slot.{Slot}
 use Rattle.protocol_traits.specs.declared.nest.Slot.TheVariants as slots
 use Rattle.protocol_traits.specs.Follow.{spent}
-use Rattle.protocol_traits.specs.Heads.{Header}
+use Rattle.protocol_traits.specs.declared.proto.Head.{Head}
+use Rattle.protocol_traits.specs.Heads.{Header, header_of}
 use Rattle.protocol_traits.specs.Steps.{told}
 use Rattle.protocol_traits.specs.declared.proto.Hint.{Hint}
-use Rattle.protocol_traits.specs.Forms.{Appends, Calls, Steps, lead_item}
+use Rattle.protocol_traits.specs.Forms.{Appends, Calls, Steps, container_kind, lead_item}
 use Rattle.thrift_value.specs.Items.{Item, field}
 use Rattle.type_tables.specs.declared.declared.StructId.{StructId}
 use Rattle.type_tables.specs.declared.declared.Ty.{Ty}
@@ -68,8 +69,8 @@ abbrev pub Turns : Level → Type 0
 Turns level = (outer : List Level) → (passed (level ∷ outer) ≡ turned level ∷ outer) × (passed (turned level ∷ outer) ≡ level ∷ outer)
 
 -- what is known says what reading and writing depend on
-abbrev pub Informs : Bool → Bool → Bool → Bool → Type 0
-Informs tells reads_hinted writes_hinted marked = (reads_hinted ≡ true → tells ≡ true) × (writes_hinted ≡ true → tells ≡ true) × (marked ≡ true → tells ≡ true)
+abbrev pub Informs : Bool → Bool → Bool → Type 0
+Informs tells reads_hinted writes_hinted = (reads_hinted ≡ true → tells ≡ true) × (writes_hinted ≡ true → tells ≡ true)
 
 -- there are 24 cells for each byte that is left of the frame, and so many more
 abbrev pub HasRoom : ℕ → List ℕ → ℕ → List ℕ → ℕ → Type 0
@@ -190,6 +191,11 @@ module _ {S T : Type 0} (reads : ReadRules S) (writes : WriteRules T) where
     TookField depth frame at opening last kind id behind old to new taken = IfSome taken (λ x. (ty : Ty) → means ty
         → TakesField (source_in reads) (target_in writes) reads.stands_at writes.stands_at d ty depth frame at opening last (field id kind) id behind old to new x.read x.written)
 
+    -- the same for a list or set
+    abbrev pub TookList : ℕ → List ℕ → ℕ → Opening → ℤ → Container → ℤ → ℕ → List ℕ → ℕ → List ℕ → Option Reach → Type 0
+    TookList depth frame at opening last container id behind old to new taken =
+        TookField depth frame at opening last (container_kind container) id behind old to new taken
+
     -- a field was taken that this lead tells
     abbrev pub TookLead : ℕ → List ℕ → ℕ → Opening → ℤ → Lead → ℤ → ℕ → List ℕ → ℕ → List ℕ → Option Reach → Type 0
     TookLead depth frame at opening last lead id behind old to new taken = IfSome taken (λ x. (ty : Ty) → means ty
@@ -199,11 +205,6 @@ module _ {S T : Type 0} (reads : ReadRules S) (writes : WriteRules T) where
     abbrev pub TookFields : ℕ → List ℕ → ℕ → Opening → List ℕ → ℕ → List ℕ → Option ℕ → ℕ → Type 0
     TookFields depth frame at opening old to new taken written = IfSome taken (λ read. (ty : Ty) → means ty
         → TakesFields (source_in reads) (target_in writes) reads.stands_at writes.stands_at d ty depth frame at opening old to new read written)
-
-    -- the fields of a body were taken to its end
-    abbrev pub TookBody : List ℕ → ℕ → List ℕ → ℕ → List ℕ → Option Reach → Type 0
-    TookBody frame at old to new taken = IfSome taken (λ x. (ty : Ty) → means ty
-        → TakesFields (source_in reads) (target_in writes) reads.stands_at writes.stands_at d ty 1 frame at openings.Body old to new x.read x.written)
 
     -- so many elements of a list or set were taken, and its end was not
     abbrev pub TookRun : ℕ → List ℕ → ℕ → Kind → ℕ → List ℕ → ℕ → List ℕ → Option Reach → Type 0
@@ -221,11 +222,6 @@ module _ {S T : Type 0} (reads : ReadRules S) (writes : WriteRules T) where
       IfSome taken (λ x. (level : Level) → Turns level → keys (called_for (Some level)) → values (called_for (Some (turned level)))
       → TakesPairs (source_in reads) (target_in writes) reads.stands_at writes.stands_at d level depth frame pairs.behind pairs.key pairs.value pairs.size old to new x.read x.written)
 
-  -- a whole body of this struct, if any, was taken from a place of the frame into the cells from a place on
-  abbrev pub TakesBody : Declarations → Option StructId → List ℕ → ℕ → List ℕ → ℕ → List ℕ → ℕ → ℕ → Type 0
-  TakesBody d body frame at old to new read written =
-      TakesFields (source_in reads) (target_in writes) reads.stands_at writes.stands_at d (body_type body) 1 frame at openings.Body old to new read written
-
   -- From each reader that stands at the beginning of the body, at this place of the frame, the body passes whole.
   abbrev pub PassesBody : Declarations → Option StructId → List ℕ → ℕ → List ℕ → List ℕ → Type 0
   PassesBody d body frame at old new =
@@ -234,3 +230,11 @@ module _ {S T : Type 0} (reads : ReadRules S) (writes : WriteRules T) where
   -- the same behind this header, which was written first
   abbrev pub PassesMessage : Declarations → Option StructId → Header → List ℕ → ℕ → List ℕ → List ℕ → Type 0
   PassesMessage d body header frame at old new = PassesBody d body frame at (old ++ writes.plain_head header) new
+
+  -- the same for each struct that a body may be of which something is known
+  module _ (means : Ty → Type 0) (d : Declarations) where
+    abbrev pub PassedBody : List ℕ → ℕ → List ℕ → List ℕ → Type 0
+    PassedBody frame at old new = (body : Option StructId) → means (body_type body) → PassesBody d body frame at old new
+
+    abbrev pub PassedMessage : Head → List ℕ → ℕ → List ℕ → List ℕ → Type 0
+    PassedMessage head frame at old new = (body : Option StructId) → means (body_type body) → PassesMessage d body (header_of head) frame at old new

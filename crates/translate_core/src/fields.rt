@@ -82,7 +82,7 @@ pub fn take_text_field<R: FormRead, W: FormWrite, K: Known>(
     behind: usize,
 ) -> Option<Reach>
     requires known { K.sound known schema.now }
-    requires informed { Informs K.tells R.hinted W.hinted W.marked }
+    requires informed { Informs K.tells R.hinted W.hinted }
     requires size { length frame.now < 2 ^ 31 }
     requires place { IsPast at frame.now behind }
     requires room { HasRoom BEFORE_FIELD frame.now at cells.old to }
@@ -100,7 +100,7 @@ pub fn take_text_field<R: FormRead, W: FormWrite, K: Known>(
 #[inline(always)]
 fn text_hint<R: FormRead, W: FormWrite, K: Known>(known: K, schema: &Schema, id: i16) -> Hint
     requires known { K.sound known schema.now }
-    requires informed { Informs K.tells R.hinted W.hinted W.marked }
+    requires informed { Informs K.tells R.hinted W.hinted }
     ensures reads { (ty : Ty) → K.means known ty → R.hinted ≡ true → hint_at (field_type schema.now (Some (in_struct ty)) id Kind.Str) ≡ result }
     ensures writes { (ty : Ty) → K.means known ty → W.hinted ≡ true → hint_at (field_type schema.now (Some (in_struct ty)) id Kind.Str) ≡ result }
 {

@@ -1,5 +1,5 @@
 //! What the quick way knows of the type of a value.
-ghost use Rattle.std.specs.Prelude.{◌≡◌, ⊤, Bool, true, false, Some, refl};
+ghost use Rattle.std.specs.Prelude.{◌≡◌, ⊤, Bool, true, false, Some, IfSome, refl};
 ghost use Rattle.type_tables.specs.declared.declared.Ty.{Ty};
 ghost use Rattle.type_tables.specs.declared.declared.Ty.TheVariants.{Unknown};
 ghost use Rattle.type_tables.specs.Declarations.{Declarations};
@@ -8,7 +8,7 @@ ghost use Rattle.type_walk.specs.Known.{IsKnownLevel};
 ghost use Rattle.type_walk.specs.Positions.{field_type, hint_at, in_map, in_struct, called_for, mark_at};
 ghost use Rattle.translate_core.specs.Quick.{in_elements, turned};
 
-use protocol_traits::{Container, Hint, Mark};
+use protocol_traits::{Container, FormWrite, Hint, Mark};
 use thrift_value::Kind;
 use type_tables::{Schema, Ty};
 use type_walk::{
@@ -24,7 +24,7 @@ pub trait Known: Copy {
     /// The numbers in it are this schema's.
     ghost sound: { Self → Declarations → Type 0 };
 
-    /// Whether it says how a string is read and how an empty map is written.
+    /// Whether it says how a string is read.
     ghost tells: { Bool };
 
     /// Of the field with this id, where a value of this kind is announced.
@@ -55,13 +55,26 @@ pub trait Known: Copy {
     fn hint(self) -> Hint
         ensures { (ty : Ty) → means self ty → tells ≡ true → hint_at ty ≡ result };
 
-    /// What is known of an empty map.
-    fn mark(self, schema: &Schema) -> Mark
+    /// What is known of an empty map, if this says so.
+    fn mark(self, schema: &Schema) -> Option<Mark>
         requires { sound self schema.now }
-        ensures { (ty : Ty) → means self ty → tells ≡ true → mark_at schema.now ty ≡ result };
+        ensures { IfSome result (λ mark. (ty : Ty) → means self ty → mark_at schema.now ty ≡ mark) };
 }
 
-/// Nothing. It is enough where neither reading nor writing depends on the position.
+/// What an empty map is written by; none where that depends on the position, and nothing is known of it.
+#[inline(always)]
+pub fn mark_for<W: FormWrite, K: Known>(known: K, schema: &Schema) -> Option<Mark>
+    requires { K.sound known schema.now }
+    ensures { IfSome result (λ mark. (ty : Ty) → K.means known ty → W.marked ≡ true → mark_at schema.now ty ≡ mark) }
+{
+    if W::is_marked() {
+        return known.mark(schema);
+    }
+    Some(unknown_mark())
+}
+
+/// Nothing. It is enough where neither reading nor writing depends on the position, and for each message without an empty map
+/// where only writing one does.
 #[derive(Clone, Copy)]
 pub struct Nothing;
 
@@ -98,8 +111,8 @@ impl Known for Nothing {
     }
 
     #[inline(always)]
-    fn mark(self, _schema: &Schema) -> Mark {
-        unknown_mark()
+    fn mark(self, _schema: &Schema) -> Option<Mark> {
+        None
     }
 }
 
@@ -140,8 +153,8 @@ impl Known for Undeclared {
     }
 
     #[inline(always)]
-    fn mark(self, _schema: &Schema) -> Mark {
-        unknown_mark()
+    fn mark(self, _schema: &Schema) -> Option<Mark> {
+        Some(unknown_mark())
     }
 }
 
@@ -197,8 +210,8 @@ impl Known for Declared {
     }
 
     #[inline(always)]
-    fn mark(self, schema: &Schema) -> Mark {
-        mark_at(schema, self.0)
+    fn mark(self, schema: &Schema) -> Option<Mark> {
+        Some(mark_at(schema, self.0))
     }
 }
 

@@ -13,7 +13,7 @@ ghost use Rattle.translate_core.specs.Methods.{judged_method, method_header, nam
 use crate::answering::spellable;
 use crate::body::first_cause;
 use crate::message::{keep, verdict_by};
-use crate::passing::{append_message, holds_name};
+use crate::passing::{append_told, holds_name};
 use crate::route::{Route, told_of};
 use crate::verdict::{HeadInfo, Verdict};
 use gate_io::Out;
@@ -180,7 +180,7 @@ fn pass_method_quickly<R: FormRead, W: FormWrite>(
         return None;
     }
     let alone = method_head::<W>(&head);
-    if append_message::<R, W>(schema, told.body, &alone, frame, at, out) {
+    if append_told::<R, W>(schema, told.body, &alone, frame, at, out) {
         return Some(told.info);
     }
     None

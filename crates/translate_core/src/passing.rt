@@ -1,53 +1,73 @@
 //! The quick way into the output.
 ghost use Rattle.std.specs.Prelude.{◌≡◌, ◌+◌, ◌*◌, ◌≤◌, ◌<◌, ◌^◌, [], length, take, true, false, None, IfSome};
-ghost use Rattle.protocol_traits.specs.declared.forms.Opening.{Opening};
-ghost use Rattle.protocol_traits.specs.Forms.{IsPast};
 ghost use Rattle.protocol_traits.specs.Heads.{header_of};
 ghost use Rattle.protocol_traits.specs.Room.{room_for};
-ghost use Rattle.translate_core.specs.declared.verdict.Verdict.TheVariants.{Passed};
 ghost use Rattle.translate_core.specs.Routes.{IsKnownRoute};
-ghost use Rattle.translate_core.specs.Judged.{IsJudged, judged_frame};
-ghost use Rattle.translate_core.specs.Quick.{Grows, HasRoom, Informs, PassesBody, PassesMessage, TakesBody, TookBody};
+ghost use Rattle.translate_core.specs.Judged.{judged_frame};
+ghost use Rattle.translate_core.specs.Quick.{HasRoom, Informs, PassedBody, PassedMessage, PassesMessage};
 
 use crate::known::{Declared, Known, Nothing, Undeclared};
-use crate::leaves::{AROUND, Reach};
+use crate::leaves::AROUND;
+use crate::outcome::Outcome;
 use crate::quick::take_fields;
 use crate::route::{Route, told_of};
-use crate::verdict::HeadInfo;
 use gate_io::Out;
 use protocol_traits::{FormRead, FormWrite, Head, Opening};
 use type_tables::{Schema, StructId, Ty};
 
-/// Appends a message's translation, and tells what its header says; or leaves the output as it was, which says nothing of
-/// the frame.
+/// Appends a message's translation, and tells of it what the caller asks for; or leaves the output as it was, which says
+/// nothing of the frame.
 ///
 /// `room` is at least as long as the frame. A name that doesn't lie in the frame as it is meant is laid there.
 #[inline(always)]
-pub fn pass_quickly<R: FormRead, W: FormWrite>(
+pub fn pass_quickly<R: FormRead, W: FormWrite, O: Outcome>(
     schema: &Schema,
     route: Route,
     frame: &[u8],
     room: &mut [u8],
     out: &mut Out,
-) -> Option<HeadInfo>
+) -> O
     requires known { IsKnownRoute schema.now route }
     requires room { length frame.now ≤ length room.old }
     requires size { length frame.now < 2 ^ 31 }
     requires fits { length out.old.bytes + room_for (length frame.now) ≤ out.old.room }
-    ensures left { result ≡ None → out.new ≡ out.old }
+    ensures left { O.fails result → out.new ≡ out.old }
     ensures room { out.new.room ≡ out.old.room }
     ensures short { length out.new.bytes ≤ length out.old.bytes + room_for (length frame.now) }
-    ensures passes { IfSome result (λ info. IsJudged (Passed info) out.old.bytes out.new.bytes (judged_frame R.ReadRules W.WireWrite schema.now route frame.now)) }
+    ensures passes { O.passes result out.old.bytes out.new.bytes (judged_frame R.ReadRules W.WireWrite schema.now route frame.now) }
 {
-    let (head, at) = R::front(frame, room)?;
-    let told = told_of(schema, route, &head);
+    let Some((head, at)) = R::front(frame, room) else {
+        return O::left();
+    };
     if !holds_name::<W>(head.name) {
-        return None;
+        return O::left();
     }
-    if append_message::<R, W>(schema, told.body, &head, frame, at, out) {
-        return Some(told.info);
+    if is_blind::<R, W>() {
+        if append_message::<R, W, Nothing>(Nothing, schema, &head, frame, at, out) {
+            return O::passed_by(schema, route, &head);
+        }
+        return O::left();
     }
-    None
+    let told = told_of(schema, route, &head);
+    if append_told::<R, W>(schema, told.body, &head, frame, at, out) {
+        return O::passed(told.info);
+    }
+    O::left()
+}
+
+/// Whether neither reading nor writing depends on what is declared.
+#[inline(always)]
+fn is_blind<R: FormRead, W: FormWrite>() -> bool
+    ensures reads { result ≡ true → R.hinted ≡ false }
+    ensures writes { result ≡ true → W.hinted ≡ false }
+{
+    if R::is_hinted() {
+        return false;
+    }
+    if W::is_hinted() {
+        return false;
+    }
+    !W::is_marked()
 }
 
 /// Whether the writer's protocol can hold a name.
@@ -70,11 +90,10 @@ pub fn room_for(len: usize) -> usize
     24 * len + 256
 }
 
-/// Appends a header and the body that begins at a place, and says that the message is whole; or leaves the output as it
-/// was, which says nothing of the frame. Both are laid into one tail of the output: to lend it and to cut it costs more
-/// than a header.
+/// Appends a message whose header was read and the body that begins at a place, whose struct was looked up, and says that it is
+/// whole; or leaves the output as it was, which says nothing of the frame.
 #[inline(always)]
-pub(crate) fn append_message<R: FormRead, W: FormWrite>(
+pub(crate) fn append_told<R: FormRead, W: FormWrite>(
     schema: &Schema,
     body: Option<StructId>,
     head: &Head<'_>,
@@ -93,9 +112,44 @@ pub(crate) fn append_message<R: FormRead, W: FormWrite>(
     ensures short { length out.new.bytes ≤ length out.old.bytes + room_for (length frame.now) }
     ensures passes { result ≡ true → PassesMessage R.ReadRules W.WireWrite schema.now body (header_of head.now) frame.now at out.old.bytes out.new.bytes }
 {
+    if is_blind::<R, W>() {
+        return append_message::<R, W, Nothing>(Nothing, schema, head, frame, at, out);
+    }
+    match body {
+        Some(declared) => {
+            let known = Declared(Ty::Struct(declared));
+            append_message::<R, W, Declared>(known, schema, head, frame, at, out)
+        }
+        None => append_message::<R, W, Undeclared>(Undeclared, schema, head, frame, at, out),
+    }
+}
+
+/// The same for a body of whose struct this is known. Header and body are laid into one tail of the output: to lend it and to
+/// cut it costs more than a header.
+#[inline(always)]
+fn append_message<R: FormRead, W: FormWrite, K: Known>(
+    known: K,
+    schema: &Schema,
+    head: &Head<'_>,
+    frame: &[u8],
+    at: usize,
+    out: &mut Out,
+) -> bool
+    requires known { K.sound known schema.now }
+    requires informed { Informs K.tells R.hinted W.hinted }
+    requires size { length frame.now < 2 ^ 31 }
+    requires place { at ≤ length frame.now }
+    requires name { length head.now.name.now ≤ at }
+    requires taken { W.name_bar head.now.name.now ≡ None }
+    requires fits { length out.old.bytes + room_for (length frame.now) ≤ out.old.room }
+    ensures left { result ≡ false → out.new ≡ out.old }
+    ensures room { out.new.room ≡ out.old.room }
+    ensures short { length out.new.bytes ≤ length out.old.bytes + room_for (length frame.now) }
+    ensures passes { result ≡ true → PassedMessage R.ReadRules W.WireWrite (K.means known) schema.now head.now frame.now at out.old.bytes out.new.bytes }
+{
     let before = out.bytes().len();
     let cells = out.tail(room_for(frame.len()));
-    match take_message::<R, W>(schema, body, head, frame, at, cells) {
+    match take_message::<R, W, K>(known, schema, head, frame, at, cells) {
         Some(written) => {
             out.cut(before + written);
             true
@@ -109,15 +163,16 @@ pub(crate) fn append_message<R: FormRead, W: FormWrite>(
 
 /// Lays a header and the body that begins at a place into the front of cells, and answers how many it took.
 #[inline(always)]
-fn take_message<R: FormRead, W: FormWrite>(
+fn take_message<R: FormRead, W: FormWrite, K: Known>(
+    known: K,
     schema: &Schema,
-    body: Option<StructId>,
     head: &Head<'_>,
     frame: &[u8],
     at: usize,
     cells: &mut [u8],
 ) -> Option<usize>
-    requires known { IfSome body (λ s. s.0 < length schema.now.structs) }
+    requires known { K.sound known schema.now }
+    requires informed { Informs K.tells R.hinted W.hinted }
     requires size { length frame.now < 2 ^ 31 }
     requires place { at ≤ length frame.now }
     requires name { length head.now.name.now ≤ at }
@@ -125,114 +180,36 @@ fn take_message<R: FormRead, W: FormWrite>(
     requires room { room_for (length frame.now) ≤ length cells.old }
     ensures kept { length cells.new ≡ length cells.old }
     ensures short { IfSome result (λ n. n ≤ room_for (length frame.now)) }
-    ensures passes { IfSome result (λ n. PassesMessage R.ReadRules W.WireWrite schema.now body (header_of head.now) frame.now at [] (take n cells.new)) }
+    ensures passes { IfSome result (λ n. PassedMessage R.ReadRules W.WireWrite (K.means known) schema.now head.now frame.now at [] (take n cells.new)) }
 {
     let to = W::front(cells, 0, head);
-    take_body::<R, W>(schema, body, frame, at, cells, to)
+    take_body::<R, W, K>(known, schema, frame, at, cells, to)
 }
 
 /// Takes a whole body into cells from a place on, and answers the place behind it.
 #[inline(always)]
-fn take_body<R: FormRead, W: FormWrite>(
-    schema: &Schema,
-    body: Option<StructId>,
-    frame: &[u8],
-    at: usize,
-    cells: &mut [u8],
-    to: usize,
-) -> Option<usize>
-    requires known { IfSome body (λ s. s.0 < length schema.now.structs) }
-    requires size { length frame.now < 2 ^ 31 }
-    requires place { at ≤ length frame.now }
-    requires room { HasRoom AROUND frame.now at cells.old to }
-    ensures kept { length cells.new ≡ length cells.old }
-    ensures short { IfSome result (λ n. n + 24 * at ≤ to + 24 * length frame.now) }
-    ensures passes { IfSome result (λ n. PassesBody R.ReadRules W.WireWrite schema.now body frame.now at (take to cells.old) (take n cells.new)) }
-{
-    let reach = take_typed::<R, W>(schema, body, frame, at, cells, to)?;
-    if reach.read < frame.len() {
-        return None;
-    }
-    Some(reach.written)
-}
-
-/// Whether neither reading nor writing depends on what is declared.
-#[inline(always)]
-fn is_blind<R: FormRead, W: FormWrite>() -> bool
-    ensures reads { result ≡ true → R.hinted ≡ false }
-    ensures writes { result ≡ true → W.hinted ≡ false }
-    ensures fills { result ≡ true → W.marked ≡ false }
-{
-    if R::is_hinted() {
-        return false;
-    }
-    if W::is_hinted() {
-        return false;
-    }
-    !W::is_marked()
-}
-
-/// Takes the fields of a body, with what is known of its struct where that matters.
-#[inline(always)]
-fn take_typed<R: FormRead, W: FormWrite>(
-    schema: &Schema,
-    body: Option<StructId>,
-    frame: &[u8],
-    at: usize,
-    cells: &mut [u8],
-    to: usize,
-) -> Option<Reach>
-    requires known { IfSome body (λ s. s.0 < length schema.now.structs) }
-    requires size { length frame.now < 2 ^ 31 }
-    requires place { at ≤ length frame.now }
-    requires room { HasRoom AROUND frame.now at cells.old to }
-    ensures kept { length cells.new ≡ length cells.old }
-    ensures past { IfSome result (λ x. IsPast at frame.now x.read) }
-    ensures grows { IfSome result (λ x. Grows at to x.read x.written) }
-    ensures takes { IfSome result (λ x. TakesBody R.ReadRules W.WireWrite schema.now body frame.now at cells.old to cells.new x.read x.written) }
-{
-    if is_blind::<R, W>() {
-        return take_known::<R, W, Nothing>(Nothing, schema, frame, at, cells, to);
-    }
-    match body {
-        Some(declared) => {
-            let known = Declared(Ty::Struct(declared));
-            take_known::<R, W, Declared>(known, schema, frame, at, cells, to)
-        }
-        None => take_known::<R, W, Undeclared>(Undeclared, schema, frame, at, cells, to),
-    }
-}
-
-/// Takes the fields of a body of whose struct this is known.
-#[inline(always)]
-fn take_known<R: FormRead, W: FormWrite, K: Known>(
+fn take_body<R: FormRead, W: FormWrite, K: Known>(
     known: K,
     schema: &Schema,
     frame: &[u8],
     at: usize,
     cells: &mut [u8],
     to: usize,
-) -> Option<Reach>
+) -> Option<usize>
     requires known { K.sound known schema.now }
-    requires informed { Informs K.tells R.hinted W.hinted W.marked }
+    requires informed { Informs K.tells R.hinted W.hinted }
     requires size { length frame.now < 2 ^ 31 }
     requires place { at ≤ length frame.now }
     requires room { HasRoom AROUND frame.now at cells.old to }
     ensures kept { length cells.new ≡ length cells.old }
-    ensures past { IfSome result (λ x. IsPast at frame.now x.read) }
-    ensures grows { IfSome result (λ x. Grows at to x.read x.written) }
-    ensures takes { TookBody R.ReadRules W.WireWrite (K.means known) schema.now frame.now at cells.old to cells.new result }
+    ensures short { IfSome result (λ n. n + 24 * at ≤ to + 24 * length frame.now) }
+    ensures passes { IfSome result (λ n. PassedBody R.ReadRules W.WireWrite (K.means known) schema.now frame.now at (take to cells.old) (take n cells.new)) }
 {
     let mut written = to;
-    let read = take_fields::<R, W, K>(
-        known,
-        schema,
-        frame,
-        at,
-        cells,
-        &mut written,
-        Opening::Body,
-        1,
-    )?;
-    Some(Reach { read, written })
+    let opening = Opening::Body;
+    let read = take_fields::<R, W, K>(known, schema, frame, at, cells, &mut written, opening, 1)?;
+    if read < frame.len() {
+        return None;
+    }
+    Some(written)
 }

@@ -7,13 +7,13 @@ ghost use Rattle.protocol_traits.specs.declared.forms.Container.{Container};
 ghost use Rattle.protocol_traits.specs.declared.forms.Lead.{Lead};
 ghost use Rattle.protocol_traits.specs.declared.forms.Stand.{Stand};
 ghost use Rattle.protocol_traits.specs.Forms.{IsPast, container_kind};
-ghost use Rattle.translate_core.specs.Quick.{Grows, HasRoom, Informs, TookElements, TookField, TookFields, TookLead, TookPairs, TookRun, TookValue, reached};
+ghost use Rattle.translate_core.specs.Quick.{Grows, HasRoom, Informs, TookElements, TookField, TookFields, TookLead, TookList, TookPairs, TookRun, TookValue, reached};
 
 use crate::fields::{
     BEFORE_FIELD, container_kind, sequence_kind, sequence_of, take_flag, take_leaf_field,
     take_text_field,
 };
-use crate::known::Known;
+use crate::known::{Known, mark_for};
 use crate::leaves::{
     AROUND, BoolLeaf, DoubleLeaf, I8Leaf, I16Leaf, I32Leaf, I64Leaf, Reach, UuidLeaf, take_leaf,
     take_text,
@@ -44,7 +44,7 @@ pub fn take_fields<R: FormRead, W: FormWrite, K: Known>(
     depth: usize,
 ) -> Option<usize>
     requires known { K.sound known schema.now }
-    requires informed { Informs K.tells R.hinted W.hinted W.marked }
+    requires informed { Informs K.tells R.hinted W.hinted }
     requires size { length frame.now < 2 ^ 31 }
     requires place { from ≤ length frame.now }
     requires room { HasRoom BEFORE_FIELD frame.now from cells.old into.old }
@@ -97,7 +97,7 @@ fn take_field<R: FormRead, W: FormWrite, K: Known>(
     depth: usize,
 ) -> Option<Reach>
     requires known { K.sound known schema.now }
-    requires informed { Informs K.tells R.hinted W.hinted W.marked }
+    requires informed { Informs K.tells R.hinted W.hinted }
     requires size { length frame.now < 2 ^ 31 }
     requires place { IsPast at frame.now behind }
     requires room { HasRoom BEFORE_FIELD frame.now at cells.old to }
@@ -162,7 +162,7 @@ fn take_struct_field<R: FormRead, W: FormWrite, K: Known>(
     depth: usize,
 ) -> Option<Reach>
     requires known { K.sound known schema.now }
-    requires informed { Informs K.tells R.hinted W.hinted W.marked }
+    requires informed { Informs K.tells R.hinted W.hinted }
     requires size { length frame.now < 2 ^ 31 }
     requires place { IsPast at frame.now behind }
     requires room { HasRoom BEFORE_FIELD frame.now at cells.old to }
@@ -195,7 +195,7 @@ fn take_map_field<R: FormRead, W: FormWrite, K: Known>(
     depth: usize,
 ) -> Option<Reach>
     requires known { K.sound known schema.now }
-    requires informed { Informs K.tells R.hinted W.hinted W.marked }
+    requires informed { Informs K.tells R.hinted W.hinted }
     requires size { length frame.now < 2 ^ 31 }
     requires place { IsPast at frame.now behind }
     requires room { HasRoom BEFORE_FIELD frame.now at cells.old to }
@@ -229,7 +229,7 @@ fn take_list_field<R: FormRead, W: FormWrite, K: Known>(
     depth: usize,
 ) -> Option<Reach>
     requires known { K.sound known schema.now }
-    requires informed { Informs K.tells R.hinted W.hinted W.marked }
+    requires informed { Informs K.tells R.hinted W.hinted }
     requires size { length frame.now < 2 ^ 31 }
     requires place { IsPast at frame.now behind }
     requires room { HasRoom BEFORE_FIELD frame.now at cells.old to }
@@ -238,7 +238,7 @@ fn take_list_field<R: FormRead, W: FormWrite, K: Known>(
     ensures kept { length cells.new ≡ length cells.old }
     ensures past { IfSome result (λ x. IsPast at frame.now x.read) }
     ensures grows { IfSome result (λ x. Grows at to x.read x.written) }
-    ensures takes { TookField R.ReadRules W.WireWrite (K.means known) schema.now depth frame.now at opening last (container_kind container) id behind cells.old to cells.new result }
+    ensures takes { TookList R.ReadRules W.WireWrite (K.means known) schema.now depth frame.now at opening last container id behind cells.old to cells.new result }
 {
     let kind = container_kind(container);
     let next = known.field(schema, id, kind);
@@ -264,7 +264,7 @@ fn take_level<R: FormRead, W: FormWrite, K: Known>(
     depth: usize,
 ) -> Option<Reach>
     requires known { K.sound known schema.now }
-    requires informed { Informs K.tells R.hinted W.hinted W.marked }
+    requires informed { Informs K.tells R.hinted W.hinted }
     requires size { length frame.now < 2 ^ 31 }
     requires place { at ≤ length frame.now }
     requires room { HasRoom AROUND frame.now at cells.old to }
@@ -299,7 +299,7 @@ fn call_level<R: FormRead, W: FormWrite, K: Known>(
     depth: usize,
 ) -> Option<usize>
     requires known { K.sound known schema.now }
-    requires informed { Informs K.tells R.hinted W.hinted W.marked }
+    requires informed { Informs K.tells R.hinted W.hinted }
     requires size { length frame.now < 2 ^ 31 }
     requires place { at ≤ length frame.now }
     requires room { HasRoom AROUND frame.now at cells.old to.old }
@@ -329,7 +329,7 @@ fn take_value<R: FormRead, W: FormWrite, K: Known>(
     depth: usize,
 ) -> Option<Reach>
     requires known { K.sound known schema.now }
-    requires informed { Informs K.tells R.hinted W.hinted W.marked }
+    requires informed { Informs K.tells R.hinted W.hinted }
     requires size { length frame.now < 2 ^ 31 }
     requires place { at ≤ length frame.now }
     requires room { HasRoom AROUND frame.now at cells.old to }
@@ -364,7 +364,7 @@ fn take_inner<R: FormRead, W: FormWrite, K: Known>(
     depth: usize,
 ) -> Option<Reach>
     requires known { K.sound known schema.now }
-    requires informed { Informs K.tells R.hinted W.hinted W.marked }
+    requires informed { Informs K.tells R.hinted W.hinted }
     requires size { length frame.now < 2 ^ 31 }
     requires place { at ≤ length frame.now }
     requires room { HasRoom AROUND frame.now at cells.old to }
@@ -409,7 +409,7 @@ fn take_struct<R: FormRead, W: FormWrite, K: Known>(
     depth: usize,
 ) -> Option<Reach>
     requires known { K.sound known schema.now }
-    requires informed { Informs K.tells R.hinted W.hinted W.marked }
+    requires informed { Informs K.tells R.hinted W.hinted }
     requires size { length frame.now < 2 ^ 31 }
     requires place { at ≤ length frame.now }
     requires room { HasRoom AROUND frame.now at cells.old to }
@@ -452,7 +452,7 @@ fn take_list<R: FormRead, W: FormWrite, K: Known>(
     depth: usize,
 ) -> Option<Reach>
     requires known { K.sound known schema.now }
-    requires informed { Informs K.tells R.hinted W.hinted W.marked }
+    requires informed { Informs K.tells R.hinted W.hinted }
     requires size { length frame.now < 2 ^ 31 }
     requires place { at ≤ length frame.now }
     requires room { HasRoom AROUND frame.now at cells.old to }
@@ -499,7 +499,7 @@ fn take_elements<R: FormRead, W: FormWrite, K: Known>(
     depth: usize,
 ) -> Option<Reach>
     requires known { K.sound known schema.now }
-    requires informed { Informs K.tells R.hinted W.hinted W.marked }
+    requires informed { Informs K.tells R.hinted W.hinted }
     requires size { length frame.now < 2 ^ 31 }
     requires place { from ≤ length frame.now }
     requires room { HasRoom AROUND frame.now from cells.old into }
@@ -531,7 +531,7 @@ fn take_run<R: FormRead, W: FormWrite, K: Known>(
     depth: usize,
 ) -> Option<Reach>
     requires known { K.sound known schema.now }
-    requires informed { Informs K.tells R.hinted W.hinted W.marked }
+    requires informed { Informs K.tells R.hinted W.hinted }
     requires size { length frame.now < 2 ^ 31 }
     requires place { at ≤ length frame.now }
     requires room { HasRoom AROUND frame.now at cells.old to }
@@ -571,7 +571,7 @@ fn take_levels<R: FormRead, W: FormWrite, K: Known>(
     depth: usize,
 ) -> Option<Reach>
     requires known { K.sound known schema.now }
-    requires informed { Informs K.tells R.hinted W.hinted W.marked }
+    requires informed { Informs K.tells R.hinted W.hinted }
     requires size { length frame.now < 2 ^ 31 }
     requires place { from ≤ length frame.now }
     requires room { HasRoom AROUND frame.now from cells.old into }
@@ -618,7 +618,7 @@ fn take_map<R: FormRead, W: FormWrite, K: Known>(
     depth: usize,
 ) -> Option<Reach>
     requires known { K.sound known schema.now }
-    requires informed { Informs K.tells R.hinted W.hinted W.marked }
+    requires informed { Informs K.tells R.hinted W.hinted }
     requires size { length frame.now < 2 ^ 31 }
     requires place { at ≤ length frame.now }
     requires room { HasRoom AROUND frame.now at cells.old to }
@@ -633,7 +633,8 @@ fn take_map<R: FormRead, W: FormWrite, K: Known>(
     }
     let pairs = R::pairs(frame, at, stand)?;
     if pairs.size == 0 {
-        let written = W::no_pairs(cells, to, stand, known.mark(schema));
+        let mark = mark_for::<W, K>(known, schema)?;
+        let written = W::no_pairs(cells, to, stand, mark);
         return Some(Reach {
             read: pairs.behind,
             written,
@@ -660,7 +661,7 @@ fn take_pairs<R: FormRead, W: FormWrite, K: Known>(
 ) -> Option<Reach>
     requires key { K.sound key schema.now }
     requires value { K.sound value schema.now }
-    requires informed { Informs K.tells R.hinted W.hinted W.marked }
+    requires informed { Informs K.tells R.hinted W.hinted }
     requires size { length frame.now < 2 ^ 31 }
     requires place { pairs.behind ≤ length frame.now }
     requires room { HasRoom AROUND frame.now pairs.behind cells.old into }

@@ -71,6 +71,7 @@ fn info_of(head: &Head<'_>, method: Option<MethodInfo>) -> HeadInfo
 }
 
 /// The body of what came as an answer: only a call's name is looked up.
+#[inline]
 fn body_of_answer(schema: &Schema, reply: Option<StructId>, head: &Head<'_>) -> Option<StructId>
     requires { IsKnownRoute schema.now (Route.Answer reply) }
     ensures value { result ≡ body_of schema.now (Route.Answer reply) (header_of head.now) }

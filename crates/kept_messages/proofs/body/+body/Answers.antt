@@ -79,11 +79,11 @@ pub keep_fields-keep_field-requires : goal.keep_fields-keep_field-requires
 keep_fields-keep_field-requires g t c =
     let id_fits : SFits w16 c.in_ok-lead.id = search rules in
     let past = c.in_ok-lead.ensures.past c.in_default-lead.not-Bad in
-    λ κs lives. (omega arith, (lives.0, (lives.1.0, (lives.1.1, (c.requires.known, (c.requires.informed, (past, (rw (to_z-of_z w16 c.in_ok-lead.id id_fits) c.in_ok-lead.ensures.keeps, (c.fields.invariant.mirrors, c.requires.shallow)))))))))
+    λ κs lives. (omega arith, (lives.0, (lives.1.0, (lives.1.1, (c.requires.known, (past, (rw (to_z-of_z w16 c.in_ok-lead.id id_fits) c.in_ok-lead.ensures.keeps, (c.fields.invariant.mirrors, c.requires.shallow))))))))
 
 pub keep_field-keep_level_field-requires : goal.keep_field-keep_level_field-requires
 keep_field-keep_level_field-requires g t c =
-    λ κs lives. (omega arith, (lives.0, (lives.1.0, (lives.1.1, (c.requires.known, (c.requires.informed, (c.requires.place, (rw (to_z-of_z w16 c.args.last c.ranges.last, to_z-of_z w16 c.args.id c.ranges.id) c.requires.lead, (c.requires.mirrors, c.requires.shallow)))))))))
+    λ κs lives. (omega arith, (lives.0, (lives.1.0, (lives.1.1, (c.requires.known, (c.requires.place, (rw (to_z-of_z w16 c.args.last c.ranges.last, to_z-of_z w16 c.args.id c.ranges.id) c.requires.lead, (c.requires.mirrors, c.requires.shallow))))))))
 
 pub keep_field-returns-in_ok-keep_level_field-in-Struct-clause-keeps : goal.keep_field-returns-in_ok-keep_level_field-in-Struct-clause-keeps
 keep_field-returns-in_ok-keep_level_field-in-Struct-clause-keeps g t c ty means =
@@ -110,15 +110,15 @@ keep_field-returns-in_ok-keep_leaf_field-in_default g t c =
 
 pub keep_level_field-keep_struct-requires : goal.keep_level_field-keep_struct-requires
 keep_level_field-keep_struct-requires g t c =
-    λ κs lives. (omega arith, (lives.0, (lives.1.0, (lives.1.1, (c.field-next.ensures.sound, (c.requires.informed, (omega (arith, c.requires.place), ((mirrors_on c.args.cells.now c.args.frame.now c.args.at c.args.behind (omega (arith, c.requires.place)) c.requires.mirrors), c.requires.shallow))))))))
+    λ κs lives. (omega arith, (lives.0, (lives.1.0, (lives.1.1, (c.field-next.ensures.sound, (omega (arith, c.requires.place), ((mirrors_on c.args.cells.now c.args.frame.now c.args.at c.args.behind (omega (arith, c.requires.place)) c.requires.mirrors), c.requires.shallow)))))))
 
 pub keep_level_field-keep_map-requires : goal.keep_level_field-keep_map-requires
 keep_level_field-keep_map-requires g t c =
-    λ κs lives. (omega arith, (lives.0, (lives.1.0, (lives.1.1, (c.field-next-in-Map.ensures.sound, (c.requires.informed, (omega (arith, c.requires.place), ((mirrors_on c.args.cells.now c.args.frame.now c.args.at c.args.behind (omega (arith, c.requires.place)) c.requires.mirrors), c.requires.shallow))))))))
+    λ κs lives. (omega arith, (lives.0, (lives.1.0, (lives.1.1, (c.field-next-in-Map.ensures.sound, (omega (arith, c.requires.place), ((mirrors_on c.args.cells.now c.args.frame.now c.args.at c.args.behind (omega (arith, c.requires.place)) c.requires.mirrors), c.requires.shallow)))))))
 
 pub keep_level_field-keep_list-requires : goal.keep_level_field-keep_list-requires
 keep_level_field-keep_list-requires g t c =
-    λ κs lives. (omega arith, (lives.0, (lives.1.0, (lives.1.1, (c.field-next-in_default.ensures.sound, (c.requires.informed, (omega (arith, c.requires.place), ((mirrors_on c.args.cells.now c.args.frame.now c.args.at c.args.behind (omega (arith, c.requires.place)) c.requires.mirrors), (c.requires.shallow, c.in_ok-container-in_default.ensures.no_map)))))))))
+    λ κs lives. (omega arith, (lives.0, (lives.1.0, (lives.1.1, (c.field-next-in_default.ensures.sound, (omega (arith, c.requires.place), ((mirrors_on c.args.cells.now c.args.frame.now c.args.at c.args.behind (omega (arith, c.requires.place)) c.requires.mirrors), (c.requires.shallow, c.in_ok-container-in_default.ensures.no_map))))))))
 
 pub keep_level_field-returns-in_ok-keep_struct-in-Struct-clause-keeps : goal.keep_level_field-returns-in_ok-keep_struct-in-Struct-clause-keeps
 keep_level_field-returns-in_ok-keep_struct-in-Struct-clause-keeps g t c ty means =
@@ -167,7 +167,7 @@ keep_level_field-returns-in_ok-keep_list-in_default g t c =
 
 pub keep_struct-keep_fields-requires : goal.keep_struct-keep_fields-requires
 keep_struct-keep_fields-requires g t c =
-    λ κs lives. (omega arith, (lives.0, (lives.1.0, (lives.1.1, (c.requires.known, (c.requires.informed, (omega (arith, c.in_ok-inside.ensures.within), ((mirrors_on c.args.cells.now c.args.frame.now c.args.at c.in_ok-inside.inside (omega (arith, c.in_ok-inside.ensures.within)) c.requires.mirrors), omega arith))))))))
+    λ κs lives. (omega arith, (lives.0, (lives.1.0, (lives.1.1, (c.requires.known, (omega (arith, c.in_ok-inside.ensures.within), ((mirrors_on c.args.cells.now c.args.frame.now c.args.at c.in_ok-inside.inside (omega (arith, c.in_ok-inside.ensures.within)) c.requires.mirrors), omega arith)))))))
 
 pub keep_struct-returns-clause-keeps : goal.keep_struct-returns-clause-keeps
 keep_struct-returns-clause-keeps g t c =
@@ -185,7 +185,7 @@ keep_struct-returns-clause-keeps g t c =
 
 pub keep_list-keep_elements-requires-2 : goal.keep_list-keep_elements-requires-2
 keep_list-keep_elements-requires-2 g t c =
-    λ κs lives. (omega arith, (lives.0, (lives.1.0, (lives.1.1, (c.element-element.ensures.sound, (c.requires.informed, (omega (arith, c.in_ok-kind.ensures.past), ((mirrors_on c.args.cells.now c.args.frame.now c.args.at c.in_ok-kind.inside (omega (arith, c.in_ok-kind.ensures.past)) c.requires.mirrors), (omega arith, c.requires.no_map)))))))))
+    λ κs lives. (omega arith, (lives.0, (lives.1.0, (lives.1.1, (c.element-element.ensures.sound, (omega (arith, c.in_ok-kind.ensures.past), ((mirrors_on c.args.cells.now c.args.frame.now c.args.at c.in_ok-kind.inside (omega (arith, c.in_ok-kind.ensures.past)) c.requires.mirrors), (omega arith, c.requires.no_map))))))))
 
 pub keep_list-returns-clause-keeps : goal.keep_list-returns-clause-keeps
 keep_list-returns-clause-keeps g t c =
@@ -280,11 +280,11 @@ keep_map-returns-then-pairs-eq0-clause-keeps g t c =
     takes_item source target g.R.ReadRules.stands_at g.W.WireWrite.stands_at c.args.frame.now g.R.ReadRules.pays g.met.W.FormWrite.goes_on
     c.args.at behind opening nest p empty_map c.args.cells.now c.renewed.new.cells c.args.at behind (calls_some c.args.stand kinds.Map opening nest calls)
     (keeps.0 opening nest (hint_of p) calls (omega (arith, deep)))
-    (spells opening nest (mark_of p empty_map) (λ marked. c.mark-mark.ensures ty means (c.requires.informed marked)) calls))) c.renewed.ensures.place c.renewed.ensures.spells
+    (spells opening nest (mark_of p empty_map) (λ marked. c.in_ok-mark.ensures ty means marked) calls))) c.renewed.ensures.place c.renewed.ensures.spells
 
 pub keep_map-keep_pairs-requires-2 : goal.keep_map-keep_pairs-requires-2
 keep_map-keep_pairs-requires-2 g t c =
-    λ κs lives. (omega arith, (lives.0, (lives.1.0, (lives.1.1, (c.key-key.ensures.sound, (c.value-value.ensures.sound, (c.requires.informed, (omega (arith, c.in_ok-pairs.ensures.past), ((mirrors_on c.args.cells.now c.args.frame.now c.args.at c.in_ok-pairs.pairs.behind (omega (arith, c.in_ok-pairs.ensures.past)) c.requires.mirrors), omega arith)))))))))
+    λ κs lives. (omega arith, (lives.0, (lives.1.0, (lives.1.1, (c.key-key.ensures.sound, (c.value-value.ensures.sound, (omega (arith, c.in_ok-pairs.ensures.past), ((mirrors_on c.args.cells.now c.args.frame.now c.args.at c.in_ok-pairs.pairs.behind (omega (arith, c.in_ok-pairs.ensures.past)) c.requires.mirrors), omega arith))))))))
 
 pub keep_map-returns-clause-keeps : goal.keep_map-returns-clause-keeps
 keep_map-returns-clause-keeps g t c =

@@ -6,9 +6,9 @@ use Rattle.protocol_traits.specs.Heads.{header_of}
 use Rattle.translate_core.proofs.passing.append_message.Goals as goal
 
 pub returns-in-Some-clause-passes : goal.returns-in-Some-clause-passes
-returns-in-Some-clause-passes g c passed s stands =
+returns-in-Some-clause-passes g c passed body means s stands =
     let front = g.W.WireWrite.plain_head (header_of c.args.head.now) in
-    let x = c.in-Some.ensures.passes s stands in (
+    let x = c.in-Some.ensures.passes body means s stands in (
       x.0,
       x.1,
       x.2,

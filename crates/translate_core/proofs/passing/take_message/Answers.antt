@@ -4,8 +4,8 @@ use Rattle.translate_core.proofs.passing.take_message.Goals as goal
 
 pub returns-clause-passes : goal.returns-clause-passes
 returns-clause-passes g c =
-    if_some _ _ c.take_body.result (λ (n : ℕ) passes s stands.
-    let x = passes s stands in (
+    if_some _ _ c.take_body.result (λ (n : ℕ) passes body means s stands.
+    let x = passes body means s stands in (
       x.0,
       x.1,
       x.2,

@@ -352,7 +352,7 @@ take_map-returns-then-pairs-eq0-clause-takes g t c ty means opening nest outer c
     takes_item source target g.R.ReadRules.stands_at g.W.WireWrite.stands_at c.args.frame.now g.R.ReadRules.pays g.met.W.FormWrite.goes_on
     c.args.at pairs.behind opening nest p empty_map c.args.cells.now c.no_pairs-written.new.cells c.args.to c.no_pairs-written.result (calls_some c.args.stand kinds.Map opening nest calls)
     (steps opening nest (hint_of p) calls (omega (arith, deep)))
-    (c.no_pairs-written.ensures.spells opening nest (mark_of p empty_map) (λ marked. c.mark.ensures ty means (c.requires.informed.2 marked)) calls)
+    (c.no_pairs-written.ensures.spells opening nest (mark_of p empty_map) (λ marked. c.in_ok-mark.ensures ty means marked) calls)
 
 pub take_map-returns-clause-takes : goal.take_map-returns-clause-takes
 take_map-returns-clause-takes g t c =
