@@ -41,6 +41,10 @@ HasOwnStream {W} {S} tells hub m k s =
     (listening : Listening S) × (place : ℕ) × (session : Session S) × (hub.sockets.serving.listening ≡ Some listening) × (get listening.table.sessions place ≡ Some session)
     × (session.number ≡ k) × (session.is_open ≡ true) × PortCarries tells (slice_get session.ports.items (port_number s)) (link_of (m.session k) s)
 
+-- the same of both sides of each open session
+abbrev pub HaveOwnStreams : {W S : Type 0} → (S → Wire → Type 0) → MioHub W S → Meaning → Type 0
+HaveOwnStreams tells hub m = (k : ℕ) → IsOpen k m → (s : Side) → HasOwnStream tells hub m k s
+
 -- Nothing is there to be read: there is no connection, or its stream isn't readable as far as was reported since a read found the
 -- last of what came, or it has ended or failed.
 abbrev pub NothingToRead : {S : Type 0} → (S → Wire → Type 0) → Option S → Port S → Type 0

@@ -3,14 +3,12 @@
 //! Each law is the contract of a function that does nothing. The code rests on none of them.
 #![tactic(auto)]
 
-ghost use Rattle.std.specs.Prelude.{ℕ};
-ghost use Rattle.gate_hub.specs.Meaning.{Meaning, IsOpen};
-ghost use Rattle.gate_hub.specs.declared.hub.Side.{Side};
+ghost use Rattle.gate_hub.specs.Meaning.{Meaning};
 ghost use Rattle.gate_run.specs.Undisturbed.{ServerRun, IsRunOf};
 ghost use Rattle.mio_edge.specs.Telling.{HubTells};
 ghost use Rattle.stream_laws.specs.Sessions.{IsCommanded, IsOverFrames, IsServed};
 ghost use Rattle.edge_laws.specs.Closed.{IsSentLater, HubsWind};
-ghost use Rattle.edge_laws.specs.Streams.{HasOwnStream, ReadsAreNamed, WritesAreNamed};
+ghost use Rattle.edge_laws.specs.Streams.{HaveOwnStreams, ReadsAreNamed, WritesAreNamed};
 
 use gate_hub::Hub;
 use mio_edge::{MioHub, Network};
@@ -28,7 +26,7 @@ pub fn a_session_over_sockets_carries_messages<W: Network>()
 /// port holds still, and took a front of it. A read or write failed only where the stream did, or where there is none. A side without a stream
 /// has received and was sent nothing.
 pub fn an_open_session_has_its_own_streams<W: Network>()
-    ensures { (hub : MioHub W W.Stream) (m : Meaning) → HubTells W.is_telling W.Stream.tells hub m → (k : ℕ) → IsOpen k m → (s : Side) → HasOwnStream W.Stream.tells hub m k s }
+    ensures { (hub : MioHub W W.Stream) (m : Meaning) → HubTells W.is_telling W.Stream.tells hub m → HaveOwnStreams W.Stream.tells hub m }
 {}
 
 /// No session is forgotten. An open one of which a side was answered, since it was named, that it isn't ready to be read stands among those
