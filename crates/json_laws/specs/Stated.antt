@@ -64,6 +64,10 @@ IsTooDeep k bytes = (f : Fault) × IsRefused k bytes f × (f.reason ≡ reasons.
 abbrev pub IsBad : Known → List ℕ → Fault → Type 0
 IsBad k bytes f = IsRefused k bytes f × (f.reason ≡ reasons.Truncated → ⊥)
 
+-- the frame is refused with this fault, whatever stands behind it
+abbrev pub StaysRefused : Known → List ℕ → Fault → Type 0
+StaysRefused k bytes f = (more : List ℕ) → IsRefused k (bytes ++ more) f
+
 -- the same fault; of one that does not stand before the end of so many bytes, the same reason
 abbrev pub IsSame : ℕ → Fault → Fault → Type 0
 IsSame size f g = (g.reason ≡ f.reason) × (f.place < size → g ≡ f)

@@ -12,7 +12,7 @@ ghost use Rattle.protocol_traits.specs.declared.fault.Reason.TheVariants as reas
 ghost use Rattle.json_text.specs.Grammar.{AreWhite};
 ghost use Rattle.binary_laws.specs.Reads.{header_of_message};
 ghost use Rattle.binary_laws.specs.Written.{IsMessage};
-ghost use Rattle.json_laws.specs.Stated.{Known, JsonSpells, IsRead, IsReadWhole, IsReadAs, IsRefused, IsSpelled, SpellsItems, NoMessage, IsTooDeep, IsBad, StaysBad, Begins, IsViable, IsCutShort, IsFirstBad, FirstTells};
+ghost use Rattle.json_laws.specs.Stated.{Known, JsonSpells, IsRead, IsReadWhole, IsReadAs, IsRefused, IsSpelled, SpellsItems, NoMessage, IsTooDeep, IsBad, StaysBad, StaysRefused, Begins, IsViable, IsCutShort, IsFirstBad, FirstTells};
 ghost use Rattle.json_laws.specs.Faults.{FaultStands};
 ghost use Rattle.json_laws.specs.Firsts.{FirstFault, IsWhole, FramePasses, MessagePasses};
 ghost use Rattle.json_laws.specs.Written.{IsWritten};
@@ -96,7 +96,7 @@ pub fn refused_is_not_viable()
 pub fn the_first_byte_tells()
     ensures tells { (k : Known) (bytes : List ℕ) (f : Fault) → length bytes < 2 ^ 31 → IsBad k bytes f → f.reason ≢ reasons.TooDeep → FirstTells k bytes f }
     ensures one { (k : Known) (bytes : List ℕ) (m n : ℕ) → IsFirstBad k bytes m → IsFirstBad k bytes n → m ≡ n }
-    ensures stays { (k : Known) (bytes more : List ℕ) (f : Fault) → length bytes < 2 ^ 31 → IsBad k bytes f → f.reason ≢ reasons.TooDeep → IsRefused k (bytes ++ more) f }
+    ensures stays { (k : Known) (bytes : List ℕ) (f : Fault) → length bytes < 2 ^ 31 → IsBad k bytes f → f.reason ≢ reasons.TooDeep → StaysRefused k bytes f }
 {}
 
 /// The fault that refuses a frame stands there, by the grammar. Truncated: some bytes behind the frame make it a message, of any depth, it
