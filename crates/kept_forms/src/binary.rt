@@ -20,7 +20,7 @@ use binary_protocol::{BinaryRead, BinaryWrite};
 use protocol_traits::{Container, FormRead, Head, Hint, Lead, Mark, Opening, Pairs, Stand};
 use thrift_value::Kind;
 
-/// So many bytes of a header stand in front of its name.
+/// A header begins with so many bytes for its version and type.
 const FRONT: usize = 4;
 
 /// The first byte of a header that tells its version. The old form, which tells none, isn't written.
