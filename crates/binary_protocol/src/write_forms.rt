@@ -6,7 +6,7 @@ ghost use Rattle.binary_protocol.specs.WriteForms.{goes_on, starts_at};
 
 use crate::codes::code_of_kind;
 use crate::writer::{BinaryWrite, lay_head};
-use cell_writes::{lay, lay_part};
+use cell_writes::{lay, lay_fixed, lay_part};
 use protocol_traits::{Container, FormWrite, Head, Hint, Mark, Opening, Stand, UUID};
 use thrift_value::Kind;
 
@@ -107,7 +107,7 @@ impl FormWrite for BinaryWrite {
         frame: &[u8],
         begin: usize,
     ) -> Option<usize> {
-        Some(lay(cells, to, &frame[begin..begin + UUID]))
+        Some(lay_fixed::<UUID>(cells, to, frame, begin))
     }
 
     #[inline(always)]

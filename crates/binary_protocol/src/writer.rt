@@ -10,7 +10,7 @@ ghost use Rattle.binary_protocol.specs.Codes.{code_of_kind};
 ghost use Rattle.binary_protocol.specs.Plain.{plain, plain_head};
 
 use crate::codes::{code_of_kind, code_of_type};
-use cell_writes::lay;
+use cell_writes::{lay, lay_short};
 use gate_io::Out;
 use protocol_traits::{Head, Mark};
 use thrift_value::{Event, Kind};
@@ -132,6 +132,6 @@ pub fn lay_head(cells: &mut [u8], to: usize, head: &Head<'_>) -> usize
     let [a, b, c, d] = (head.name.len() as u32).to_be_bytes();
     let code = code_of_type(head.mtype);
     let to = lay(cells, to, &[0x80, 1, 0, code, a, b, c, d]);
-    let to = lay(cells, to, head.name);
+    let to = lay_short(cells, to, head.name);
     lay(cells, to, &head.seq.to_be_bytes())
 }

@@ -1,6 +1,6 @@
 -- What stands in front of the place behind a write.
-use Rattle.std.proofs.Common.{◌≡◌, ℕ, zero, suc, ◌+◌, ◌≤◌, List, [], ◌∷◌, ◌++◌, length, take, arith, ap, sym, refl, ◌∙◌, length-take, append-nil}
-use Rattle.std.proofs.lemmas.List.{take_all, take-append-le}
+use Rattle.std.proofs.Common.{◌≡◌, ℕ, zero, suc, ◌+◌, ◌≤◌, List, [], ◌∷◌, ◌++◌, length, take, drop, arith, ap, sym, refl, ◌∙◌, ◌-◌, length-take, append-nil, append_assoc}
+use Rattle.std.proofs.lemmas.List.{take_all, take-append-le, take-append-drop, drop-take}
 
 front_of : (a b c : List ℕ) (n m : ℕ) → m ≡ length a + n → n ≤ length b → take m (a ++ b ++ c) ≡ a ++ take n b
 front_of [] b c n m is h = ap (λ k. take k (b ++ c)) (omega arith) ∙ take-append-le n b c h
@@ -28,9 +28,19 @@ laid_wide old new part to wide n is within room few =
     ∙ laid_front old (take to old ++ take wide part) (take wide part) [] to n (to + n) (sym (append-nil (take to old ++ take wide part))) within refl (omega (arith, length-take wide part))
     ∙ ap (λ xs. take to old ++ xs) (narrow n wide part few)
 
-pub laid_narrow : (old new part bytes : List ℕ) (to behind wide n : ℕ) → take behind new ≡ take to old ++ bytes → behind ≡ to + length bytes → bytes ≡ take wide part → to ≤ length old → wide ≤ length part → n ≤ wide
-    → take (to + n) new ≡ take to old ++ take n part
-laid_narrow old new part bytes to behind wide n is place same within room few =
-    let long = ap length same in
-    let there : behind ≡ to + wide = omega (arith, place, long, length-take wide part) in
-    laid_wide old new part to wide n (ap (λ k. take k new) (sym there) ∙ is ∙ ap (λ xs. take to old ++ xs) same) within room few
+front_and_rest : (k m : ℕ) (xs : List ℕ) → take k xs ++ take m (drop k xs) ≡ take (k + m) xs
+front_and_rest k m xs =
+    ap (λ front. front ++ take m (drop k xs)) (sym (narrow k (k + m) xs (omega arith)))
+    ∙ ap (λ rest. take k (take (k + m) xs) ++ rest) (sym (drop-take k m xs))
+    ∙ take-append-drop k (take (k + m) xs)
+
+-- two copies of one width, of the beginning and of the end of what is meant
+pub laid_ends : (old mid new part : List ℕ) (to behind whole wide n : ℕ)
+    → take behind mid ≡ take to old ++ take wide part → behind ≡ to + wide
+    → take whole new ≡ take (to + (n - wide)) mid ++ take wide (drop (n - wide) part) → whole ≡ to + (n - wide) + wide
+    → to ≤ length old → wide ≤ n → n ≤ wide + wide → n ≤ length part → take whole new ≡ take to old ++ take n part
+laid_ends old mid new part to behind whole wide n begun place ended end_place within least most long =
+    let there = ap (λ k. take k mid) (sym place) ∙ begun in
+    let front = laid_wide old mid part to wide (n - wide) there within (omega (arith, least, long)) (omega (arith, most)) in
+    ended ∙ ap (λ xs. xs ++ take wide (drop (n - wide) part)) front ∙ append_assoc (take to old) (take (n - wide) part) (take wide (drop (n - wide) part))
+    ∙ ap (λ xs. take to old ++ xs) (front_and_rest (n - wide) wide part ∙ ap (λ k. take k part) (omega (arith, least)))

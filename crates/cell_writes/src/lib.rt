@@ -25,6 +25,18 @@ pub fn lay(cells: &mut [u8], to: usize, bytes: &[u8]) -> usize
     behind
 }
 
+/// Lays a part of a frame that has N bytes into the cells from a place on, and gives the place behind it.
+#[inline(always)]
+pub fn lay_fixed<const N: usize>(cells: &mut [u8], to: usize, frame: &[u8], begin: usize) -> usize
+    requires room { to + N ≤ length cells.old }
+    requires bytes { begin + N ≤ length frame.now }
+    ensures laid { take result cells.new ≡ take to cells.old ++ take N (drop begin frame.now) }
+    ensures place { result ≡ to + N }
+{
+    let part: [u8; N] = bytes_at(frame, begin);
+    lay(cells, to, &part)
+}
+
 /// Lays the part of a frame between two places into the cells from a place on, and gives the place behind it. As many
 /// as `SLACK` cells behind that may be written over.
 #[inline(always)]
@@ -38,39 +50,84 @@ pub fn lay_part(cells: &mut [u8], to: usize, frame: &[u8], begin: usize, end: us
     let count = end - begin;
     let left = frame.len() - begin;
     if count <= HALF && left >= HALF {
-        lay_few(cells, to, frame, begin, count)
+        lay_wide::<HALF>(cells, to, frame, begin, count)
     } else if count <= SLACK && left >= SLACK {
-        lay_some(cells, to, frame, begin, count)
+        lay_wide::<SLACK>(cells, to, frame, begin, count)
     } else {
-        lay(cells, to, &frame[begin..end])
+        lay_apart(cells, to, &frame[begin..], count)
     }
 }
 
-// At most sixteen bytes, by a copy of sixteen.
+/// `lay` for bytes of which there are mostly few, such as a name: they are laid without a call.
 #[inline(always)]
-fn lay_few(cells: &mut [u8], to: usize, frame: &[u8], begin: usize, count: usize) -> usize
-    requires room { to + HALF ≤ length cells.old }
-    requires bytes { begin + HALF ≤ length frame.now }
-    requires few { count ≤ HALF }
-    ensures laid { take result cells.new ≡ take to cells.old ++ take count (drop begin frame.now) }
-    ensures place { result ≡ to + count }
+pub fn lay_short(cells: &mut [u8], to: usize, bytes: &[u8]) -> usize
+    requires { to + length bytes.now ≤ length cells.old }
+    ensures laid { take result cells.new ≡ take to cells.old ++ bytes.now }
+    ensures place { result ≡ to + length bytes.now }
 {
-    let few: [u8; HALF] = bytes_at(frame, begin);
-    lay(cells, to, &few);
-    to + count
+    lay_front(cells, to, bytes, bytes.len())
 }
 
-// At most 32 bytes, by a copy of 32.
+// The first so many bytes of a part, by a call: for what is long, or stands close to the frame's end.
+#[inline(never)]
+fn lay_apart(cells: &mut [u8], to: usize, part: &[u8], count: usize) -> usize
+    requires room { to + count ≤ length cells.old }
+    requires bytes { count ≤ length part.now }
+    ensures laid { take result cells.new ≡ take to cells.old ++ take count part.now }
+    ensures place { result ≡ to + count }
+{
+    lay_front(cells, to, part, count)
+}
+
+// The first so many bytes of a part. Where they are few, the width of each copy is known when the code is built.
 #[inline(always)]
-fn lay_some(cells: &mut [u8], to: usize, frame: &[u8], begin: usize, count: usize) -> usize
-    requires room { to + SLACK ≤ length cells.old }
-    requires bytes { begin + SLACK ≤ length frame.now }
-    requires few { count ≤ SLACK }
+fn lay_front(cells: &mut [u8], to: usize, part: &[u8], count: usize) -> usize
+    requires room { to + count ≤ length cells.old }
+    requires bytes { count ≤ length part.now }
+    ensures laid { take result cells.new ≡ take to cells.old ++ take count part.now }
+    ensures place { result ≡ to + count }
+{
+    match count {
+        1 => lay_ends::<1>(cells, to, part, count),
+        2..=3 => lay_ends::<2>(cells, to, part, count),
+        4..=7 => lay_ends::<4>(cells, to, part, count),
+        8..=15 => lay_ends::<8>(cells, to, part, count),
+        16..=31 => lay_ends::<16>(cells, to, part, count),
+        _ => lay(cells, to, &part[..count]),
+    }
+}
+
+// The first so many bytes of a part, by two copies of N that may overlap: at least N bytes, and at most twice as many.
+#[inline(always)]
+fn lay_ends<const N: usize>(cells: &mut [u8], to: usize, part: &[u8], count: usize) -> usize
+    requires room { to + count ≤ length cells.old }
+    requires bytes { count ≤ length part.now }
+    requires least { N ≤ count }
+    requires most { count ≤ N + N }
+    ensures laid { take result cells.new ≡ take to cells.old ++ take count part.now }
+    ensures place { result ≡ to + count }
+{
+    let last = count - N;
+    lay_fixed::<N>(cells, to, part, 0);
+    lay_fixed::<N>(cells, to + last, part, last)
+}
+
+// At most N bytes, by a copy of N.
+#[inline(always)]
+fn lay_wide<const N: usize>(
+    cells: &mut [u8],
+    to: usize,
+    frame: &[u8],
+    begin: usize,
+    count: usize,
+) -> usize
+    requires room { to + N ≤ length cells.old }
+    requires bytes { begin + N ≤ length frame.now }
+    requires few { count ≤ N }
     ensures laid { take result cells.new ≡ take to cells.old ++ take count (drop begin frame.now) }
     ensures place { result ≡ to + count }
 {
-    let some: [u8; SLACK] = bytes_at(frame, begin);
-    lay(cells, to, &some);
+    lay_fixed::<N>(cells, to, frame, begin);
     to + count
 }
 

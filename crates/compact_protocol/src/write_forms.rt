@@ -8,7 +8,7 @@ ghost use Rattle.compact_protocol.specs.Plain.{field_spelling, elements_spelling
 ghost use Rattle.compact_protocol.specs.WriteForms.{starts_at, goes_on};
 
 use crate::writer::{CompactWrite, code_of, flag_code, short_step, type_code};
-use cell_writes::{lay, lay_part};
+use cell_writes::{lay, lay_fixed, lay_part, lay_short};
 use protocol_traits::{Container, FormWrite, Head, Hint, Mark, Opening, Stand, UUID};
 use thrift_value::Kind;
 use varint_zigzag::{put_size, put_u32, put_u64, zigzag32, zigzag64};
@@ -109,7 +109,7 @@ impl FormWrite for CompactWrite {
         frame: &[u8],
         begin: usize,
     ) -> Option<usize> {
-        Some(lay(cells, to, &frame[begin..begin + UUID]))
+        Some(lay_fixed::<UUID>(cells, to, frame, begin))
     }
 
     #[inline(always)]
@@ -179,7 +179,7 @@ fn lay_head(cells: &mut [u8], to: usize, head: &Head<'_>) -> usize
     let to = lay(cells, to, &[0x82, 32 * type_code(head.mtype) + 1]);
     let to = put_u32(cells, to, head.seq.cast_unsigned());
     let to = put_size(cells, to, head.name.len() as u32);
-    lay(cells, to, head.name)
+    lay_short(cells, to, head.name)
 }
 
 /// Lays a field's byte, and its id where it lies no 1 to 15 above the last.
