@@ -1,5 +1,5 @@
 -- The number at the front of some bytes, by the groups of seven bits up to its last byte.
-use Rattle.std.proofs.Common.{◌≡◌, ℕ, zero, suc, ◌+◌, ◌-◌, ◌*◌, ◌/◌, ◌%◌, ◌^◌, ◌<◌, ◌≤◌, Bool, true, false, not, cond, nat_lt, List, [], ◌∷◌, ◌++◌, map, length, take, drop, get_or, replicate, bit_and, Ok, arith, refl, sym, ap, subst, ◌∙◌, Fits, length-take, length-drop, add-zero, add-one, Some}
+use Rattle.std.proofs.Common.{◌≡◌, ℕ, zero, suc, ◌+◌, ◌-◌, ◌*◌, ◌/◌, ◌%◌, ◌^◌, ◌<◌, ◌≤◌, Bool, true, false, not, cond, nat_lt, List, [], ◌∷◌, ◌++◌, map, length, take, drop, get_or, replicate, bit_and, Ok, arith, refl, sym, ap, subst, ◌∙◌, Fits, length-take, length-drop, add-one, Some}
 use Rattle.std.specs.Prelude.{Result}
 use Rattle.varint_zigzag.specs.declared.fault.VarFault.{VarFault}
 use Rattle.std.specs.Int.{w8, w64, from_le_bytes}
@@ -8,15 +8,14 @@ use Rattle.std.proofs.lemmas.List.{get_or-drop, length-take-le}
 use Rattle.std.proofs.lemmas.Bool.Decides.{nat_tests}
 use Rattle.std.proofs.lemmas.Nat.{and_mask, mod-pow-add, pow-add, pow_pos}
 use Rattle.std.proofs.Math.Pow.{pow_mono}
-use Rattle.std.proofs.lemmas.Nat.Bits.{ones_shr}
-use Rattle.std.specs.Simd.Lanes.{number_l, mask_l}
-use Rattle.std.proofs.lemmas.Simd.{trailing_mask_l}
+use Rattle.std.specs.Simd.Lanes.{number_l}
 use lib.Count.{count_trailing_zeros}
 use Rattle.varint_zigzag.specs.Varint.{varint_at, below}
 use Rattle.varint_zigzag.specs.Bounds.{at_last, at_more}
-use Rattle.varint_zigzag.specs.Places.{found_at, is_last, IsEnded, groups_of, IsFront, AllBelow, AreGroups}
+use Rattle.varint_zigzag.specs.Places.{found_at, is_last, end_mark, IsEnded, groups_of, IsFront, AllBelow, AreGroups}
 use Rattle.varint_zigzag.proofs.Groups.{high_fits}
 use Rattle.varint_zigzag.proofs.Words.{lanes_and}
+use Rattle.varint_zigzag.proofs.Ends.{lowest_mark}
 
 -- ---- where the number ends
 
@@ -39,13 +38,13 @@ ended_by_prefix (b ∷ bytes) h = split (ended_by_prefix bytes) (nat_lt b 128) r
         let one : 1 + prefix_len (λ b. not (is_last b)) bytes ≡ suc (prefix_len (λ b. not (is_last b)) bytes) = omega arith in
         subst (λ n. IsEnded (suc n) (b ∷ bytes)) (sym one) (grind (arith, nat_tests, e), behind (omega arith))
 
--- a mask that isn't 0 has a last byte before the end
-ends_before : (bytes : List ℕ) → 0 < mask_l (map is_last bytes) → prefix_len (λ b. not (is_last b)) bytes < length bytes
+-- where there is a mark, a last byte stands before the end
+ends_before : (bytes : List ℕ) → 0 < number_l 256 (map end_mark bytes) → prefix_len (λ b. not (is_last b)) bytes < length bytes
 ends_before [] some = absurd (omega arith)
 ends_before (b ∷ bytes) some = split (ends_before bytes) (nat_lt b 128) some
   where
-    split : (0 < mask_l (map is_last bytes) → prefix_len (λ b. not (is_last b)) bytes < length bytes)
-        → (t : Bool) → 0 < cond t 1 0 + 2 * mask_l (map is_last bytes) → cond (not t) (1 + prefix_len (λ b. not (is_last b)) bytes) 0 < suc (length bytes)
+    split : (0 < number_l 256 (map end_mark bytes) → prefix_len (λ b. not (is_last b)) bytes < length bytes)
+        → (t : Bool) → 0 < cond t 128 0 + 256 * number_l 256 (map end_mark bytes) → cond (not t) (1 + prefix_len (λ b. not (is_last b)) bytes) 0 < suc (length bytes)
     split behind true h = omega arith
     split behind false h = let more = behind (omega arith) in omega arith
 
@@ -58,17 +57,17 @@ ended_take (suc (suc n)) zero bytes e = absurd e
 ended_take (suc (suc n)) (suc m) [] e = absurd e
 ended_take (suc (suc n)) (suc m) (b ∷ bytes) e = (e.0, ended_take (suc n) m bytes e.1)
 
--- the lowest bit of the mask tells the last byte
+-- the lowest mark tells the last byte
 pub record Ending (bytes : List ℕ) (before : ℕ) : Type 0 where
   pub few : before < 8
   pub ended : IsEnded (before + 1) bytes
 
-pub ended_by_mask : (bytes : List ℕ) (mask : ℕ) → 8 ≤ length bytes → mask ≡ mask_l (map is_last (take 8 bytes)) → 0 < mask → Ending bytes (count_trailing_zeros 64 mask)
-ended_by_mask bytes mask room is some =
+pub ended_by_marks : (bytes : List ℕ) (ends : ℕ) → 8 ≤ length bytes → ends ≡ number_l 256 (map end_mark (take 8 bytes)) → 0 < ends → Ending bytes (count_trailing_zeros 64 ends / 8)
+ended_by_marks bytes ends room is some =
     let eight = take 8 bytes in
     let long : length eight ≡ 8 = length-take-le 8 bytes room in
     let before = ends_before eight (omega (arith, is)) in
-    let lowest : count_trailing_zeros 64 mask ≡ prefix_len (λ b. not (is_last b)) eight = ap (count_trailing_zeros 64) is ∙ trailing_mask_l is_last 64 eight (omega (arith, long)) (omega (arith, is)) in
+    let lowest : count_trailing_zeros 64 ends / 8 ≡ prefix_len (λ b. not (is_last b)) eight = ap (λ n. count_trailing_zeros 64 n / 8) is ∙ lowest_mark eight (omega (arith, long)) (omega (arith, is)) in
     subst (Ending bytes) (sym lowest) (record { few = omega (arith, before, long); ended = rw (add-one) (ended_take (suc (prefix_len (λ b. not (is_last b)) eight)) 8 bytes (ended_by_prefix eight before)) })
 
 groups_take : (n m : ℕ) (bytes : List ℕ) → n ≤ m → groups_of n (take m bytes) ≡ groups_of n bytes
@@ -204,27 +203,33 @@ first_below (suc n) (b ∷ bytes) small = (omega (arith, small 0), first_below n
 pub behind_below : (at : ℕ) (bytes : List ℕ) → ((k : ℕ) → Fits w8 (get_or bytes k 0)) → (k : ℕ) → Fits w8 (get_or (drop at bytes) k 0)
 behind_below at bytes small k = rw get_or-drop (small (at + k))
 
+-- the marks of the eight bytes that a word is made of
+pub marks_at : (bytes : List ℕ) (word ends : ℕ) → 8 ≤ length bytes → ((k : ℕ) → Fits w8 (get_or bytes k 0)) → word ≡ number_l 256 (take 8 bytes)
+    → ((eight : List ℕ) → length eight ≡ 8 → AllBelow 256 eight → word ≡ number_l 256 eight → ends ≡ number_l 256 (map end_mark eight))
+    → ends ≡ number_l 256 (map end_mark (take 8 bytes))
+marks_at bytes word ends room small is marks = marks (take 8 bytes) (length-take-le 8 bytes room) (first_below 8 bytes small) is
+
 masked_lows : (bytes : List ℕ) → length bytes ≡ 8 → AllBelow 256 bytes → bit_and (number_l 256 bytes) 9187201950435737471 ≡ number_l 256 (lows bytes)
 unfolding lows
 masked_lows bytes long small =
     subst (λ n. bit_and (number_l 256 bytes) (number_l 256 (replicate n 127)) ≡ number_l 256 (map (λ b. bit_and b 127) bytes)) long (lanes_and 8 127 bytes (omega arith) small)
 
 -- the bits of the bytes before the one that ends the number, and of it
-cut_word : (word before : ℕ) → before < 8 → bit_and word (18446744073709551615 / 2 ^ (56 - 8 * before)) ≡ word % 2 ^ (8 * suc before)
-cut_word word before h =
-    let left : 64 - (56 - 8 * before) ≡ 8 * suc before = omega arith in
-    ap (bit_and word) (ones_shr 64 (56 - 8 * before) (omega arith) ∙ ap (λ k. 2 ^ k - 1) left) ∙ and_mask word (8 * suc before)
+cut_word : (word mask before : ℕ) → mask ≡ 2 ^ (8 * (before + 1)) - 1 → bit_and word mask ≡ word % 2 ^ (8 * suc before)
+cut_word word mask before is =
+    let own : mask ≡ 2 ^ (8 * suc before) - 1 = is ∙ ap (λ n. 2 ^ (8 * n) - 1) (add-one before) in
+    ap (bit_and word) own ∙ and_mask word (8 * suc before)
 
 -- what is gathered from a word is the number
-pub front_number : (bytes : List ℕ) (word before number : ℕ) → 8 ≤ length bytes → ((k : ℕ) → Fits w8 (get_or bytes k 0)) → before < 8 → word ≡ number_l 256 (take 8 bytes)
-    → ((groups : List ℕ) → AreGroups groups → bit_and (bit_and word (18446744073709551615 / 2 ^ (56 - 8 * before))) 9187201950435737471 ≡ number_l 256 groups → number ≡ number_l 128 groups)
+pub front_number : (bytes : List ℕ) (word mask before number : ℕ) → 8 ≤ length bytes → ((k : ℕ) → Fits w8 (get_or bytes k 0)) → before < 8 → word ≡ number_l 256 (take 8 bytes)
+    → mask ≡ 2 ^ (8 * (before + 1)) - 1 → ((groups : List ℕ) → AreGroups groups → bit_and (bit_and word mask) 9187201950435737471 ≡ number_l 256 groups → number ≡ number_l 128 groups)
     → number ≡ groups_of (suc before) (take 8 bytes)
-front_number bytes word before number room small few is gathers =
+front_number bytes word mask before number room small few is cuts gathers =
     let front = take 8 bytes in
     let long : length front ≡ 8 = omega (arith, length-take 8 bytes) in
     let below = first_below 8 bytes small in
-    let own : bit_and word (18446744073709551615 / 2 ^ (56 - 8 * before)) ≡ number_l 256 (kept (suc before) front) =
-    cut_word word before few ∙ ap (λ k. k % 2 ^ (8 * suc before)) is ∙ number_kept (suc before) front below in
+    let own : bit_and word mask ≡ number_l 256 (kept (suc before) front) =
+    cut_word word mask before cuts ∙ ap (λ k. k % 2 ^ (8 * suc before)) is ∙ number_kept (suc before) front below in
     let long_kept : length (kept (suc before) front) ≡ 8 = length-kept (suc before) front ∙ long in
     gathers (lows (kept (suc before) front)) (lows_are_groups _ long_kept)
     (ap (λ k. bit_and k 9187201950435737471) own ∙ masked_lows (kept (suc before) front) long_kept (kept_below (suc before) front below))
@@ -246,25 +251,6 @@ front_found_64 bytes number n front =
 pub front_within : (bytes : List ℕ) (number n at : ℕ) → at ≤ length bytes → IsFront (drop at bytes) number n → at + n ≤ length bytes
 front_within bytes number n at within front = omega (arith, ended_length n (drop at bytes) front.ended, length-drop at bytes)
 
--- ---- the eight bytes at a place, one by one
-
-eight_of : (bytes : List ℕ) → 8 ≤ length bytes → take 8 bytes ≡ get_or bytes 0 0 ∷ get_or bytes 1 0 ∷ get_or bytes 2 0 ∷ get_or bytes 3 0 ∷ get_or bytes 4 0 ∷ get_or bytes 5 0 ∷ get_or bytes 6 0 ∷ get_or bytes 7 0 ∷ []
-eight_of [] long = absurd (omega arith)
-eight_of (a ∷ []) long = absurd (omega arith)
-eight_of (a ∷ b ∷ []) long = absurd (omega arith)
-eight_of (a ∷ b ∷ c ∷ []) long = absurd (omega arith)
-eight_of (a ∷ b ∷ c ∷ d ∷ []) long = absurd (omega arith)
-eight_of (a ∷ b ∷ c ∷ d ∷ e ∷ []) long = absurd (omega arith)
-eight_of (a ∷ b ∷ c ∷ d ∷ e ∷ f ∷ []) long = absurd (omega arith)
-eight_of (a ∷ b ∷ c ∷ d ∷ e ∷ f ∷ g ∷ []) long = absurd (omega arith)
-eight_of (a ∷ b ∷ c ∷ d ∷ e ∷ f ∷ g ∷ h ∷ rest) long = refl
-
-pub eight_bytes : (at : ℕ) (bytes : List ℕ) → at + 8 ≤ length bytes
-    → take 8 (drop at bytes) ≡ get_or bytes at 0 ∷ get_or bytes (at + 1) 0 ∷ get_or bytes (at + 2) 0 ∷ get_or bytes (at + 3) 0 ∷ get_or bytes (at + 4) 0 ∷ get_or bytes (at + 5) 0 ∷ get_or bytes (at + 6) 0 ∷ get_or bytes (at + 7) 0 ∷ []
-eight_bytes at bytes room =
-    eight_of (drop at bytes) (omega (arith, length-drop at bytes))
-    ∙ rw (get_or-drop at bytes 0 0, get_or-drop at bytes 1 0, get_or-drop at bytes 2 0, get_or-drop at bytes 3 0, get_or-drop at bytes 4 0, get_or-drop at bytes 5 0, get_or-drop at bytes 6 0, get_or-drop at bytes 7 0, add-zero) refl
-
 -- ---- numbers of nine and ten bytes
 
 -- none of these bytes is a number's last
@@ -272,11 +258,11 @@ abbrev pub AreMore : List ℕ → Type 0
 AreMore [] = Unit {0}
 AreMore (b ∷ bytes) = (128 ≤ b) × AreMore bytes
 
-more_by_mask : (bytes : List ℕ) → mask_l (map is_last bytes) ≡ 0 → AreMore bytes
-more_by_mask [] none = tt
-more_by_mask (b ∷ bytes) none = split (more_by_mask bytes) (nat_lt b 128) refl none
+more_by_marks : (bytes : List ℕ) → number_l 256 (map end_mark bytes) ≡ 0 → AreMore bytes
+more_by_marks [] none = tt
+more_by_marks (b ∷ bytes) none = split (more_by_marks bytes) (nat_lt b 128) refl none
   where
-    split : (mask_l (map is_last bytes) ≡ 0 → AreMore bytes) → (t : Bool) → nat_lt b 128 ≡ t → cond t 1 0 + 2 * mask_l (map is_last bytes) ≡ 0 → (128 ≤ b) × AreMore bytes
+    split : (number_l 256 (map end_mark bytes) ≡ 0 → AreMore bytes) → (t : Bool) → nat_lt b 128 ≡ t → cond t 128 0 + 256 * number_l 256 (map end_mark bytes) ≡ 0 → (128 ≤ b) × AreMore bytes
     split behind true e h = absurd (omega arith)
     split behind false e h = (grind (arith, nat_tests, e), behind (omega arith))
 
@@ -303,11 +289,11 @@ long_parts (a ∷ b ∷ c ∷ d ∷ e ∷ f ∷ g ∷ h ∷ []) long = absurd (o
 long_parts (a ∷ b ∷ c ∷ d ∷ e ∷ f ∷ g ∷ h ∷ i ∷ []) long = absurd (omega arith)
 long_parts (a ∷ b ∷ c ∷ d ∷ e ∷ f ∷ g ∷ h ∷ i ∷ j ∷ rest) long = refl
 
-pub long_at : (at : ℕ) (bytes : List ℕ) → 10 ≤ length bytes - at → mask_l (map is_last (take 8 (drop at bytes))) ≡ 0 → Long (drop at bytes) (get_or bytes (at + 8) 0) (get_or bytes (at + 9) 0)
+pub long_at : (at : ℕ) (bytes : List ℕ) → 10 ≤ length bytes - at → number_l 256 (map end_mark (take 8 (drop at bytes))) ≡ 0 → Long (drop at bytes) (get_or bytes (at + 8) 0) (get_or bytes (at + 9) 0)
 long_at at bytes room none = record {
   rest = drop 10 (drop at bytes);
   parts = long_parts (drop at bytes) (omega (arith, length-drop at bytes)) ∙ rw (get_or-drop at bytes 8 0, get_or-drop at bytes 9 0) refl;
-  more = more_by_mask (take 8 (drop at bytes)) none;
+  more = more_by_marks (take 8 (drop at bytes)) none;
 }
 
 -- the number in the low bits of eight bytes, and what the two behind them add

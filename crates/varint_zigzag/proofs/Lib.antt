@@ -1,6 +1,7 @@
 -- Lemmas.
 pub mod Carrying
 pub mod Narrow
+pub mod Ends
 pub mod Fronts
 pub mod Groups
 pub mod Laid

@@ -1,5 +1,5 @@
 -- Numbers at a place, and the groups of seven bits that they are made of.
-use Rattle.std.specs.Prelude.{◌≡◌, ℕ, zero, suc, ◌+◌, ◌*◌, ◌%◌, ◌^◌, ◌<◌, ◌≤◌, Bool, nat_lt, List, [], ◌∷◌, length, Option, Some, None, Result, Ok, Err}
+use Rattle.std.specs.Prelude.{◌≡◌, ℕ, zero, suc, ◌+◌, ◌*◌, ◌%◌, ◌^◌, ◌<◌, ◌≤◌, Bool, if◌then◌else◌, nat_lt, List, [], ◌∷◌, length, Option, Some, None, Result, Ok, Err}
 use Rattle.varint_zigzag.specs.declared.fault.VarFault.{VarFault}
 
 -- the number that was found at a place, and the place behind it
@@ -10,6 +10,10 @@ found_at at (Err fault) = None
 -- a byte below 128 is a number's last
 abbrev pub is_last : ℕ → Bool
 is_last b = nat_lt b 128
+
+-- the high bit for a byte that ends a number, and 0 for any other
+abbrev pub end_mark : ℕ → ℕ
+end_mark b = if is_last b then 128 else 0
 
 -- so many bytes end a number: each but the last has its high bit set
 abbrev pub IsEnded : ℕ → List ℕ → Type 0

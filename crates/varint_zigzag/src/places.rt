@@ -1,11 +1,10 @@
 //! The number at a place of some bytes. Its bytes are looked at eight at a time, so that how long it is costs no jump.
-ghost use Rattle.std.specs.Prelude.{◌≡◌, ℕ, List, ◌≤◌, ◌<◌, ◌+◌, length, take, drop, IfSome, map, nat_lt};
-ghost use Rattle.std.specs.Simd.Lanes.{mask_l, number_l};
+ghost use Rattle.std.specs.Prelude.{◌≡◌, ℕ, List, ◌≤◌, ◌<◌, ◌+◌, ◌-◌, ◌*◌, ◌^◌, length, take, drop, IfSome, map};
+ghost use Rattle.std.specs.Simd.Lanes.{number_l};
 ghost use Rattle.varint_zigzag.specs.Varint.{varint_at};
-ghost use Rattle.varint_zigzag.specs.Places.{found_at, is_last, IsEnded, IsFront, AreGroups};
+ghost use Rattle.varint_zigzag.specs.Places.{found_at, end_mark, IsEnded, IsFront, AllBelow, AreGroups};
 
 use crate::reading::{read_u16, read_u32, read_u64, single};
-use std::simd::prelude::*;
 
 /// So many bytes are looked at together.
 pub(crate) const WORD: usize = 8;
@@ -16,8 +15,23 @@ const LONG: usize = 10;
 /// The most bytes of a number of 16 or 32 bits.
 const MOST: usize = 5;
 
+/// The high bit of each byte of a word.
+const HIGH_BITS: u64 = 0x8080_8080_8080_8080;
+
 /// The seven low bits of each byte of a word.
 const LOW_BITS: u64 = 0x7f7f_7f7f_7f7f_7f7f;
+
+/// The bits of a word's bytes up to each of them, the lowest first.
+static UP_TO: [u64; WORD] = [
+    0xff,
+    0xffff,
+    0x00ff_ffff,
+    0xffff_ffff,
+    0x00ff_ffff_ffff,
+    0xffff_ffff_ffff,
+    0x00ff_ffff_ffff_ffff,
+    0xffff_ffff_ffff_ffff,
+];
 
 /// The number below 2^16 that stands at a place, of at most five bytes, and the place behind it. It may be padded.
 ///
@@ -129,8 +143,17 @@ fn front_of(bytes: &[u8], at: usize) -> Option<(u64, usize)>
     ensures { IfSome result (λ found. IsFront (drop at bytes.now) found.0 found.1) }
 {
     let before = before_last(bytes, at)?;
-    let own = word_at(bytes, at) & (u64::MAX >> (56 - 8 * before));
+    let own = word_at(bytes, at) & bits_up_to(before);
     Some((gathered(own & LOW_BITS), before as usize + 1))
+}
+
+// The bits of a word's bytes up to one of them. To look them up costs less than a shift by so many.
+#[inline(always)]
+fn bits_up_to(last: u32) -> u64
+    requires { last < 8 }
+    ensures { result ≡ 2 ^ (8 * (last + 1)) - 1 }
+{
+    UP_TO[last as usize]
 }
 
 // How many of the eight bytes at a place stand before the one that ends a number.
@@ -144,11 +167,11 @@ pub(crate) fn before_last(bytes: &[u8], at: usize) -> Option<u32>
     if bytes.len() - at < WORD {
         return None;
     }
-    let ends = ends_at(bytes, at);
+    let ends = ends_of(word_at(bytes, at));
     if ends == 0 {
         return None;
     }
-    Some(ends.trailing_zeros())
+    Some(ends.trailing_zeros() / 8)
 }
 
 // Eight bytes as a number, the lowest first.
@@ -157,27 +180,18 @@ fn word_at(bytes: &[u8], at: usize) -> u64
     requires { at + 8 ≤ length bytes.now }
     ensures { result ≡ number_l 256 (take 8 (drop at bytes.now)) }
 {
-    u64::from_le_bytes([
-        bytes[at],
-        bytes[at + 1],
-        bytes[at + 2],
-        bytes[at + 3],
-        bytes[at + 4],
-        bytes[at + 5],
-        bytes[at + 6],
-        bytes[at + 7],
-    ])
+    match bytes[at..].first_chunk::<WORD>() {
+        Some(word) => u64::from_le_bytes(*word),
+        None => 0,
+    }
 }
 
-// A bit for each of the eight bytes at a place, set where the byte ends a number.
+// The high bit of each byte of a word that ends a number: of each that has none itself.
 #[inline(always)]
-fn ends_at(bytes: &[u8], at: usize) -> u64
-    requires { at + 8 ≤ length bytes.now }
-    ensures { result ≡ mask_l (map is_last (take 8 (drop at bytes.now))) }
+fn ends_of(word: u64) -> u64
+    ensures { (bytes : List ℕ) → length bytes ≡ 8 → AllBelow 256 bytes → word ≡ number_l 256 bytes → result ≡ number_l 256 (map end_mark bytes) }
 {
-    u8x8::from_slice(&bytes[at..])
-        .simd_lt(u8x8::splat(128))
-        .to_bitmask()
+    HIGH_BITS - (word & HIGH_BITS)
 }
 
 // A number of nine or ten bytes.
@@ -187,7 +201,7 @@ fn long_front_of(bytes: &[u8], at: usize) -> Option<(u64, usize)>
     ensures within { IfSome result (λ found. at + found.1 ≤ length bytes.now) }
     ensures found { IfSome result (λ found. varint_at 10 64 (drop at bytes.now) ≡ Ok (found.0, found.1)) }
 {
-    if bytes.len() - at < LONG || ends_at(bytes, at) != 0 {
+    if bytes.len() - at < LONG || ends_of(word_at(bytes, at)) != 0 {
         return None;
     }
     let ninth = bytes[at + 8];

@@ -1,4 +1,7 @@
 //! Signed numbers folded onto unsigned ones: 0, -1, 1, -2 .. become 0, 1, 2, 3 ..
+//!
+//! They are folded by twice the number or its complement: the compiler makes an exclusive or with the sign of that, and no
+//! jump.
 ghost use Rattle.std.specs.Prelude.{◌≡◌};
 ghost use Rattle.varint_zigzag.specs.Zigzag.{folded, unfolded};
 
@@ -7,11 +10,8 @@ ghost use Rattle.varint_zigzag.specs.Zigzag.{folded, unfolded};
 pub fn zigzag32(v: i32) -> u32
     ensures { result ≡ folded v }
 {
-    if v < 0 {
-        2 * (-(v + 1)) as u32 + 1
-    } else {
-        2 * v as u32
-    }
+    let twice = v.cast_unsigned().wrapping_mul(2);
+    if v < 0 { !twice } else { twice }
 }
 
 /// The signed number that `v` stands for (zigzag of the Compact protocol specification).
@@ -28,11 +28,8 @@ pub fn unzigzag32(v: u32) -> i32
 pub fn zigzag64(v: i64) -> u64
     ensures { result ≡ folded v }
 {
-    if v < 0 {
-        2 * (-(v + 1)) as u64 + 1
-    } else {
-        2 * v as u64
-    }
+    let twice = v.cast_unsigned().wrapping_mul(2);
+    if v < 0 { !twice } else { twice }
 }
 
 /// The signed number that `v` stands for (zigzag of the Compact protocol specification).

@@ -9,4 +9,4 @@ returns c =
     let small = behind_below c.args.at c.args.bytes.now c.type_inv.bytes in
     let before = c.in_ok-before.ensures in
     front_at front c.gathered.result _ before.few before.ended
-    (front_number front c.word_at.result c.in_ok-before.before c.gathered.result room small before.few c.word_at.ensures c.gathered.ensures)
+    (front_number front c.word_at.result c.bits_up_to.result c.in_ok-before.before c.gathered.result room small before.few c.word_at.ensures c.bits_up_to.ensures c.gathered.ensures)
