@@ -40,11 +40,12 @@ use std::alloc::Global;
 /// `check FILE` reads an IDL and what it includes, and writes how much is declared or reports the first thing that is wrong.
 /// `convert FROM TO [--idl FILE] [--service NAME] [--limit F]` reads frames of at most F bytes from the input, writes each
 /// message that passes, framed and in the plain spelling of the protocol TO, to the output, and reports each other frame. With
-/// `--lines SIDE` a message is a line on that side, which speaks JSON. `show FROM` does the same with a line of text for each message in place of its frame, and `conform FROM --idl FILE` with a line
-/// for each message that meets what the IDL declares of it. `serve CLIENT UPSTREAM LISTEN TARGET` starts the hub, lets clients of one
-/// protocol talk to an upstream of another, and writes one line for each session as soon as it ends. `route CLIENT UPSTREAM LISTEN TARGETS`
-/// does so over the fan for clients whose calls name their services, and leads each call to its service's target. `drill SEED COUNT`
-/// writes messages that are drawn from a number, and reports how long they are. `help` writes what the commands are.
+/// `--lines SIDE` a message is a line on that side, which speaks JSON. `show FROM` does the same with a line of text for each
+/// message in place of its frame, and `conform FROM --idl FILE` with a line for each message that meets what the IDL declares of
+/// it. `serve CLIENT UPSTREAM LISTEN TARGET` starts the hub, lets clients of one protocol talk to an upstream of another, and
+/// writes one line for each session as soon as it ends. `route CLIENT UPSTREAM LISTEN TARGETS` does so over the fan for clients
+/// whose calls name their services, and leads each call to its service's target. `drill SEED COUNT` writes messages that are
+/// drawn from a number, and reports how long they are. `help` writes what the commands are.
 ///
 /// It serves in the calling thread over the one hub or fan, whatever number of threads the words give.
 ///

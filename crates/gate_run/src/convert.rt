@@ -12,7 +12,7 @@ use crate::task::Task;
 use gate_io::Out;
 use line_transport::{begin, close};
 use protocol_traits::Proto;
-use translate_core::{Cause, Verdict};
+use translate_core::{Cause, Habit, Verdict};
 
 /// Translates a frame to the end of `out`, or leaves `out` as it was. Where `tried`, the quick way didn't pass the frame and is
 /// not gone again.
@@ -33,7 +33,7 @@ pub fn convert_frame(
     ensures room { out.new.room ≡ out.old.room }
     ensures written { result ≡ Treatment.WriteFault → ⊥ }
 {
-    if !tried && pass_sent(task, from, to, frame, room, out) {
+    if !tried && pass_sent(task, from, to, frame, room, &mut Habit::new(), out) {
         return Treatment::Passed;
     }
     match translate_sent(task, from, to, frame, room, out) {
@@ -52,6 +52,7 @@ pub fn pass_sent(
     to: Proto,
     frame: &[u8],
     room: &mut [u8],
+    habit: &mut Habit,
     out: &mut Out,
 ) -> bool
     requires room { length frame.now ≤ length room.old }
@@ -65,7 +66,7 @@ pub fn pass_sent(
 {
     let transport = task.output();
     let begun = begin(transport, out);
-    if task.passes(from, to, frame, room, out) {
+    if task.passes(from, to, frame, room, habit, out) {
         let end = out.bytes().len();
         prove!(end < 1 << 31);
         close(transport, out, begun);

@@ -24,6 +24,7 @@ use gate_io::{Got, Out, Sink, Source, Wrote, flush, write_all};
 use gate_words::GREATEST_LIMIT;
 use line_transport::{Excess, MessageBuf, Next};
 use std::alloc::Global;
+use translate_core::Habit;
 
 /// At most so many bytes are read.
 pub const MOST_BYTES: u64 = (1 << 63) - 1;
@@ -294,6 +295,7 @@ impl<'s> Work<'s> {
         let Handler::Convert { from, to } = self.handler else {
             return false;
         };
+        let mut habit = Habit::new();
         self.inbox.pass_over();
         'frames: loop {
             let Next::Message(frame) = self.inbox.message() else {
@@ -303,7 +305,7 @@ impl<'s> Work<'s> {
             if framed_room(size) > self.page.spare() {
                 return false;
             }
-            if !pass_sent(task, from, to, frame, room, &mut self.page.out) {
+            if !pass_sent(task, from, to, frame, room, &mut habit, &mut self.page.out) {
                 return true;
             }
             self.number += 1;

@@ -19,7 +19,7 @@ use protocol_pairs::{translate_by_events, translate_quickly};
 use protocol_traits::Proto;
 use std::alloc::Global;
 use std::marker::Model;
-use translate_core::{Route, Verdict};
+use translate_core::{Habit, Route, Verdict};
 use type_tables::{Schema, ServiceId};
 
 /// What is done with each frame.
@@ -116,6 +116,7 @@ impl<'s> Task<'s> {
         to: Proto,
         frame: &[u8],
         room: &mut [u8],
+        habit: &mut Habit,
         out: &mut Out,
     ) -> bool
         requires room { length frame.now ≤ length room.old }
@@ -127,7 +128,7 @@ impl<'s> Task<'s> {
         ensures passes { result ≡ true → (info : HeadInfo) × IsJudged (Passed info) out.old.bytes out.new.bytes (judged_by self.now from to frame.now) }
     {
         let route = Route::ByName(self.service);
-        translate_quickly::<bool>(self.schema, route, from, to, frame, room, out)
+        translate_quickly::<bool>(self.schema, route, from, to, frame, room, habit, out)
     }
 
     /// Translates a frame that the quick way didn't pass to the end of `out`, or leaves `out` as it was.

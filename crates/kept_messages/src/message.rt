@@ -10,7 +10,9 @@ use crate::body::keep_fields;
 use gate_io::Out;
 use kept_forms::FormKeep;
 use protocol_traits::{FormWrite, Head, Opening};
-use translate_core::{Declared, Known, Nothing, Outcome, Route, Undeclared, holds_name, told_of};
+use translate_core::{
+    Declared, Habit, Known, Nothing, Outcome, Route, Undeclared, holds_name, told_of,
+};
 use type_tables::{Schema, StructId, Ty};
 
 /// Appends a message's translation to its own protocol, and tells of it what the caller asks for; or leaves the output as it
@@ -23,6 +25,7 @@ pub fn pass_kept<R: FormKeep<W>, W: FormWrite, O: Outcome>(
     route: Route,
     frame: &[u8],
     room: &mut [u8],
+    habit: &mut Habit,
     out: &mut Out,
 ) -> O
     requires known { IsKnownRoute schema.now route }
@@ -40,14 +43,15 @@ pub fn pass_kept<R: FormKeep<W>, W: FormWrite, O: Outcome>(
     if !holds_name::<W>(head.name) {
         return O::left();
     }
-    let untyped = !W::is_marked() || schema.names_services();
-    if untyped {
+    if habit.begins_untyped::<W>(schema) {
         if append_message::<R, W, Nothing>(Nothing, schema, &head, frame, at, out) {
+            habit.was_enough();
             return O::passed_by(schema, route, &head);
         }
         if !W::is_marked() {
             return O::left();
         }
+        habit.asks();
     }
     let told = told_of(schema, route, &head);
     if append_typed::<R, W>(schema, told.body, &head, frame, at, out) {

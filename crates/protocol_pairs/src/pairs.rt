@@ -13,7 +13,7 @@ use json_protocol::{JsonRead, JsonWrite};
 use kept_forms::FormKeep;
 use kept_messages::pass_kept;
 use protocol_traits::{FormRead, FormWrite, Proto, WireRead};
-use translate_core::{HeadInfo, Outcome, Route, Verdict, pass_quickly};
+use translate_core::{Habit, HeadInfo, Outcome, Route, Verdict, pass_quickly};
 use type_tables::Schema;
 
 /// Translates a frame to the end of `out`, or leaves `out` as it was.
@@ -38,7 +38,8 @@ pub fn translate(
     ensures room { out.new.room ≡ out.old.room }
     ensures short { length out.new.bytes ≤ length out.old.bytes + room_for (length frame.now) }
 {
-    match translate_quickly::<Option<HeadInfo>>(schema, route, from, to, frame, room, out) {
+    let habit = &mut Habit::new();
+    match translate_quickly::<Option<HeadInfo>>(schema, route, from, to, frame, room, habit, out) {
         Some(info) => Verdict::Passed(info),
         None => translate_by_events(schema, route, from, to, frame, room, out),
     }
@@ -59,6 +60,7 @@ pub fn translate_quickly<O: Outcome>(
     to: Proto,
     frame: &[u8],
     room: &mut [u8],
+    habit: &mut Habit,
     out: &mut Out,
 ) -> O
     requires known { IsKnownRoute schema.now route }
@@ -71,9 +73,9 @@ pub fn translate_quickly<O: Outcome>(
     ensures passes { O.passes result out.old.bytes out.new.bytes (judged schema.now route from to frame.now) }
 {
     match from {
-        Proto::Binary => pass_binary::<O>(schema, route, to, frame, room, out),
-        Proto::Compact => pass_compact::<O>(schema, route, to, frame, room, out),
-        Proto::Json => pass_json::<O>(schema, route, to, frame, room, out),
+        Proto::Binary => pass_binary::<O>(schema, route, to, frame, room, habit, out),
+        Proto::Compact => pass_compact::<O>(schema, route, to, frame, room, habit, out),
+        Proto::Json => pass_json::<O>(schema, route, to, frame, room, habit, out),
     }
 }
 
@@ -85,6 +87,7 @@ fn pass_binary<O: Outcome>(
     to: Proto,
     frame: &[u8],
     room: &mut [u8],
+    habit: &mut Habit,
     out: &mut Out,
 ) -> O
     requires known { IsKnownRoute schema.now route }
@@ -97,11 +100,15 @@ fn pass_binary<O: Outcome>(
     ensures passes { O.passes result out.old.bytes out.new.bytes (judged_to binary_source schema.now route to frame.now) }
 {
     match to {
-        Proto::Binary => keep_own::<BinaryRead, BinaryWrite, O>(schema, route, frame, room, out),
-        Proto::Compact => pass_apart::<BinaryRead, CompactWrite, O>(
-            schema, route, frame, room, out,
+        Proto::Binary => keep_own::<BinaryRead, BinaryWrite, O>(
+            schema, route, frame, room, habit, out,
         ),
-        Proto::Json => pass_apart::<BinaryRead, JsonWrite, O>(schema, route, frame, room, out),
+        Proto::Compact => pass_apart::<BinaryRead, CompactWrite, O>(
+            schema, route, frame, room, habit, out,
+        ),
+        Proto::Json => pass_apart::<BinaryRead, JsonWrite, O>(
+            schema, route, frame, room, habit, out,
+        ),
     }
 }
 
@@ -113,6 +120,7 @@ fn pass_compact<O: Outcome>(
     to: Proto,
     frame: &[u8],
     room: &mut [u8],
+    habit: &mut Habit,
     out: &mut Out,
 ) -> O
     requires known { IsKnownRoute schema.now route }
@@ -125,9 +133,15 @@ fn pass_compact<O: Outcome>(
     ensures passes { O.passes result out.old.bytes out.new.bytes (judged_to compact_source schema.now route to frame.now) }
 {
     match to {
-        Proto::Binary => pass_apart::<CompactRead, BinaryWrite, O>(schema, route, frame, room, out),
-        Proto::Compact => pass_own::<CompactRead, CompactWrite, O>(schema, route, frame, room, out),
-        Proto::Json => pass_apart::<CompactRead, JsonWrite, O>(schema, route, frame, room, out),
+        Proto::Binary => pass_apart::<CompactRead, BinaryWrite, O>(
+            schema, route, frame, room, habit, out,
+        ),
+        Proto::Compact => pass_own::<CompactRead, CompactWrite, O>(
+            schema, route, frame, room, habit, out,
+        ),
+        Proto::Json => pass_apart::<CompactRead, JsonWrite, O>(
+            schema, route, frame, room, habit, out,
+        ),
     }
 }
 
@@ -139,6 +153,7 @@ fn pass_json<O: Outcome>(
     to: Proto,
     frame: &[u8],
     room: &mut [u8],
+    habit: &mut Habit,
     out: &mut Out,
 ) -> O
     requires known { IsKnownRoute schema.now route }
@@ -151,9 +166,13 @@ fn pass_json<O: Outcome>(
     ensures passes { O.passes result out.old.bytes out.new.bytes (judged_to json_source schema.now route to frame.now) }
 {
     match to {
-        Proto::Binary => pass_apart::<JsonRead, BinaryWrite, O>(schema, route, frame, room, out),
-        Proto::Compact => pass_apart::<JsonRead, CompactWrite, O>(schema, route, frame, room, out),
-        Proto::Json => pass_apart::<JsonRead, JsonWrite, O>(schema, route, frame, room, out),
+        Proto::Binary => pass_apart::<JsonRead, BinaryWrite, O>(
+            schema, route, frame, room, habit, out,
+        ),
+        Proto::Compact => pass_apart::<JsonRead, CompactWrite, O>(
+            schema, route, frame, room, habit, out,
+        ),
+        Proto::Json => pass_apart::<JsonRead, JsonWrite, O>(schema, route, frame, room, habit, out),
     }
 }
 
@@ -164,6 +183,7 @@ fn keep_own<R: FormKeep<W>, W: FormWrite, O: Outcome>(
     route: Route,
     frame: &[u8],
     room: &mut [u8],
+    habit: &mut Habit,
     out: &mut Out,
 ) -> O
     requires known { IsKnownRoute schema.now route }
@@ -175,7 +195,7 @@ fn keep_own<R: FormKeep<W>, W: FormWrite, O: Outcome>(
     ensures short { length out.new.bytes ≤ length out.old.bytes + room_for (length frame.now) }
     ensures passes { O.passes result out.old.bytes out.new.bytes (judged_frame R.ReadRules W.WireWrite schema.now route frame.now) }
 {
-    pass_kept::<R, W, O>(schema, route, frame, room, out)
+    pass_kept::<R, W, O>(schema, route, frame, room, habit, out)
 }
 
 /// The same where what isn't kept may be spelled in another way than the writer's.
@@ -184,6 +204,7 @@ fn pass_own<R: FormKeep<W>, W: FormWrite, O: Outcome>(
     route: Route,
     frame: &[u8],
     room: &mut [u8],
+    habit: &mut Habit,
     out: &mut Out,
 ) -> O
     requires known { IsKnownRoute schema.now route }
@@ -195,9 +216,9 @@ fn pass_own<R: FormKeep<W>, W: FormWrite, O: Outcome>(
     ensures short { length out.new.bytes ≤ length out.old.bytes + room_for (length frame.now) }
     ensures passes { O.passes result out.old.bytes out.new.bytes (judged_frame R.ReadRules W.WireWrite schema.now route frame.now) }
 {
-    let kept = keep_own::<R, W, O>(schema, route, frame, room, out);
+    let kept = keep_own::<R, W, O>(schema, route, frame, room, habit, out);
     if kept.is_left() {
-        return pass_apart::<R, W, O>(schema, route, frame, room, out);
+        return pass_apart::<R, W, O>(schema, route, frame, room, habit, out);
     }
     kept
 }
@@ -210,6 +231,7 @@ fn pass_apart<R: FormRead, W: FormWrite, O: Outcome>(
     route: Route,
     frame: &[u8],
     room: &mut [u8],
+    habit: &mut Habit,
     out: &mut Out,
 ) -> O
     requires known { IsKnownRoute schema.now route }
@@ -221,7 +243,7 @@ fn pass_apart<R: FormRead, W: FormWrite, O: Outcome>(
     ensures short { length out.new.bytes ≤ length out.old.bytes + room_for (length frame.now) }
     ensures passes { O.passes result out.old.bytes out.new.bytes (judged_frame R.ReadRules W.WireWrite schema.now route frame.now) }
 {
-    pass_quickly::<R, W, O>(schema, route, frame, room, out)
+    pass_quickly::<R, W, O>(schema, route, frame, room, habit, out)
 }
 
 /// Translates a frame to the end of `out` event by event, or leaves `out` as it was: `translate` for a frame that the quick

@@ -18,7 +18,7 @@ use session_core::{Call, ClientJudged, UpstreamJudged};
 use session_judge::{Setup, judge_reply, of_client};
 use std::alloc::Global;
 use std::marker::Model;
-use translate_core::{Cause, Route, Services};
+use translate_core::{Cause, Habit, Route, Services};
 use type_tables::Schema;
 
 /// Whoever judges the frames of one routed connection. It takes no memory but in `open`.
@@ -30,6 +30,8 @@ pub struct RouteJudge<'s> {
     targets: &'s [Target],
     /// The readers' room, whose cells are made as frames need them.
     room: Out,
+    /// What the targets' messages asked for of late.
+    replies: Habit,
 }
 
 impl<'s> Model for RouteJudge<'s> {
@@ -82,6 +84,7 @@ impl<'s> RouteJudge<'s> {
             upstream: setup.upstream,
             targets,
             room: Out::open(alloc, setup.limit)?,
+            replies: Habit::new(),
         })
     }
 
@@ -198,7 +201,16 @@ impl<'s> RouteJudge<'s> {
         let (from, to) = (self.upstream, self.client);
         self.room.clear();
         let room = self.room.tail(frame.len());
-        let judged = judge_reply(self.schema, call.result, from, to, frame, room, out);
+        let judged = judge_reply(
+            self.schema,
+            call.result,
+            from,
+            to,
+            frame,
+            room,
+            &mut self.replies,
+            out,
+        );
         close(out, at);
         judged
     }

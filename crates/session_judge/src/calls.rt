@@ -11,7 +11,7 @@ use protocol_pairs::{translate_by_events, translate_quickly};
 use protocol_traits::{Head, Proto};
 use session_core::{Call, CallLook, ClientJudged, Halt};
 use thrift_value::MessageType;
-use translate_core::{Cause, HeadInfo, Outcome, Route, Verdict, told_of};
+use translate_core::{Cause, Habit, HeadInfo, Outcome, Route, Verdict, told_of};
 use type_tables::{MethodInfo, Schema, ServiceId, StructId};
 
 /// What the quick way tells of a frame of the client: what a session asks of it and no more, so that it is handed on in
@@ -93,6 +93,7 @@ pub fn pass_call(
     to: Proto,
     frame: &[u8],
     room: &mut [u8],
+    habit: &mut Habit,
     out: &mut Out,
 ) -> CallLook
     requires service { IfSome service (λ s. s.0 < length schema.now.services) }
@@ -106,7 +107,7 @@ pub fn pass_call(
 {
     let start = out.bytes().len();
     let route = Route::ByName(service);
-    match translate_quickly::<CallSeen>(schema, route, from, to, frame, room, out) {
+    match translate_quickly::<CallSeen>(schema, route, from, to, frame, room, habit, out) {
         CallSeen::Known(reply) => CallLook::Opens(Call {
             result: Some(reply),
         }),

@@ -12,7 +12,7 @@ use protocol_traits::Proto;
 use session_core::{Call, CallLook, ClientJudged, Judge, UpstreamJudged};
 use std::alloc::Global;
 use std::marker::Model;
-use translate_core::Cause;
+use translate_core::{Cause, Habit};
 use type_tables::{Schema, ServiceId};
 
 /// Whoever judges the frames of one session: it reads and writes by two protocols and by what a schema declares.
@@ -24,6 +24,10 @@ pub struct PairJudge<'s> {
     upstream: Proto,
     /// The readers' room, whose cells are made as frames need them.
     room: Out,
+    /// What the client's messages asked for of late.
+    calls: Habit,
+    /// What the upstream's did.
+    replies: Habit,
 }
 
 /// Clauses see between whom the session goes.
@@ -53,6 +57,8 @@ impl<'s> PairJudge<'s> {
             client: setup.client,
             upstream: setup.upstream,
             room: Out::open(alloc, setup.limit)?,
+            calls: Habit::new(),
+            replies: Habit::new(),
         })
     }
 }
@@ -69,7 +75,8 @@ impl<'s> Judge for PairJudge<'s> {
         let (from, to) = (self.client, self.upstream);
         self.room.clear();
         let room = self.room.tail(frame.len());
-        pass_call(self.schema, self.service, from, to, frame, room, out)
+        let habit = &mut self.calls;
+        pass_call(self.schema, self.service, from, to, frame, room, habit, out)
     }
 
     fn client(&mut self, frame: &[u8], out: &mut Out) -> ClientJudged {
@@ -91,7 +98,8 @@ impl<'s> Judge for PairJudge<'s> {
         let (from, to) = (self.upstream, self.client);
         self.room.clear();
         let room = self.room.tail(frame.len());
-        pass_reply(self.schema, call.result, from, to, frame, room, out)
+        let habit = &mut self.replies;
+        pass_reply(self.schema, call.result, from, to, frame, room, habit, out)
     }
 
     fn upstream(&mut self, call: Call, frame: &[u8], out: &mut Out) -> UpstreamJudged {

@@ -12,7 +12,7 @@ use protocol_pairs::{answer, translate_by_events, translate_quickly};
 use protocol_traits::{Head, Proto};
 use session_core::{Halt, UpstreamJudged};
 use thrift_value::MessageType;
-use translate_core::{Cause, HeadInfo, Outcome, Route, Verdict};
+use translate_core::{Cause, Habit, HeadInfo, Outcome, Route, Verdict};
 use type_tables::{Schema, StructId};
 
 /// What the quick way tells of a frame of the upstream: what a session asks of it and no more.
@@ -75,6 +75,7 @@ pub fn pass_reply(
     to: Proto,
     frame: &[u8],
     room: &mut [u8],
+    habit: &mut Habit,
     out: &mut Out,
 ) -> bool
     requires room { length frame.now ≤ length room.old }
@@ -87,7 +88,7 @@ pub fn pass_reply(
 {
     let start = out.bytes().len();
     let route = Route::Answer(expected(schema, reply));
-    match translate_quickly::<ReplySeen>(schema, route, from, to, frame, room, out) {
+    match translate_quickly::<ReplySeen>(schema, route, from, to, frame, room, habit, out) {
         ReplySeen::Answers => true,
         ReplySeen::WrongWay => {
             out.cut(start);
@@ -106,6 +107,7 @@ pub fn judge_reply(
     to: Proto,
     frame: &[u8],
     room: &mut [u8],
+    habit: &mut Habit,
     out: &mut Out,
 ) -> UpstreamJudged
     requires room { length frame.now ≤ length room.old }
@@ -115,7 +117,7 @@ pub fn judge_reply(
     ensures out { out.new ≡ record out.old { bytes = out.old.bytes ++ reply_bytes schema.now reply from to frame.now } }
     ensures within { length out.new.bytes ≤ out.new.room }
 {
-    if pass_reply(schema, reply, from, to, frame, room, out) {
+    if pass_reply(schema, reply, from, to, frame, room, habit, out) {
         return UpstreamJudged::Answers(None);
     }
     judge_by_events(schema, reply, from, to, frame, room, out)

@@ -8,6 +8,7 @@
 mod answering;
 mod body;
 mod fields;
+mod habit;
 mod known;
 mod laws;
 mod leaves;
@@ -23,6 +24,7 @@ mod verdict;
 
 pub use answering::answer;
 pub use fields::{container_kind, sequence_kind, sequence_of};
+pub use habit::Habit;
 pub use known::{Declared, Known, Nothing, Undeclared, mark_for};
 pub use laws::an_answer_is_a_declared_failure;
 pub use message::translate;

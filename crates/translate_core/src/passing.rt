@@ -6,6 +6,7 @@ ghost use Rattle.translate_core.specs.Routes.{IsKnownRoute};
 ghost use Rattle.translate_core.specs.Judged.{judged_frame};
 ghost use Rattle.translate_core.specs.Quick.{HasRoom, Informs, PassedBody, PassedMessage, PassesMessage};
 
+use crate::habit::Habit;
 use crate::known::{Declared, Known, Nothing, Undeclared};
 use crate::leaves::AROUND;
 use crate::outcome::Outcome;
@@ -25,6 +26,7 @@ pub fn pass_quickly<R: FormRead, W: FormWrite, O: Outcome>(
     route: Route,
     frame: &[u8],
     room: &mut [u8],
+    habit: &mut Habit,
     out: &mut Out,
 ) -> O
     requires known { IsKnownRoute schema.now route }
@@ -42,11 +44,15 @@ pub fn pass_quickly<R: FormRead, W: FormWrite, O: Outcome>(
     if !holds_name::<W>(head.name) {
         return O::left();
     }
-    if is_blind::<R, W>() {
+    if !is_hinted::<R, W>() && habit.begins_untyped::<W>(schema) {
         if append_message::<R, W, Nothing>(Nothing, schema, &head, frame, at, out) {
+            habit.was_enough();
             return O::passed_by(schema, route, &head);
         }
-        return O::left();
+        if !W::is_marked() {
+            return O::left();
+        }
+        habit.asks();
     }
     let told = told_of(schema, route, &head);
     if append_told::<R, W>(schema, told.body, &head, frame, at, out) {
@@ -55,16 +61,25 @@ pub fn pass_quickly<R: FormRead, W: FormWrite, O: Outcome>(
     O::left()
 }
 
+/// Whether reading or writing a string depends on what is declared.
+#[inline(always)]
+fn is_hinted<R: FormRead, W: FormWrite>() -> bool
+    ensures reads { result ≡ false → R.hinted ≡ false }
+    ensures writes { result ≡ false → W.hinted ≡ false }
+{
+    if R::is_hinted() {
+        return true;
+    }
+    W::is_hinted()
+}
+
 /// Whether neither reading nor writing depends on what is declared.
 #[inline(always)]
 fn is_blind<R: FormRead, W: FormWrite>() -> bool
     ensures reads { result ≡ true → R.hinted ≡ false }
     ensures writes { result ≡ true → W.hinted ≡ false }
 {
-    if R::is_hinted() {
-        return false;
-    }
-    if W::is_hinted() {
+    if is_hinted::<R, W>() {
         return false;
     }
     !W::is_marked()

@@ -7,7 +7,7 @@ use Rattle.translate_core.specs.Routes.{body_of, info_of, start_of}
 use Rattle.translate_core.specs.Body.{source_in, target_in}
 use Rattle.translate_core.specs.Judged.{judged_frame}
 use Rattle.translate_core.proofs.Judging.{passed_whole}
-use Rattle.kept_messages.proofs.message.pass_kept.Goals.{then-untyped+else-append_message+else-not-is_marked-2, else-untyped}
+use Rattle.kept_messages.proofs.message.pass_kept.Goals.{then-begins_untyped+else-append_message+else-not-is_marked, else-begins_untyped}
 use Rattle.kept_messages.proofs.message.pass_kept.Goals as goal
 
 pub returns-then-append_message-clause-passes : goal.returns-then-append_message-clause-passes
@@ -33,10 +33,10 @@ returns-then-append_typed-clause-passes g c =
     let d = c.args.schema.now in
     let header = header_of c.in-Some.head in
     let read = c.in-Some.ensures.reads in
-    let same : c.if-untyped.out ≡ c.args.out.now = elim c.if-untyped.branch [ then-untyped+else-append_message+else-not-is_marked-2 w ↦ w.out-is ∙ w.append_message.ensures.left w.if-append_message.false | else-untyped w ↦ w.out-is ] in
+    let same : c.if-begins_untyped.out ≡ c.args.out.now = elim c.if-begins_untyped.branch [ then-begins_untyped+else-append_message+else-not-is_marked w ↦ w.out-is ∙ w.append_message.ensures.left w.if-append_message.false | else-begins_untyped w ↦ w.out-is ] in
     let x = c.append_typed.ensures.passes c.if-append_typed.true read.0 read.2 in
     c.passed.ensures.passes c.args.out.now.bytes c.append_typed.new.out.bytes (judged_frame g.R.ReadRules g.W.WireWrite d c.args.route c.args.frame.now)
     (passed_whole source typed (start_of d c.args.route) (info_of d c.args.route) target c.args.frame.now header read.0 x.0 (start d c.told_of-told.result.body) x.2 x.1 c.told_of-told.result.info
-    c.args.out.now.bytes (c.if-untyped.out.bytes ++ target.plain_head header) c.append_typed.new.out.bytes x.3
+    c.args.out.now.bytes (c.if-begins_untyped.out.bytes ++ target.plain_head header) c.append_typed.new.out.bytes x.3
     read.1 (c.holds_name.ensures c.if-not-holds_name.false) (ap (start d) c.told_of-told.ensures.body) c.told_of-told.ensures.info x.4 x.5
     (ap (λ (b : Buffer). b.bytes ++ target.plain_head header) same) x.6)
