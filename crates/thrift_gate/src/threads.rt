@@ -9,6 +9,7 @@ use gate_run::{Ending, Status, end_with};
 use gate_words::{Declared, Routing, Serving};
 use mio_crew::open_crew;
 use mio_edge::{MioFan, MioHub};
+use std::alloc::Global;
 use std::thread::Threads;
 
 /// Serves in as many threads as the words give. Where the system refuses what they need, no hub is used.
@@ -59,10 +60,7 @@ pub fn route_in_threads<R: Threads + Sync>(
 {
     let alloc = rt.alloc();
     let mut report = StdSink::new(rt.stderr());
-    let mut targets = Vec::new(alloc);
-    for target in routing.targets.as_slice() {
-        targets.push(Text::new(alloc, target.address.as_slice())?)?;
-    }
+    let targets = addresses_of(alloc, routing)?;
     let Some(members) = open_crew(rt, alloc, routing.threads as usize, &targets)? else {
         return Ok(end_with(&mut report, Ending::HubFault).status());
     };
@@ -82,4 +80,13 @@ pub fn route_in_threads<R: Threads + Sync>(
         &mut report,
         &mut crew,
     ))
+}
+
+// The address of each target.
+fn addresses_of(alloc: Global, routing: &Routing) -> Result<Vec<Text>, OutOfMemory> {
+    let mut addresses = Vec::new(alloc);
+    for target in routing.targets.as_slice() {
+        addresses.push(Text::new(alloc, target.address.as_slice())?)?;
+    }
+    Ok(addresses)
 }
