@@ -25,7 +25,7 @@ pub fn lay(cells: &mut [u8], to: usize, bytes: &[u8]) -> usize
     behind
 }
 
-/// Lays a part of a frame that has N bytes into the cells from a place on, and gives the place behind it.
+/// Lays the N bytes of a frame from `begin` on into the cells from a place on, and gives the place behind them.
 #[inline(always)]
 pub fn lay_fixed<const N: usize>(cells: &mut [u8], to: usize, frame: &[u8], begin: usize) -> usize
     requires room { to + N ≤ length cells.old }
@@ -58,7 +58,7 @@ pub fn lay_part(cells: &mut [u8], to: usize, frame: &[u8], begin: usize, end: us
     }
 }
 
-/// `lay` for bytes of which there are mostly few, such as a name: they are laid without a call.
+/// `lay` for bytes that are mostly few, such as a name: fewer than 32 are laid without a call.
 #[inline(always)]
 pub fn lay_short(cells: &mut [u8], to: usize, bytes: &[u8]) -> usize
     requires { to + length bytes.now ≤ length cells.old }

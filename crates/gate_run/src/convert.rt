@@ -44,7 +44,7 @@ pub fn convert_frame(
 }
 
 /// Appends what is to be sent of a frame that the quick way passes, with its length or an LF, and moves no verdict. False: the
-/// output is as it was, which says nothing of the frame.
+/// output is as it was, which says nothing of the frame. `habit` is kept from frame to frame.
 #[inline(always)]
 pub fn pass_sent(
     task: &Task<'_>,

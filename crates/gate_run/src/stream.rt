@@ -295,6 +295,7 @@ impl<'s> Work<'s> {
         let Handler::Convert { from, to } = self.handler else {
             return false;
         };
+        // It is begun anew for each run of frames: at most two more are then gone through twice.
         let mut habit = Habit::new();
         self.inbox.pass_over();
         'frames: loop {

@@ -108,7 +108,7 @@ impl<'s> Task<'s> {
     }
 
     /// Whether a frame's translation was appended by the quick way. False: `out` is as it was, which says nothing of the
-    /// frame.
+    /// frame. `habit` is kept from frame to frame.
     #[inline(always)]
     pub fn passes(
         &self,

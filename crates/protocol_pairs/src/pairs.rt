@@ -50,7 +50,7 @@ pub fn translate(
 /// and a verdict is large: what isn't asked for is neither made nor moved.
 ///
 /// `room` has at least as many bytes as the frame, and `out` room for 24 bytes for each of the frame's and 256 more. What
-/// the route names is of this schema.
+/// the route names is of this schema. `habit` is kept from message to message of one stream.
 #[inline(always)]
 #[tactic(auto, unfolding(crate::specs::Pairs::judged))]
 pub fn translate_quickly<O: Outcome>(

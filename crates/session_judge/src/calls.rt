@@ -84,7 +84,7 @@ fn call_seen(method: Option<MethodInfo>) -> CallSeen
 /// Takes a quick look at a frame of the client, and appends what goes to the upstream where it is passed.
 ///
 /// A reply or an exception, which no client sends, is gone through like a call, and what was written of it is let go: it ends
-/// the session, and calls, which come by the million, have their header read once.
+/// the session, and calls, which come by the million, have their header read once. `habit` is kept from call to call.
 #[inline(always)]
 pub fn pass_call(
     schema: &Schema,

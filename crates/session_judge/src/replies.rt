@@ -66,7 +66,8 @@ fn seen_of(mtype: MessageType) -> ReplySeen
 
 /// Whether a quick look passes a frame of the upstream as the reply of this struct: then what goes to the client is appended.
 ///
-/// A call, which no upstream sends, is gone through like a reply, and what was written of it is let go.
+/// A call, which no upstream sends, is gone through like a reply, and what was written of it is let go. `habit` is kept from
+/// reply to reply.
 #[inline(always)]
 pub fn pass_reply(
     schema: &Schema,

@@ -4,17 +4,17 @@ ghost use Rattle.std.specs.Prelude.{◌≡◌, true, false, if◌then◌else◌}
 use protocol_traits::FormWrite;
 use type_tables::Schema;
 
-/// Behind two messages in a row that asked what is declared, so many are begun with it.
+/// So many messages are begun with what is declared once two in a row asked for it.
 const TYPED: u8 = 15;
 
 /// What the messages of a stream asked for of late.
 ///
-/// Where only the kinds of an empty map are taken from what is declared, a message is gone through without it at first, for
-/// most have no such map. One that has is gone through twice. So that not each of a stream of these is, the next ones behind
-/// two of them are begun with what is declared.
+/// Where only an empty map asks for what is declared, most messages need nothing of it. So a message is first gone through with
+/// nothing known, and one that asks is gone through again. Behind two in a row that ask, the next ones are begun with what is
+/// declared; the one behind these is tried without it again.
 #[derive(Clone, Copy)]
 pub struct Habit {
-    /// So many of the next messages are begun with it.
+    /// How many of the next messages are begun with what is declared.
     pub typed: u8,
     /// Whether the last one that was begun without it asked for it.
     pub asked: bool,
@@ -31,7 +31,8 @@ impl Habit {
         }
     }
 
-    /// Whether the next message for this writer is begun with nothing known of its types: it is enough for each that asks for none.
+    /// Whether the next message for this writer is begun with nothing known of its types. One that is begun with them is counted
+    /// off.
     #[inline(always)]
     pub fn begins_untyped<W: FormWrite>(&mut self, schema: &Schema) -> bool
         ensures unmarked { W.marked ≡ false → result ≡ true }
@@ -41,6 +42,7 @@ impl Habit {
         if !W::is_marked() {
             return true;
         }
+        // Without a service nothing is declared of any message, so an empty map's kinds are known at once.
         if !schema.names_services() {
             return false;
         }
@@ -59,7 +61,7 @@ impl Habit {
         self.asked = false;
     }
 
-    /// A message couldn't be gone through so.
+    /// A message couldn't be gone through so: it asked, or the quick way leaves it.
     #[inline(always)]
     pub fn asks(&mut self)
         ensures typed { self.new.typed ≡ (if self.old.asked then TYPED else self.old.typed) }

@@ -19,7 +19,8 @@ use type_tables::{Schema, StructId, Ty};
 /// Appends a message's translation, and tells of it what the caller asks for; or leaves the output as it was, which says
 /// nothing of the frame.
 ///
-/// `room` is at least as long as the frame. A name that doesn't lie in the frame as it is meant is laid there.
+/// `room` is at least as long as the frame. A name that doesn't lie in the frame as it is meant is laid there. `habit` is kept
+/// from message to message of one stream.
 #[inline(always)]
 pub fn pass_quickly<R: FormRead, W: FormWrite, O: Outcome>(
     schema: &Schema,

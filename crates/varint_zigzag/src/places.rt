@@ -21,7 +21,7 @@ const HIGH_BITS: u64 = 0x8080_8080_8080_8080;
 /// The seven low bits of each byte of a word.
 const LOW_BITS: u64 = 0x7f7f_7f7f_7f7f_7f7f;
 
-/// The bits of a word's bytes up to each of them, the lowest first.
+/// All bits of a word's first byte, of its first two, and so on to all eight.
 static UP_TO: [u64; WORD] = [
     0xff,
     0xffff,
@@ -186,7 +186,7 @@ fn word_at(bytes: &[u8], at: usize) -> u64
     }
 }
 
-// The high bit of each byte of a word that ends a number: of each that has none itself.
+// The high bit of each byte that ends a number, where the word has 0 there; 0 for each other byte.
 #[inline(always)]
 fn ends_of(word: u64) -> u64
     ensures { (bytes : List ℕ) → length bytes ≡ 8 → AllBelow 256 bytes → word ≡ number_l 256 bytes → result ≡ number_l 256 (map end_mark bytes) }

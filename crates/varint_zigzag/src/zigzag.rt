@@ -1,7 +1,7 @@
 //! Signed numbers folded onto unsigned ones: 0, -1, 1, -2 .. become 0, 1, 2, 3 ..
 //!
-//! They are folded by twice the number or its complement: the compiler makes an exclusive or with the sign of that, and no
-//! jump.
+//! A number is folded to its double, and a negative one to that double's complement: the compiler makes of it an exclusive
+//! or with the sign, without a jump.
 ghost use Rattle.std.specs.Prelude.{◌≡◌};
 ghost use Rattle.varint_zigzag.specs.Zigzag.{folded, unfolded};
 
