@@ -3,7 +3,7 @@
 
     route_trials.py [--threads N] [TRIAL..]
 
-Without names all trials are run, in half a minute. With N each router has so many threads. Each starts a router from Binary to Binary with a limit of 1,024 bytes,
+Without names all trials are run, in a quarter of a minute. With N each router has so many threads. Each starts a router from Binary to Binary with a limit of 1,024 bytes,
 
     crates/thrift_gate/out/thrift_gate route binary binary LISTEN A=TARGET,B=TARGET,.. --limit 1024 ..
 

@@ -3,7 +3,7 @@
 
     tell_trials.py [--threads N] [TRIAL..]
 
-Without names all trials are run, in half a minute. With N each server has so many threads. Each starts a server from Binary to Binary with a limit of 1,024 bytes,
+Without names all trials are run, in a quarter of a minute. With N each server has so many threads. Each starts a server from Binary to Binary with a limit of 1,024 bytes,
 
     crates/thrift_gate/out/thrift_gate serve binary binary LISTEN TARGET --limit 1024 --tell refused ..
 

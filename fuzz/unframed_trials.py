@@ -3,7 +3,7 @@
 
     unframed_trials.py [--threads N] [TRIAL..]
 
-Without names all trials are run, in a minute. With N each gateway has so many threads. Each starts a gateway from Binary to Binary with a limit of 1,024 bytes,
+Without names all trials are run, in some seconds. With N each gateway has so many threads. Each starts a gateway from Binary to Binary with a limit of 1,024 bytes,
 
     crates/thrift_gate/out/thrift_gate serve binary binary LISTEN TARGET --limit 1024 --unframed SIDE ..
 
