@@ -5,11 +5,7 @@ ghost use Rattle.std.specs.Simd.Lanes.{number_l};
 ghost use Rattle.varint_zigzag.specs.Varint.{shortest};
 ghost use Rattle.varint_zigzag.specs.Places.{AreGroups, HasTop};
 
-/// So many bytes are laid at once.
-const WORD: usize = 8;
-
-/// The high bit of each byte of a word.
-const HIGH_BITS: u64 = 0x8080_8080_8080_8080;
+use crate::places::{HIGH_BITS, WORD};
 
 /// The numbers below it have at most eight bytes.
 const SHORT: u64 = 1 << 56;

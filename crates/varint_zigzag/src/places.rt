@@ -16,7 +16,7 @@ const LONG: usize = 10;
 const MOST: usize = 5;
 
 /// The high bit of each byte of a word.
-const HIGH_BITS: u64 = 0x8080_8080_8080_8080;
+pub(crate) const HIGH_BITS: u64 = 0x8080_8080_8080_8080;
 
 /// The seven low bits of each byte of a word.
 const LOW_BITS: u64 = 0x7f7f_7f7f_7f7f_7f7f;
@@ -201,12 +201,16 @@ fn long_front_of(bytes: &[u8], at: usize) -> Option<(u64, usize)>
     ensures within { IfSome result (λ found. at + found.1 ≤ length bytes.now) }
     ensures found { IfSome result (λ found. varint_at 10 64 (drop at bytes.now) ≡ Ok (found.0, found.1)) }
 {
-    if bytes.len() - at < LONG || ends_of(word_at(bytes, at)) != 0 {
+    if bytes.len() - at < LONG {
+        return None;
+    }
+    let word = word_at(bytes, at);
+    if ends_of(word) != 0 {
         return None;
     }
     let ninth = bytes[at + 8];
     let tenth = bytes[at + 9];
-    let low = gathered(word_at(bytes, at) & LOW_BITS) + (u64::from(ninth % 128) << 56);
+    let low = gathered(word & LOW_BITS) + (u64::from(ninth % 128) << 56);
     if ninth < 128 {
         return Some((low, 9));
     }
