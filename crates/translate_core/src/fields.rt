@@ -1,5 +1,5 @@
 //! Fields whose values are no levels: what announces a value, and the value.
-ghost use Rattle.std.specs.Prelude.{◌≡◌, ℤ, ◌<◌, ◌^◌, length, true, Some, IfSome};
+ghost use Rattle.std.specs.Prelude.{◌≡◌, ℤ, ◌<◌, ◌^◌, length, true, false, Some, IfSome};
 ghost use Rattle.thrift_value.specs.declared.kind.Kind.{Kind};
 ghost use Rattle.thrift_value.specs.Items.{field};
 ghost use Rattle.protocol_traits.specs.declared.forms.Container.{Container};
@@ -104,10 +104,22 @@ fn text_hint<R: FormRead, W: FormWrite, K: Known>(known: K, schema: &Schema, id:
     ensures reads { (ty : Ty) → K.means known ty → R.hinted ≡ true → hint_at (field_type schema.now (Some (in_struct ty)) id Kind.Str) ≡ result }
     ensures writes { (ty : Ty) → K.means known ty → W.hinted ≡ true → hint_at (field_type schema.now (Some (in_struct ty)) id Kind.Str) ≡ result }
 {
-    if R::is_hinted() || W::is_hinted() {
+    if is_hinted::<R, W>() {
         return known.field(schema, id, Kind::Str).hint();
     }
     Hint::Unknown
+}
+
+/// Whether reading or writing a string depends on what is declared.
+#[inline(always)]
+pub fn is_hinted<R: FormRead, W: FormWrite>() -> bool
+    ensures reads { result ≡ false → R.hinted ≡ false }
+    ensures writes { result ≡ false → W.hinted ≡ false }
+{
+    if R::is_hinted() {
+        return true;
+    }
+    W::is_hinted()
 }
 
 /// The kind of a container.

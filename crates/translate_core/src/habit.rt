@@ -1,20 +1,21 @@
 //! Whether messages are begun with what is declared of them.
-ghost use Rattle.std.specs.Prelude.{◌≡◌, true, false, if◌then◌else◌};
+ghost use Rattle.std.specs.Prelude.{◌≡◌, ◌<◌, ◌≤◌, true, false, if◌then◌else◌};
 
 use protocol_traits::FormWrite;
 use type_tables::Schema;
 
-/// So many messages are begun with what is declared once two in a row asked for it.
+/// So many messages are begun with what is declared once two in a row asked for it, where a service is named.
 const TYPED: u8 = 15;
 
 /// What the messages of a stream asked for of late.
 ///
 /// Where only an empty map asks for what is declared, most messages need nothing of it. So a message is first gone through with
 /// nothing known, and one that asks is gone through again. Behind two in a row that ask, the next ones are begun with what is
-/// declared; the one behind these is tried without it again.
+/// declared; the one behind these is tried without it again. Where no name means a service nothing is looked up of a call or its
+/// reply, so there all that follow are begun with what is declared.
 #[derive(Clone, Copy)]
 pub struct Habit {
-    /// How many of the next messages are begun with what is declared.
+    /// Above 0: the next messages are begun with what is declared, so many of them where a service is named.
     pub typed: u8,
     /// Whether the last one that was begun without it asked for it.
     pub asked: bool,
@@ -32,25 +33,23 @@ impl Habit {
     }
 
     /// Whether the next message for this writer is begun with nothing known of its types. One that is begun with them is counted
-    /// off.
+    /// off where the schema names a service.
     #[inline(always)]
     pub fn begins_untyped<W: FormWrite>(&mut self, schema: &Schema) -> bool
         ensures unmarked { W.marked ≡ false → result ≡ true }
+        ensures spent { self.old.typed ≡ 0 → result ≡ true }
+        ensures typed { W.marked ≡ true → 0 < self.old.typed → result ≡ false }
         ensures untyped { result ≡ true → self.new ≡ self.old }
+        ensures fewer { self.new.typed ≤ self.old.typed }
         ensures asked { self.new.asked ≡ self.old.asked }
     {
-        if !W::is_marked() {
+        if !W::is_marked() || self.typed == 0 {
             return true;
         }
-        // Without a service nothing is declared of any message, so an empty map's kinds are known at once.
-        if !schema.names_services() {
-            return false;
-        }
-        if self.typed > 0 {
+        if schema.names_services() {
             self.typed -= 1;
-            return false;
         }
-        true
+        false
     }
 
     /// A message was gone through with nothing known of its types.

@@ -6,6 +6,7 @@ ghost use Rattle.translate_core.specs.Routes.{IsKnownRoute};
 ghost use Rattle.translate_core.specs.Judged.{judged_frame};
 ghost use Rattle.translate_core.specs.Quick.{HasRoom, Informs, PassedBody, PassedMessage, PassesMessage};
 
+use crate::fields::is_hinted;
 use crate::habit::Habit;
 use crate::known::{Declared, Known, Nothing, Undeclared};
 use crate::leaves::AROUND;
@@ -60,18 +61,6 @@ pub fn pass_quickly<R: FormRead, W: FormWrite, O: Outcome>(
         return O::passed(told.info);
     }
     O::left()
-}
-
-/// Whether reading or writing a string depends on what is declared.
-#[inline(always)]
-fn is_hinted<R: FormRead, W: FormWrite>() -> bool
-    ensures reads { result ≡ false → R.hinted ≡ false }
-    ensures writes { result ≡ false → W.hinted ≡ false }
-{
-    if R::is_hinted() {
-        return true;
-    }
-    W::is_hinted()
 }
 
 /// Whether neither reading nor writing depends on what is declared.
