@@ -1,6 +1,7 @@
 -- Where the Binary protocol's reader goes from one place to another, what it reads is spelled between them.
-use Rattle.std.proofs.Common.{◌≡◌, ℕ, ℤ, ◌-◌, ◌<◌, ◌≤◌, Bool, false, List, [], ◌∷◌, ◌++◌, length, take, drop, Option, Some, None, Ok, Err, refl, sym, ap, subst, ◌∙◌, arith, append_assoc}
-use Rattle.std.specs.Prelude.{IfOk, IfSome, ◌==◌}
+use Rattle.std.proofs.Common.{◌≡◌, ℕ, ℤ, ◌+◌, ◌-◌, ◌<◌, ◌≤◌, Bool, false, List, [], ◌∷◌, ◌++◌, length, take, drop, Option, Some, None, Ok, Err, refl, sym, ap, subst, ◌∙◌, arith, append_assoc, length-drop}
+use Rattle.std.specs.Prelude.{IfOk, IfSome, nat_lt, ◌==◌}
+use Rattle.std.specs.Int.{w8, w16, w32, w64}
 use Rattle.std.proofs.lemmas.Bool.Decides.{nat_tests}
 use Rattle.thrift_value.specs.declared.kind.Kind.{Kind}
 use Rattle.thrift_value.specs.declared.kind.Kind.TheVariants as kinds
@@ -19,12 +20,13 @@ use Rattle.protocol_traits.specs.declared.proto.Hint.TheVariants as hints
 use Rattle.protocol_traits.specs.declared.proto.Mark.{Mark}
 use Rattle.protocol_traits.specs.Forms.{container_kind, elements_item, lead_item, pairs_item, IsPast, Steps, StepsValue, StepsText, StepsInto, StepsLead, StepsFlag, StepsEnd, SpellsField, SpellsFlag, SpellsStop, SpellsValue}
 use Rattle.protocol_traits.specs.Steps.{Step}
-use Rattle.binary_protocol.specs.Forms.{next_read, stands_at}
+use Rattle.binary_protocol.specs.Forms.{next_read, stands_at, value_read}
 use Rattle.binary_protocol.specs.Plain.{bar as own_bar, plain}
 use Rattle.binary_protocol.specs.Reading.{State, reads}
+use Rattle.binary_protocol.specs.Scan.{nests, signed_at, value_at, i8_at, i16_at, i32_at, i64_at, double_at, uuid_at}
 use Rattle.binary_protocol.specs.WriteForms.{stands_at as writer_at}
-use Rattle.kept_forms.specs.Keeping.{SpellsLead}
-use Rattle.kept_forms.specs.InBinary.{own_plain, own_after, KeepsElements, KeepsEnd, KeepsFlag, KeepsLead, KeepsPairs, KeepsStruct}
+use Rattle.kept_forms.specs.Keeping.{LeafOf, SpellsLead, leaf_item}
+use Rattle.kept_forms.specs.InBinary.{own_plain, own_after, KeepsElements, KeepsEnd, KeepsFlag, KeepsLead, KeepsPairs, KeepsStruct, KeepsValue, width_of}
 use Rattle.kept_forms.proofs.Fronts.{Small, small_behind, laid_there, calling}
 use Rattle.kept_forms.proofs.Plainly.{IsPlain, reads_plain, reads_on}
 
@@ -83,6 +85,36 @@ level_spelled frame at behind stand kind item small order free is steps opening 
 pub text_steps : (frame : List ℕ) (at behind : ℕ) (stand : Stand) (bytes : List ℕ) (hint : Hint) → StepsText next_read stands_at false hint frame at stand bytes behind
     → StepsValue next_read stands_at frame at stand kinds.Str (text bytes) behind
 text_steps frame at behind stand bytes hint steps opening nest known calls = steps opening nest known (λ never. absurd (cc)) calls
+
+-- ---- values of a known size
+
+enough : (size most : ℕ) → most ≤ size → nat_lt size most ≡ false
+enough size most long = grind (arith, nat_tests)
+
+-- a value that is found wherever there are so many bytes
+found_kept : (frame : List ℕ) (at taken width : ℕ) (stand : Stand) (kind : Kind) (value : LeafOf kind) → Small frame → at + width ≤ length frame → taken ≡ width → nests kind ≡ false
+    → ((mark : Mark) → own_bar (leaf_item kind value) mark ≡ None) → ((mark : Mark) (n : ℕ) → IsPlain mark (drop at frame) (leaf_item kind value) n → take n (drop at frame) ≡ plain (leaf_item kind value) mark)
+    → (nat_lt (length (drop at frame)) taken ≡ false → value_at kind (drop at frame) ≡ Ok (leaf_item kind value, taken)) → KeepsValue frame at stand kind (at + width)
+found_kept frame at taken width stand kind value small within same flat free is found =
+    let long : taken ≤ length (drop at frame) = omega (arith, length-drop at frame, same, within) in
+    let steps = value_read frame at taken stand kind (leaf_item kind value) flat (found (enough (length (drop at frame)) taken long), long) in
+    subst (λ n. KeepsValue frame at stand kind (at + n)) same (value, steps, value_spelled frame at (at + taken) stand kind (leaf_item kind value) small (omega arith) free (λ mark. is mark (at + taken - at)) steps)
+
+-- a value of a kind whose values all have as many bytes
+pub value_there : (frame : List ℕ) (at : ℕ) (stand : Stand) (kind : Kind) (width : ℕ) → Small frame → width_of kind ≡ Some width → at + width ≤ length frame → KeepsValue frame at stand kind (at + width)
+unfolding value_at i8_at i16_at i32_at i64_at double_at uuid_at
+value_there frame at stand kinds.I8 width small is within = found_kept frame at 1 width stand kinds.I8 (signed_at w8 (drop at frame)) small within (cc) refl (λ mark. refl) (λ mark n is. is) (λ long. rw long refl)
+value_there frame at stand kinds.I16 width small is within = found_kept frame at 2 width stand kinds.I16 (signed_at w16 (drop at frame)) small within (cc) refl (λ mark. refl) (λ mark n is. is) (λ long. rw long refl)
+value_there frame at stand kinds.I32 width small is within = found_kept frame at 4 width stand kinds.I32 (signed_at w32 (drop at frame)) small within (cc) refl (λ mark. refl) (λ mark n is. is) (λ long. rw long refl)
+value_there frame at stand kinds.I64 width small is within = found_kept frame at 8 width stand kinds.I64 (signed_at w64 (drop at frame)) small within (cc) refl (λ mark. refl) (λ mark n is. is) (λ long. rw long refl)
+value_there frame at stand kinds.Double width small is within = found_kept frame at 8 width stand kinds.Double (take 8 (drop at frame)) small within (cc) refl (λ mark. refl) (λ mark n is. is) (λ long. rw long refl)
+value_there frame at stand kinds.Uuid width small is within = found_kept frame at 16 width stand kinds.Uuid (take 16 (drop at frame)) small within (cc) refl (λ mark. refl) (λ mark n is. is) (λ long. rw long refl)
+value_there frame at stand kinds.Bool width small is within = absurd (cc)
+value_there frame at stand kinds.Str width small is within = absurd (cc)
+value_there frame at stand kinds.Struct width small is within = absurd (cc)
+value_there frame at stand kinds.Map width small is within = absurd (cc)
+value_there frame at stand kinds.Set width small is within = absurd (cc)
+value_there frame at stand kinds.List width small is within = absurd (cc)
 
 -- ---- a struct's next field
 

@@ -8,4 +8,5 @@ pub mod InBinary
 pub mod InCompact
 pub mod Numbers
 pub mod Plainly
+pub mod Runs
 pub mod Varints

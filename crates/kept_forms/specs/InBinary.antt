@@ -1,6 +1,7 @@
 -- What of a frame the Binary protocol's reader reads and its writer would lay as it stands.
-use Rattle.std.specs.Prelude.{ℕ, ℤ, List}
+use Rattle.std.specs.Prelude.{ℕ, ℤ, List, Option, Some, None}
 use Rattle.thrift_value.specs.declared.kind.Kind.{Kind}
+use Rattle.thrift_value.specs.declared.kind.Kind.TheVariants as kinds
 use Rattle.thrift_value.specs.Items.{Item}
 use Rattle.protocol_traits.specs.declared.forms.Container.{Container}
 use Rattle.protocol_traits.specs.declared.forms.Lead.{Lead}
@@ -13,7 +14,7 @@ use Rattle.binary_protocol.specs.declared.writer.BinaryWrite.{BinaryWrite}
 use Rattle.binary_protocol.specs.Forms.{next_read, stands_at as reader_at}
 use Rattle.binary_protocol.specs.Plain.{bar as own_bar, plain}
 use Rattle.binary_protocol.specs.WriteForms.{stands_at as writer_at}
-use Rattle.kept_forms.specs.Keeping.{KeepsLead as Lead_kept, KeepsFlag as Flag_kept, KeepsValue as Value_kept, KeepsStruct as Struct_kept, KeepsElements as Elements_kept, KeepsPairs as Pairs_kept, KeepsEnd as End_kept}
+use Rattle.kept_forms.specs.Keeping.{KeepsLead as Lead_kept, KeepsFlag as Flag_kept, KeepsValue as Value_kept, KeepsRun as Run_kept, KeepsStruct as Struct_kept, KeepsElements as Elements_kept, KeepsPairs as Pairs_kept, KeepsEnd as End_kept}
 
 abbrev pub own_plain : BinaryWrite → Item → Mark → List ℕ
 own_plain t item mark = plain item mark
@@ -30,6 +31,9 @@ KeepsFlag = Flag_kept next_read reader_at own_bar own_plain writer_at own_after
 abbrev pub KeepsValue : List ℕ → ℕ → Stand → Kind → ℕ → Type 0
 KeepsValue = Value_kept next_read reader_at own_bar own_plain writer_at
 
+abbrev pub KeepsRun : List ℕ → ℕ → Kind → ℕ → ℕ → Type 0
+KeepsRun = Run_kept next_read reader_at own_bar own_plain writer_at
+
 abbrev pub KeepsStruct : List ℕ → ℕ → Stand → ℕ → Type 0
 KeepsStruct = Struct_kept next_read reader_at own_bar own_plain writer_at
 
@@ -41,3 +45,13 @@ KeepsPairs = Pairs_kept next_read reader_at own_bar own_plain writer_at
 
 abbrev pub KeepsEnd : List ℕ → ℕ → Container → ℕ → Type 0
 KeepsEnd = End_kept next_read reader_at own_bar own_plain writer_at
+
+-- How many bytes a value of a kind takes, where any so many bytes are one.
+abbrev pub width_of : Kind → Option ℕ
+width_of kinds.I8 = Some 1
+width_of kinds.I16 = Some 2
+width_of kinds.I32 = Some 4
+width_of kinds.I64 = Some 8
+width_of kinds.Double = Some 8
+width_of kinds.Uuid = Some 16
+width_of kind = None

@@ -12,7 +12,7 @@ use Rattle.protocol_traits.specs.declared.fault.Bar.{Bar}
 use Rattle.compact_protocol.specs.Forms.{next_read, stands_at as reader_at}
 use Rattle.compact_protocol.specs.Plain.{Writer, bar, spelling, follows}
 use Rattle.compact_protocol.specs.WriteForms.{stands_at as writer_at}
-use Rattle.kept_forms.specs.Keeping.{KeepsLead as Lead_kept, KeepsFlag as Flag_kept, KeepsValue as Value_kept, KeepsStruct as Struct_kept, KeepsElements as Elements_kept, KeepsPairs as Pairs_kept, KeepsEnd as End_kept}
+use Rattle.kept_forms.specs.Keeping.{KeepsLead as Lead_kept, KeepsFlag as Flag_kept, KeepsValue as Value_kept, KeepsRun as Run_kept, KeepsStruct as Struct_kept, KeepsElements as Elements_kept, KeepsPairs as Pairs_kept, KeepsEnd as End_kept}
 
 abbrev pub own_bar : Item → Mark → Option Bar
 own_bar item mark = bar item
@@ -31,6 +31,9 @@ KeepsFlag = Flag_kept next_read reader_at own_bar own_plain writer_at own_after
 
 abbrev pub KeepsValue : List ℕ → ℕ → Stand → Kind → ℕ → Type 0
 KeepsValue = Value_kept next_read reader_at own_bar own_plain writer_at
+
+abbrev pub KeepsRun : List ℕ → ℕ → Kind → ℕ → ℕ → Type 0
+KeepsRun = Run_kept next_read reader_at own_bar own_plain writer_at
 
 abbrev pub KeepsStruct : List ℕ → ℕ → Stand → ℕ → Type 0
 KeepsStruct = Struct_kept next_read reader_at own_bar own_plain writer_at

@@ -1,5 +1,5 @@
 -- One item of a frame that a reader reads, and that a writer spells by the very bytes that stand there.
-use Rattle.std.specs.Prelude.{ℕ, ℤ, Bool, ◌<◌, List, Option}
+use Rattle.std.specs.Prelude.{◌≡◌, ◌+◌, ◌*◌, ℕ, ℤ, Bool, ◌<◌, List, Option}
 use Rattle.thrift_value.specs.declared.kind.Kind.{Kind}
 use Rattle.thrift_value.specs.declared.kind.Kind.TheVariants as kinds
 use Rattle.thrift_value.specs.Items.{Item, bool_value, i8_value, i16_value, i32_value, i64_value, double_value, text, uuid_value, struct_begin, map_begin}
@@ -10,6 +10,7 @@ use Rattle.protocol_traits.specs.declared.forms.Lead.TheVariants as leads
 use Rattle.protocol_traits.specs.declared.forms.Opening.{Opening}
 use Rattle.protocol_traits.specs.declared.forms.Pairs.{Pairs}
 use Rattle.protocol_traits.specs.declared.forms.Stand.{Stand}
+use Rattle.protocol_traits.specs.declared.forms.Stand.TheVariants as stands
 use Rattle.protocol_traits.specs.declared.nest.Slot.{Slot}
 use Rattle.protocol_traits.specs.declared.proto.Hint.{Hint}
 use Rattle.protocol_traits.specs.declared.proto.Mark.{Mark}
@@ -68,6 +69,13 @@ module _ {S T : Type 0} (reads : S → Hint → Step S Item) (reader_at : S → 
   KeepsValue frame at stand kind behind =
       (value : LeafOf kind) × StepsValue reads reader_at frame at stand kind (leaf_item kind value) behind
       × SpellsValue bar plain writer_at frame at frame behind stand kind (leaf_item kind value)
+
+  -- So many elements of a list or set stand one behind another, each of as many bytes as the others. Each is read where it is
+  -- called for, and is spelled so.
+  pub record KeepsRun (frame : List ℕ) (at : ℕ) (kind : Kind) (size behind : ℕ) : Type 0 where
+    pub width : ℕ
+    pub place : behind ≡ at + size * width
+    pub each : (i : ℕ) → i < size → KeepsValue frame (at + i * width) stands.Element kind (at + i * width + width)
 
   -- the beginning of a struct is read, and is spelled so
   abbrev pub KeepsStruct : List ℕ → ℕ → Stand → ℕ → Type 0

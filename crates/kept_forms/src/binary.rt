@@ -12,12 +12,12 @@ ghost use Rattle.binary_protocol.specs.Forms.{stands_at as reader_at};
 ghost use Rattle.binary_protocol.specs.Plain.{bar as own_bar, plain_head};
 ghost use Rattle.binary_protocol.specs.Reading.{begun, reads_head};
 ghost use Rattle.binary_protocol.specs.WriteForms.{stands_at as writer_at};
-ghost use Rattle.kept_forms.specs.InBinary.{own_plain, KeepsElements, KeepsEnd, KeepsFlag, KeepsLead, KeepsPairs, KeepsStruct, KeepsValue};
+ghost use Rattle.kept_forms.specs.InBinary.{own_plain, KeepsElements, KeepsEnd, KeepsFlag, KeepsLead, KeepsPairs, KeepsRun, KeepsStruct, KeepsValue, width_of};
 
 use crate::keeping::FormKeep;
 use crate::renewing::renew;
 use binary_protocol::{BinaryRead, BinaryWrite};
-use protocol_traits::{Container, FormRead, Head, Hint, Lead, Mark, Opening, Pairs, Stand};
+use protocol_traits::{Container, FormRead, Head, Hint, Lead, Mark, Opening, Pairs, Stand, UUID};
 use thrift_value::Kind;
 
 /// A header begins with so many bytes for its version and type.
@@ -152,6 +152,20 @@ impl<'f> FormKeep<BinaryWrite> for BinaryRead<'f> {
     }
 
     #[inline(always)]
+    fn keep_run(frame: &[u8], at: usize, kind: Kind, size: u32) -> Option<usize>
+        requires { at ≤ length frame.now }
+        ensures place { IfSome result (λ x. (at ≤ x) × (x ≤ length frame.now)) }
+        ensures keeps { IfSome result (λ x. KeepsRun frame.now at kind size x) }
+    {
+        let width = width_of(kind)?;
+        let taken = width * size as usize;
+        if frame.len() - at < taken {
+            return None;
+        }
+        Some(at + taken)
+    }
+
+    #[inline(always)]
     fn keep_struct(frame: &[u8], at: usize, stand: Stand) -> Option<usize>
         requires { at ≤ length frame.now }
         ensures within { IfSome result (λ x. (at ≤ x) × (x ≤ length frame.now)) }
@@ -201,5 +215,21 @@ impl<'f> FormKeep<BinaryWrite> for BinaryRead<'f> {
         ensures keeps { IfSome result (λ x. KeepsEnd frame.now at container x) }
     {
         BinaryRead::end(frame, at, container)
+    }
+}
+
+/// How many bytes a value of a kind takes, where any so many bytes are one. A bool has one byte, but not each byte is a bool.
+#[inline(always)]
+fn width_of(kind: Kind) -> Option<usize>
+    ensures exact { result ≡ width_of kind }
+    ensures few { IfSome result (λ width. width ≤ UUID) }
+{
+    match kind {
+        Kind::I8 => Some(1),
+        Kind::I16 => Some(2),
+        Kind::I32 => Some(4),
+        Kind::I64 | Kind::Double => Some(8),
+        Kind::Uuid => Some(UUID),
+        _ => None,
     }
 }

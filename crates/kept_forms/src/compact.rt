@@ -13,7 +13,7 @@ ghost use Rattle.compact_protocol.specs.Forms.{stands_at as reader_at};
 ghost use Rattle.compact_protocol.specs.Plain.{short_step, head_spelling};
 ghost use Rattle.compact_protocol.specs.Reading.{begun, reads_head};
 ghost use Rattle.compact_protocol.specs.WriteForms.{stands_at as writer_at};
-ghost use Rattle.kept_forms.specs.InCompact.{own_bar, own_plain, KeepsElements, KeepsEnd, KeepsFlag, KeepsLead, KeepsPairs, KeepsStruct, KeepsValue};
+ghost use Rattle.kept_forms.specs.InCompact.{own_bar, own_plain, KeepsElements, KeepsEnd, KeepsFlag, KeepsLead, KeepsPairs, KeepsRun, KeepsStruct, KeepsValue};
 ghost use Rattle.kept_forms.specs.Shortest.{AreShortest, IsOwnFront, IsOwnHead, IsOwnId, IsOwnSize, IsTight};
 
 use crate::keeping::FormKeep;
@@ -188,6 +188,16 @@ impl<'f> FormKeep<CompactWrite> for CompactRead<'f> {
             return None;
         }
         Some(begin + size as usize)
+    }
+
+    /// Nothing is passed over at once: nearly all kinds have values of several lengths.
+    #[inline(always)]
+    fn keep_run(frame: &[u8], at: usize, kind: Kind, size: u32) -> Option<usize>
+        requires { at ≤ length frame.now }
+        ensures place { IfSome result (λ x. (at ≤ x) × (x ≤ length frame.now)) }
+        ensures keeps { IfSome result (λ x. KeepsRun frame.now at kind size x) }
+    {
+        None
     }
 
     #[inline(always)]

@@ -7,13 +7,13 @@ ghost use Rattle.protocol_traits.specs.declared.forms.Lead.{Lead};
 ghost use Rattle.protocol_traits.specs.declared.forms.Stand.{Stand};
 ghost use Rattle.protocol_traits.specs.Forms.{IsPast, ReadsHead, SpellsNoPairs};
 ghost use Rattle.protocol_traits.specs.Heads.{header_of};
-ghost use Rattle.kept_forms.specs.Keeping.{KeepsElements, KeepsEnd, KeepsFlag, KeepsLead, KeepsPairs, KeepsStruct, KeepsValue};
+ghost use Rattle.kept_forms.specs.Keeping.{KeepsElements, KeepsEnd, KeepsFlag, KeepsLead, KeepsPairs, KeepsRun, KeepsStruct, KeepsValue};
 
 use protocol_traits::{Container, FormRead, FormWrite, Head, Lead, Mark, Opening, Pairs, Stand};
 use thrift_value::Kind;
 
 /// A protocol's quick reader that tells which bytes its protocol's quick writer would lay as they stand. Each call reads one
-/// item at a place of a frame, and answers the place behind it; `None` says nothing of the frame: the item may be at fault,
+/// item at a place of a frame (`keep_run` many), and answers the place behind it; `None` says nothing of the frame: the item may be at fault,
 /// or spelled in a way that the writer doesn't choose.
 pub trait FormKeep<W: FormWrite>: FormRead {
     /// The header at the beginning of a frame, and the place behind it, where the body begins.
@@ -86,6 +86,13 @@ pub trait FormKeep<W: FormWrite>: FormRead {
         requires { at ≤ length frame.now }
         ensures past { IfSome result (λ x. IsPast at frame.now x) }
         ensures keeps { IfSome result (λ x. KeepsValue Self.reads Self.stands_at W.bar W.plain W.stands_at frame.now at stand Kind.Str x) };
+
+    /// So many elements of a list or set, of a kind whose values all have one length and are all kept: passed over at once. `None`
+    /// of other kinds, and where the frame is too short.
+    fn keep_run(frame: &[u8], at: usize, kind: Kind, size: u32) -> Option<usize>
+        requires { at ≤ length frame.now }
+        ensures place { IfSome result (λ x. (at ≤ x) × (x ≤ length frame.now)) }
+        ensures keeps { IfSome result (λ x. KeepsRun Self.reads Self.stands_at W.bar W.plain W.stands_at frame.now at kind size x) };
 
     /// The beginning of a struct. It may have no bytes.
     fn keep_struct(frame: &[u8], at: usize, stand: Stand) -> Option<usize>

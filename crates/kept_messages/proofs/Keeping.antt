@@ -1,5 +1,5 @@
 -- Items that stand in a frame as they are to be written lead a body on.
-use Rattle.std.proofs.Common.{◌≡◌, ◌+◌, ◌≤◌, ◌<◌, ℕ, ℤ, List, Option, length, Some, subst}
+use Rattle.std.proofs.Common.{◌≡◌, ◌+◌, ◌-◌, ◌*◌, ◌≤◌, ◌<◌, ℕ, zero, suc, ℤ, List, ◌∷◌, Option, length, Some, ap, arith, refl, subst, sym}
 use Rattle.std.specs.Prelude.{IfOk}
 use Rattle.thrift_value.specs.declared.kind.Kind.{Kind}
 use Rattle.thrift_value.specs.declared.kind.Kind.TheVariants as kinds
@@ -10,9 +10,11 @@ use Rattle.protocol_traits.specs.declared.forms.Container.TheVariants as contain
 use Rattle.protocol_traits.specs.declared.forms.Lead.{Lead}
 use Rattle.protocol_traits.specs.declared.forms.Lead.TheVariants as leads
 use Rattle.protocol_traits.specs.declared.forms.Opening.{Opening}
+use Rattle.protocol_traits.specs.declared.forms.Opening.TheVariants as openings
 use Rattle.protocol_traits.specs.declared.forms.Stand.{Stand}
 use Rattle.protocol_traits.specs.declared.forms.Stand.TheVariants as stands
 use Rattle.protocol_traits.specs.declared.nest.Slot.{Slot}
+use Rattle.protocol_traits.specs.declared.nest.Slot.TheVariants as slots
 use Rattle.protocol_traits.specs.declared.proto.Hint.{Hint}
 use Rattle.protocol_traits.specs.declared.proto.Mark.{Mark}
 use Rattle.protocol_traits.specs.Follow.{after as levels_after}
@@ -21,12 +23,13 @@ use Rattle.protocol_traits.specs.Room.{weight}
 use Rattle.protocol_traits.specs.Steps.{Step}
 use Rattle.type_tables.specs.declared.declared.Ty.{Ty}
 use Rattle.type_tables.specs.Declarations.{Declarations}
-use Rattle.type_walk.specs.Positions.{Position, field_type, hint_of, in_struct, mark_of}
+use Rattle.type_walk.specs.declared.levels.Level.{Level}
+use Rattle.type_walk.specs.Positions.{Position, called_for, field_type, hint_of, in_struct, mark_of, passed, standing}
 use Rattle.translate_core.specs.Body.{Source, TargetRules}
-use Rattle.translate_core.specs.Quick.{TakesField, TakesValue, called}
-use Rattle.translate_core.proofs.Taking.{calls_some, takes_item}
+use Rattle.translate_core.specs.Quick.{IsFlat, Spot, Takes, TakesField, TakesRun, TakesValue, called, spot}
+use Rattle.translate_core.proofs.Taking.{calls_some, takes_item, takes_none, takes_then}
 use Rattle.translate_core.proofs.Levels.{takes_field}
-use Rattle.kept_forms.specs.Keeping.{KeepsValue, SpellsLead}
+use Rattle.kept_forms.specs.Keeping.{KeepsRun, KeepsValue, SpellsLead}
 
 module _ {S T : Type 0} (source : Source S) (target : TargetRules T) (reader_at : S → List ℕ → ℕ → Opening → List Slot → Type 0) (writer_at : T → Opening → List Slot → Type 0) (frame : List ℕ)
     (pays : (s : S) (hint : Hint) → IfOk (source.reads s hint) (λ x. weight x.0 + source.ahead x.1 ≤ source.ahead s))
@@ -87,6 +90,50 @@ module _ {S T : Type 0} (source : Source S) (target : TargetRules T) (reader_at 
   takes_leaf_field kind d ty depth at behind read opening last id spells keeps =
       takes_field source target reader_at writer_at frame pays goes_on d ty depth at behind read opening last id kind frame frame frame at behind read spells
       (takes_leaf kind d (field_type d (Some (in_struct ty)) id kind) depth behind read stands.Field keeps)
+
+  -- so many values one behind another that have as many bytes each
+  pub takes_run : (kind : Kind) (d : Declarations) (level : Level) (depth at size behind : ℕ) → IsFlat level → KeepsRun source.reads reader_at target.bar target.plain writer_at frame at kind size behind
+      → TakesRun source target reader_at writer_at d level depth frame at kind size frame at frame behind behind
+  takes_run kind d level depth at size behind flat run opening up outer deep = let all = so_far size (omega arith) in (all.0, to_the_end all.0 all.1)
+    where
+      p : Position
+      p = standing d (level ∷ outer)
+
+      first : Spot
+      first = spot at opening (slots.Elements kind size ∷ up) p
+
+      behind_of : ℕ → ℕ
+      behind_of n = at + n * run.width
+
+      To : ℕ → ℕ → Opening → Type 0
+      To left place now = Takes source target reader_at writer_at frame first (spot place now (slots.Elements kind left ∷ up) p) frame at frame place
+
+      -- one more value
+      more : (n : ℕ) (now : Opening) → n < size → To (size - n) (behind_of n) now → To (size - suc n) (behind_of (suc n)) openings.Old
+      more n now few before =
+          let left : ℕ = size - n in
+          let here : Spot = spot (behind_of n) now (slots.Elements kind left ∷ up) p in
+          let next : ℕ = behind_of n + run.width in
+          let less : left - 1 ≡ size - suc n = omega arith in
+          let place : next ≡ behind_of (suc n) = omega arith in
+          let level_stays : standing d (passed (level ∷ outer)) ≡ p = ap (standing d) (flat outer) in
+          let taken : Takes source target reader_at writer_at frame here (spot next openings.Old (slots.Elements kind (left - 1) ∷ up) (standing d (passed (level ∷ outer)))) frame (behind_of n) frame next =
+          takes_leaf kind d (called_for (Some level)) depth (behind_of n) next stands.Element (run.each n few) now (slots.Elements kind left ∷ up) (level ∷ outer) (refl, omega (arith, few)) (omega (arith, deep)) in
+          let on : To (left - 1) next openings.Old = takes_then source target reader_at writer_at frame first here (spot next openings.Old (slots.Elements kind (left - 1) ∷ up) p) frame frame frame at (behind_of n) next before
+          (subst (λ (q : Position). Takes source target reader_at writer_at frame here (spot next openings.Old (slots.Elements kind (left - 1) ∷ up) q) frame (behind_of n) frame next) level_stays taken) in
+          subst (λ (l : ℕ). To l (behind_of (suc n)) openings.Old) less (subst (λ (q : ℕ). To (left - 1) q openings.Old) place on)
+
+      so_far : (n : ℕ) → n ≤ size → (now : Opening) × To (size - n) (behind_of n) now
+      so_far zero few =
+          let all : size ≡ size - 0 = omega arith in
+          let place : at ≡ behind_of 0 = omega arith in
+          (opening, subst (λ (l : ℕ). To l (behind_of 0) opening) all (subst (λ (q : ℕ). To size q opening) place (takes_none source target reader_at writer_at frame first frame at)))
+      so_far (suc n) few = let before = so_far n (omega (arith, few)) in (openings.Old, more n before.0 (omega (arith, few)) before.1)
+
+      to_the_end : (now : Opening) → To (size - size) (behind_of size) now → To 0 behind now
+      to_the_end now taken =
+          let none : size - size ≡ 0 = omega arith in
+          subst (λ (l : ℕ). To l behind now) none (subst (λ (q : ℕ). To (size - size) q now) (sym run.place) taken)
 
 -- the lead of a list or set is spelled as its field
 pub lead_spells : {S T : Type 0} (reads : S → Hint → Step S Item) (reader_at : S → List ℕ → ℕ → Opening → List Slot → Type 0) (bar : Item → Mark → Option Bar) (plain : T → Item → Mark → List ℕ) (writer_at : T → Opening → List Slot → Type 0)

@@ -15,6 +15,10 @@ pub trait Leaf {
     /// The kind.
     ghost kind: { Kind };
 
+    /// The kind.
+    fn own_kind() -> Kind
+        ensures { result ≡ kind };
+
     /// Keeps a value: answers the place behind it. A bool is no field's.
     fn keep<R: FormKeep<W>, W: FormWrite>(frame: &[u8], at: usize, stand: Stand) -> Option<usize>
         requires place { at ≤ length frame.now }
@@ -106,7 +110,8 @@ pub fn keep_leaf_run<R: FormKeep<W>, W: FormWrite>(
     }
 }
 
-/// Keeps so many elements of the leaf's kind: answers the place behind them.
+/// Keeps so many elements of the leaf's kind: answers the place behind them. Where all have one length they are passed
+/// over at once.
 #[inline(always)]
 fn keep_leaves<R: FormKeep<W>, W: FormWrite, L: Leaf>(
     frame: &[u8],
@@ -117,6 +122,9 @@ fn keep_leaves<R: FormKeep<W>, W: FormWrite, L: Leaf>(
     ensures place { IfSome result (λ x. (from ≤ x) × (x ≤ length frame.now)) }
     ensures keeps { KeptLeaves R.ReadRules W.WireWrite frame.now from L.kind size result }
 {
+    if let Some(behind) = R::keep_run(frame, from, L::own_kind(), size) {
+        return Some(behind);
+    }
     let mut at = from;
     'elements: for i in 0..size {
         at = L::keep::<R, W>(frame, at, Stand::Element)?;
@@ -131,6 +139,11 @@ impl Leaf for BoolLeaf {
     ghost kind = { Kind.Bool };
 
     #[inline(always)]
+    fn own_kind() -> Kind {
+        Kind::Bool
+    }
+
+    #[inline(always)]
     fn keep<R: FormKeep<W>, W: FormWrite>(frame: &[u8], at: usize, stand: Stand) -> Option<usize> {
         R::keep_bool(frame, at, stand)
     }
@@ -141,6 +154,11 @@ struct I8Leaf;
 
 impl Leaf for I8Leaf {
     ghost kind = { Kind.I8 };
+
+    #[inline(always)]
+    fn own_kind() -> Kind {
+        Kind::I8
+    }
 
     #[inline(always)]
     fn keep<R: FormKeep<W>, W: FormWrite>(frame: &[u8], at: usize, stand: Stand) -> Option<usize> {
@@ -155,6 +173,11 @@ impl Leaf for I16Leaf {
     ghost kind = { Kind.I16 };
 
     #[inline(always)]
+    fn own_kind() -> Kind {
+        Kind::I16
+    }
+
+    #[inline(always)]
     fn keep<R: FormKeep<W>, W: FormWrite>(frame: &[u8], at: usize, stand: Stand) -> Option<usize> {
         R::keep_i16(frame, at, stand)
     }
@@ -165,6 +188,11 @@ struct I32Leaf;
 
 impl Leaf for I32Leaf {
     ghost kind = { Kind.I32 };
+
+    #[inline(always)]
+    fn own_kind() -> Kind {
+        Kind::I32
+    }
 
     #[inline(always)]
     fn keep<R: FormKeep<W>, W: FormWrite>(frame: &[u8], at: usize, stand: Stand) -> Option<usize> {
@@ -179,6 +207,11 @@ impl Leaf for I64Leaf {
     ghost kind = { Kind.I64 };
 
     #[inline(always)]
+    fn own_kind() -> Kind {
+        Kind::I64
+    }
+
+    #[inline(always)]
     fn keep<R: FormKeep<W>, W: FormWrite>(frame: &[u8], at: usize, stand: Stand) -> Option<usize> {
         R::keep_i64(frame, at, stand)
     }
@@ -189,6 +222,11 @@ struct DoubleLeaf;
 
 impl Leaf for DoubleLeaf {
     ghost kind = { Kind.Double };
+
+    #[inline(always)]
+    fn own_kind() -> Kind {
+        Kind::Double
+    }
 
     #[inline(always)]
     fn keep<R: FormKeep<W>, W: FormWrite>(frame: &[u8], at: usize, stand: Stand) -> Option<usize> {
@@ -203,6 +241,11 @@ impl Leaf for TextLeaf {
     ghost kind = { Kind.Str };
 
     #[inline(always)]
+    fn own_kind() -> Kind {
+        Kind::Str
+    }
+
+    #[inline(always)]
     fn keep<R: FormKeep<W>, W: FormWrite>(frame: &[u8], at: usize, stand: Stand) -> Option<usize> {
         R::keep_text(frame, at, stand)
     }
@@ -213,6 +256,11 @@ struct UuidLeaf;
 
 impl Leaf for UuidLeaf {
     ghost kind = { Kind.Uuid };
+
+    #[inline(always)]
+    fn own_kind() -> Kind {
+        Kind::Uuid
+    }
 
     #[inline(always)]
     fn keep<R: FormKeep<W>, W: FormWrite>(frame: &[u8], at: usize, stand: Stand) -> Option<usize> {

@@ -1,4 +1,4 @@
-//! A message that goes on in its own protocol: looked through item by item, and left as its bytes were copied.
+//! A message that goes on in its own protocol: looked through item by item (elements of one length at once), and left as its bytes were copied.
 //!
 //! The body's bytes are copied at once, to the same places of the output. A walk through the frame finds each item spelled
 //! as the protocol's writer spells it, so the copy is the translation. Only the kinds of an empty map may differ: they are

@@ -6,7 +6,7 @@ use Rattle.type_walk.specs.Positions.{Position, called_for, passed, standing}
 use Rattle.translate_core.specs.Body.{source_in, target_in}
 use Rattle.translate_core.specs.Quick.{Spot, Takes, spot}
 use Rattle.translate_core.proofs.Taking.{takes_none, takes_then}
-use Rattle.kept_messages.proofs.Keeping.{takes_leaf}
+use Rattle.kept_messages.proofs.Keeping.{takes_leaf, takes_run}
 use Rattle.kept_messages.proofs.leaves.keep_leaves.Goals as goal
 
 pub elements-init : goal.elements-init
@@ -62,3 +62,9 @@ returns-clause-keeps g c d level depth flat opening up outer deep =
       before.0,
       subst (λ (left : ℕ). Takes source target g.R.ReadRules.stands_at g.W.WireWrite.stands_at c.args.frame.now first (spot c.elements.at before.0 (slots.Elements g.L.Leaf.kind left ∷ up) p) c.args.frame.now c.args.from c.args.frame.now c.elements.at) none before.1,
     )
+
+pub returns-in-Some-clause-keeps : goal.returns-in-Some-clause-keeps
+returns-in-Some-clause-keeps g c d level depth flat =
+    let keeps = rw (c.own_kind.ensures, c.in-Some.is) at c.keep_run.ensures.keeps in
+    takes_run (source_in g.R.ReadRules) (target_in g.W.WireWrite) g.R.ReadRules.stands_at g.W.WireWrite.stands_at c.args.frame.now g.R.ReadRules.pays g.met.W.FormWrite.goes_on
+    g.L.Leaf.kind d level depth c.args.from c.args.size c.in-Some.behind flat keeps
