@@ -246,8 +246,10 @@ impl<'s> Work<'s> {
         ensures report_later { E.faults report.old ≤ E.faults report.new }
         ensures cause { IfErr result (λ broken. HasRisen broken (O.faults output.old) (O.faults output.new) (E.faults report.old) (E.faults report.new)) }
     {
+        // Kept from one run of frames that pass to the next, so that refused ones are soon begun with their types, too.
+        let mut habit = Habit::new();
         'frames: loop {
-            let tried = self.pass_frames(task, room);
+            let tried = self.pass_frames(task, room, &mut habit);
             self.inbox.pass_over();
             let frame = match self.inbox.message() {
                 Next::NeedMore => return Ok(None),
@@ -284,7 +286,7 @@ impl<'s> Work<'s> {
     // Converts the frames at the front as long as they pass by the quick way and there is room for what is written of them.
     // True: the next one stands there and doesn't go that way.
     #[inline(never)]
-    fn pass_frames(&mut self, task: &Task<'_>, room: &mut [u8]) -> bool
+    fn pass_frames(&mut self, task: &Task<'_>, room: &mut [u8], habit: &mut Habit) -> bool
         requires limit { task.now.limit ≤ GREATEST_LIMIT }
         requires room { task.now.limit ≤ length room.old }
         requires ready { IsReady task.now self.old }
@@ -295,8 +297,6 @@ impl<'s> Work<'s> {
         let Handler::Convert { from, to } = self.handler else {
             return false;
         };
-        // It is begun anew for each run of frames: at most two more are then gone through twice.
-        let mut habit = Habit::new();
         self.inbox.pass_over();
         'frames: loop {
             let Next::Message(frame) = self.inbox.message() else {
@@ -306,7 +306,7 @@ impl<'s> Work<'s> {
             if framed_room(size) > self.page.spare() {
                 return false;
             }
-            if !pass_sent(task, from, to, frame, room, &mut habit, &mut self.page.out) {
+            if !pass_sent(task, from, to, frame, room, habit, &mut self.page.out) {
                 return true;
             }
             self.number += 1;
