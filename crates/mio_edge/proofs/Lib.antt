@@ -1,3 +1,4 @@
+pub mod Advancing
 pub mod Closing
 pub mod Each
 pub mod Entries

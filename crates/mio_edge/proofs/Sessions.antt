@@ -122,6 +122,10 @@ pub record HaveMoved {S : Type 0} (R : Port S → Port S → Type 0) (n : ℕ) (
   pub before : (p : ℕ) (d : Port S) → p < n → R (get_or a p d) (get_or b p d)
   pub behind : (p : ℕ) (d : Port S) → n ≤ p → get_or b p d ≡ get_or a p d
 
+-- none so far
+pub none_moved : {S : Type 0} (R : Port S → Port S → Type 0) (ports : List (Port S)) → HaveMoved R 0 ports ports
+none_moved R ports = record { long = refl; before = λ p d less. absurd (omega (arith, less)); behind = λ p d most. refl }
+
 -- one more has moved
 pub moved_step : {S : Type 0} (R : Port S → Port S → Type 0) (n : ℕ) (a b : List (Port S)) (d q : Port S) → n < length b → HaveMoved R n a b → R (get_or b n d) q → HaveMoved R (n + 1) a (set b n q)
 moved_step {S} R n a b d q within moved step = record {
@@ -231,7 +235,7 @@ at_one {S} R same ports port x y was moved = λ p. by p (decide p port)
         (subst (λ (o : Option (Port S)). AtEach R (Some x) o) (sym (get_set_same ports port y (get_within ports port x was))) moved))
     by p (inr off) = subst (λ (o : Option (Port S)). AtEach R (slice_get ports p) o) (sym (get_set_other ports port p y off)) (own (slice_get ports p))
 
-tells_on : {S : Type 0} (tells : S → Wire → Type 0) (R : Port S → Port S → Type 0) → ((x y : Port S) → R x y → Stays (PortTells tells x) (PortTells tells y)) → (a b : List (Port S)) → PortsAre R a b → Stays (PortsTell tells a) (PortsTell tells b)
+pub tells_on : {S : Type 0} (tells : S → Wire → Type 0) (R : Port S → Port S → Type 0) → ((x y : Port S) → R x y → Stays (PortTells tells x) (PortTells tells y)) → (a b : List (Port S)) → PortsAre R a b → Stays (PortsTell tells a) (PortsTell tells b)
 tells_on {S} tells R on a b each links told = λ p. by (slice_get a p) (slice_get b p) (links p) (each p) (told p)
   where
     by : (o o' : Option (Port S)) (link : Link) → AtEach R o o' → TellsAt tells o link → TellsAt tells o' link

@@ -414,6 +414,37 @@ module _ {S : Type 0} where
     fits = omega (arith, stand.fits, same_len slab place a b was);
   }
 
+  -- the queue of those that are to be sent has the same places
+  pub queues_renewed : (slab : Slab (Session S)) (ready behind written written' : Queue) (spare : ℕ) → written'.places.items ≡ written.places.items → QueuesStand slab ready behind written spare → QueuesStand slab ready behind written' spare
+  queues_renewed slab ready behind written written' spare same stand = record {
+    stands = subst (λ xs. Stands slab (ready.places.items ++ behind.places.items) xs slab.capacity) (sym same) stand.stands;
+    ready_room = stand.ready_room;
+    behind_room = stand.behind_room;
+    fits = stand.fits;
+  }
+
+  -- a place where no session stands has left it
+  pub queues_passed : (slab : Slab (Session S)) (ready behind written written' : Queue) (spare place : ℕ) → get slab place ≡ None → written.places.items ≡ place ∷ written'.places.items → QueuesStand slab ready behind written spare → QueuesStand slab ready behind written' spare
+  queues_passed slab ready behind written written' spare place free is stand = record {
+    stands = record {
+      queued = stand.stands.queued;
+      marked = stand.stands.marked;
+      apart = stand.stands.apart;
+      noted = λ q session at down. by q session at (subst (λ xs. Has xs q) is (stand.stands.noted q session at down));
+      below = stand.stands.below;
+    };
+    ready_room = stand.ready_room;
+    behind_room = stand.behind_room;
+    fits = stand.fits;
+  }
+    where
+      no_value : (s : Session S) → None ≡ Some s → ⊥
+      no_value s e = absurd (cc)
+
+      by : (q : ℕ) (session : Session S) → get slab q ≡ Some session → Has (place ∷ written'.places.items) q → Has written'.places.items q
+      by q session at (inl same) = absurd (no_value session (sym free ∙ (ap (get slab) same ∙ at)))
+      by q session at (inr has) = has
+
   -- a session is put over another one at the same place
   pub put_over : (slab : Slab (Session S)) (place : ℕ) (a b : Session S) → get slab place ≡ Some a → get (with_value slab place b) place ≡ Some b
   put_over slab place a b was = (put slab place a b was).changed

@@ -115,3 +115,12 @@ pub admitted_keeps : {W S : Type 0} (Is : Type 0) (tells : S → Wire → Type 0
 admitted_keeps Is tells a b l l' (admitted.Here k) was now same stays steps at_once announced = tt
 admitted_keeps Is tells a b l l' admitted.Handed was now same stays steps at_once announced = listening_moved Is tells a b l l' was now same stays (λ world told. steps) at_once announced
 admitted_keeps Is tells a b l l' admitted.Nothing was now same stays steps at_once announced = listening_moved Is tells a b l l' was now same stays (λ world told. steps) at_once announced
+
+-- what follows where it is a session here
+pub here_then : (r : Admitted) {P Q : ℕ → Type 0} → ((k : ℕ) → P k → Q k) → IfHere r P → IfHere r Q
+here_then (admitted.Here k) on holds = on k holds
+here_then admitted.Handed on holds = tt
+here_then admitted.Nothing on holds = tt
+
+pub nothing_handed : admitted.Nothing ≡ admitted.Handed → ⊥
+nothing_handed e = absurd (cc)

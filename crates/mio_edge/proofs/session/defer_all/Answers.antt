@@ -2,7 +2,7 @@ use Rattle.std.proofs.Common.{arith}
 use Rattle.mio_edge.specs.Sessions.{Calms}
 use Rattle.mio_edge.specs.Connecting.{WaitsForWrite}
 use Rattle.mio_edge.proofs.Each.{all_first, first_step}
-use Rattle.mio_edge.proofs.Sessions.{all_moved, moved_step}
+use Rattle.mio_edge.proofs.Sessions.{all_moved, moved_step, none_moved}
 use Rattle.mio_edge.proofs.session.defer_all.Goals as goal
 
 pub returns-clause-calm : goal.returns-clause-calm
@@ -16,3 +16,6 @@ loop-port-preserved g c = record {
   calm = moved_step (Calms g.S.Stream.tells) c.loop-port.port-index c.args.ports.now c.loop-port.ports c.port-item.result c.defer.new.self (omega arith) c.loop-port.invariant.calm (record { keeps = c.defer.ensures.keeps; calm = c.defer.ensures.calm });
   deferred = first_step (λ port. WaitsForWrite port) c.loop-port.port-index c.loop-port.ports c.defer.new.self (omega arith) c.loop-port.invariant.deferred c.defer.ensures.deferred;
 }
+
+pub loop-port-init : goal.loop-port-init
+loop-port-init g c = record { calm = none_moved (Calms g.S.Stream.tells) c.args.ports.now; deferred = λ p d less. absurd (omega (arith, less)) }

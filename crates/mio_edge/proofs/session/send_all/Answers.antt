@@ -1,6 +1,6 @@
 use Rattle.std.proofs.Common.{arith}
 use Rattle.mio_edge.specs.Sessions.{Flushes}
-use Rattle.mio_edge.proofs.Sessions.{all_moved, moved_step}
+use Rattle.mio_edge.proofs.Sessions.{all_moved, moved_step, none_moved}
 use Rattle.mio_edge.proofs.session.send_all.Goals as goal
 
 pub returns : goal.returns
@@ -10,3 +10,6 @@ pub loop-port-preserved : goal.loop-port-preserved
 loop-port-preserved g c =
     moved_step (Flushes g.S.Stream.tells) c.loop-port.port-index c.args.ports.now c.loop-port.ports c.port-item.result c.send_unsent.new.self (omega arith) c.loop-port.invariant
     (record { keeps = c.send_unsent.ensures.keeps; calm = c.send_unsent.ensures.calm; sent = c.send_unsent.ensures.sent; still = c.send_unsent.ensures.still })
+
+pub loop-port-init : goal.loop-port-init
+loop-port-init g c = none_moved (Flushes g.S.Stream.tells) c.args.ports.now

@@ -1,6 +1,6 @@
 use Rattle.std.proofs.Common.{arith}
 use Rattle.mio_edge.specs.Closing.{WindsUp, TellsItsEnd}
-use Rattle.mio_edge.proofs.Sessions.{all_moved, moved_step}
+use Rattle.mio_edge.proofs.Sessions.{all_moved, moved_step, none_moved}
 use Rattle.mio_edge.proofs.Closing.{all_settled, settled_step, all_flushed, flushed_step}
 use Rattle.mio_edge.proofs.Each.{all_first, first_step}
 use Rattle.mio_edge.proofs.session.wind_up_all.Goals as goal
@@ -25,4 +25,12 @@ loop-port-preserved g c = record {
       settled_step c.loop-port.port-index c.loop-port.ports c.wind_up.new.self (omega arith) (c.loop-port.invariant.gone both.0) (c.wind_up.ensures.gone both.1);
   sent = flushed_step c.loop-port.port-index c.loop-port.ports c.wind_up.new.self (omega arith) c.loop-port.invariant.sent c.wind_up.ensures.sent;
   told = first_step (λ port. TellsItsEnd port) c.loop-port.port-index c.loop-port.ports c.wind_up.new.self (omega arith) c.loop-port.invariant.told c.wind_up.ensures.told;
+}
+
+pub loop-port-init : goal.loop-port-init
+loop-port-init g c = record {
+  sends = none_moved (WindsUp g.S.Stream.tells) c.args.ports.now;
+  gone = λ is p d less. absurd (omega (arith, less));
+  sent = λ p d less. absurd (omega (arith, less));
+  told = λ p d less. absurd (omega (arith, less));
 }

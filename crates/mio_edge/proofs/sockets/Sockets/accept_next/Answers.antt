@@ -1,8 +1,8 @@
 use Rattle.std.proofs.Common.{refl}
 use Rattle.mio_edge.proofs.Worlds.{admitted_opens, admitted_keeps}
-use Rattle.mio_edge.proofs.Winding.{sockets_moved}
-use Rattle.mio_edge.proofs.Turning.{admitted_turned}
-use Rattle.mio_edge.specs.Fixed.{fixed_there}
+use Rattle.mio_edge.proofs.Winding.{sockets_moved, sockets_same}
+use Rattle.mio_edge.proofs.Turning.{admitted_turned, sockets_turn_same}
+use Rattle.mio_edge.specs.Fixed.{fixed_there, fixed_same}
 use Rattle.mio_edge.proofs.sockets.Sockets.accept_next.Goals as goal
 
 pub returns-in-Some-clause-opens : goal.returns-in-Some-clause-opens
@@ -21,3 +21,12 @@ pub returns-in-Some-clause-same : goal.returns-in-Some-clause-same
 returns-in-Some-clause-same g c =
     let l = c.accept.new.self in
     fixed_there c.args.self.now _ c.in-Some.listening l c.in-Some.is refl c.accept.ensures.same
+
+pub returns-in-None-clause-winds : goal.returns-in-None-clause-winds
+returns-in-None-clause-winds g c = sockets_same g.W.Stream.Stream.tells c.args.self.now _ refl
+
+pub returns-in-None-clause-turn : goal.returns-in-None-clause-turn
+returns-in-None-clause-turn g c = sockets_turn_same g.W.Network.is_telling g.W.Stream.Stream.tells c.args.self.now _ refl
+
+pub returns-in-None-clause-same : goal.returns-in-None-clause-same
+returns-in-None-clause-same g c = fixed_same c.args.self.now _ refl

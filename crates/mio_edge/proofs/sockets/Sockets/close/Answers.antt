@@ -1,7 +1,7 @@
 use Rattle.std.proofs.Common.{refl}
-use Rattle.mio_edge.proofs.Winding.{sockets_moved, sockets_close}
-use Rattle.mio_edge.proofs.Turning.{sockets_joined}
-use Rattle.mio_edge.specs.Fixed.{fixed_there, fixed_kept}
+use Rattle.mio_edge.proofs.Winding.{sockets_moved, sockets_close, sockets_same}
+use Rattle.mio_edge.proofs.Turning.{sockets_joined, sockets_join_same}
+use Rattle.mio_edge.specs.Fixed.{fixed_there, fixed_kept, fixed_same}
 use Rattle.mio_edge.proofs.Numbered.{all_stay_below}
 use Rattle.mio_edge.proofs.sockets.Sockets.close.Goals as goal
 
@@ -27,3 +27,12 @@ pub invariant_of-self : goal.invariant_of-self
 invariant_of-self g c =
     let serving = c.args.self.now.serving in
     record { numbered = all_stay_below serving.announced serving.listening c.in-Some.listening (record c.in-Some.listening { table = c.close.new.self }) c.in-Some.is serving.numbered c.close.ensures.below }
+
+pub returns-in_default-clause-winds : goal.returns-in_default-clause-winds
+returns-in_default-clause-winds g c = sockets_same g.W.Stream.Stream.tells c.args.self.now _ refl
+
+pub returns-in_default-clause-joins : goal.returns-in_default-clause-joins
+returns-in_default-clause-joins g c = sockets_join_same c.args.self.now _ refl
+
+pub returns-in_default-clause-same : goal.returns-in_default-clause-same
+returns-in_default-clause-same g c = fixed_same c.args.self.now _ refl

@@ -1,14 +1,69 @@
-use Rattle.std.proofs.Common.{None, subst}
-use Rattle.mio_edge.specs.Admitting.{IfNotHere}
-use Rattle.mio_edge.specs.Turning.{SocketsTurnIfTold}
-use Rattle.mio_edge.specs.Worlds.{SocketsStay}
-use Rattle.mio_edge.proofs.Turning.{event_turn_on}
+use Rattle.std.proofs.Common.{None, arith}
+use Rattle.mio_edge.proofs.Advancing.{rests_all, brings_on, brings_nothing, none_stops, opened_fails, opened_stops}
 use Rattle.mio_edge.proofs.sockets.Sockets.go_on.Goals as goal
 
-pub returns-in-Nothing-clause-turn : goal.returns-in-Nothing-clause-turn
-returns-in-Nothing-clause-turn g c =
+pub returns-in-Here : goal.returns-in-Here
+returns-in-Here g c =
+    let here = c.in-Here.ensures in
+    let number = c.in-Here.number in record {
+      moves = here.opens;
+      numbers = (here.number.0, here.announced);
+      running = opened_stops number;
+      accept = c.accept_next.ensures.accept;
+      later = omega (arith, c.accept_next.ensures.faults);
+      cause = λ is. absurd (opened_fails number is);
+      winds = c.accept_next.ensures.winds;
+      turn = tt;
+      same = c.accept_next.ensures.same;
+    }
+
+pub returns-in-Handed : goal.returns-in-Handed
+returns-in-Handed g c =
+    let Is = g.W.Network.is_telling in
+    let Shared = g.W.Network.is_shared in
+    let t = g.W.Stream.Stream.tells in
     let a = c.args.self.now in
     let b = c.accept_next.new.self in
-    event_turn_on g.W.Network.is_telling g.W.Stream.Stream.tells c.ready.result a b c.ready.new.self
-    (subst (λ r. IfNotHere r (SocketsStay g.W.Network.is_telling g.W.Stream.Stream.tells a b)) c.in-Nothing.is c.accept_next.ensures.keeps)
-    (subst (λ r. IfNotHere r (SocketsTurnIfTold g.W.Network.is_telling g.W.Stream.Stream.tells None a b)) c.in-Nothing.is c.accept_next.ensures.turn) c.ready.ensures.turn
+    let d = c.pass_over.new.self in
+    let none = c.accept_next.ensures in
+    let here = c.in-Handed.ensures in
+    let passes = c.pass_over.ensures in
+    let first = rests_all Is Shared t a b here.keeps here.waits none.accept none.faults none.winds here.turn none.same in
+    let shared = none.handed c.in-Handed.is in
+    let all = brings_on Is Shared t None a b d first (brings_nothing Is Shared t b d (record {
+      kept = record { keeps = passes.keeps; numbers = (omega (arith, passes.announced), λ less. shared); accept = passes.accept; later = omega (arith, passes.faults); winds = passes.winds; same = passes.same };
+      turn = passes.turn;
+    })) in record {
+      moves = all.moves;
+      numbers = all.numbers;
+      running = none_stops;
+      accept = all.accept;
+      later = all.later;
+      cause = all.cause;
+      winds = all.winds;
+      turn = all.turn;
+      same = all.same;
+    }
+
+pub returns-in-Nothing : goal.returns-in-Nothing
+returns-in-Nothing g c =
+    let Is = g.W.Network.is_telling in
+    let Shared = g.W.Network.is_shared in
+    let t = g.W.Stream.Stream.tells in
+    let a = c.args.self.now in
+    let b = c.accept_next.new.self in
+    let none = c.accept_next.ensures in
+    let here = c.in-Nothing.ensures in
+    let goes = c.ready.ensures in
+    let first = rests_all Is Shared t a b here.keeps here.waits none.accept none.faults none.winds here.turn none.same in
+    let all = brings_on Is Shared t c.ready.result a b c.ready.new.self first (record { moves = goes.moves; numbers = goes.numbers; accept = goes.accept; later = goes.later; cause = goes.cause; winds = goes.winds; turn = goes.turn; same = goes.same }) in record {
+      moves = all.moves;
+      numbers = all.numbers;
+      running = goes.running;
+      accept = all.accept;
+      later = all.later;
+      cause = all.cause;
+      winds = all.winds;
+      turn = all.turn;
+      same = all.same;
+    }

@@ -1,9 +1,9 @@
 use Rattle.std.proofs.Common.{[], None, refl, sym, ap, subst}
 use Rattle.mio_edge.specs.Closing.{Winds, winds_nowhere}
 use Rattle.mio_edge.specs.Lines.{moves_nowhere}
-use Rattle.mio_edge.proofs.Turning.{sockets_turned}
-use Rattle.mio_edge.proofs.Winding.{sockets_moved}
-use Rattle.mio_edge.specs.Fixed.{fixed_there}
+use Rattle.mio_edge.proofs.Turning.{sockets_turned, sockets_turn_same}
+use Rattle.mio_edge.proofs.Winding.{sockets_moved, sockets_same}
+use Rattle.mio_edge.specs.Fixed.{fixed_there, fixed_same}
 use Rattle.mio_edge.proofs.sockets.Sockets.is_over.Goals as goal
 
 pub returns-in-Some-clause-winds : goal.returns-in-Some-clause-winds
@@ -26,3 +26,12 @@ pub returns-in-Some-clause-same : goal.returns-in-Some-clause-same
 returns-in-Some-clause-same g c =
     let l = c.stop_accepting.new.self in
     fixed_there c.args.self.now _ c.in-Some.listening l c.in-Some.is refl c.stop_accepting.ensures.same
+
+pub returns-in-None-clause-winds : goal.returns-in-None-clause-winds
+returns-in-None-clause-winds g c = sockets_same g.W.Stream.Stream.tells c.args.self.now _ refl
+
+pub returns-in-None-clause-turn : goal.returns-in-None-clause-turn
+returns-in-None-clause-turn g c = sockets_turn_same g.W.Network.is_telling g.W.Stream.Stream.tells c.args.self.now _ refl
+
+pub returns-in-None-clause-same : goal.returns-in-None-clause-same
+returns-in-None-clause-same g c = fixed_same c.args.self.now _ refl

@@ -1,7 +1,7 @@
 use Rattle.std.proofs.Common.{refl}
-use Rattle.mio_edge.proofs.Winding.{sockets_told}
-use Rattle.mio_edge.proofs.Turning.{sockets_joined}
-use Rattle.mio_edge.specs.Fixed.{fixed_there, fixed_kept}
+use Rattle.mio_edge.proofs.Winding.{sockets_told, sockets_same}
+use Rattle.mio_edge.proofs.Turning.{sockets_joined, sockets_join_same}
+use Rattle.mio_edge.specs.Fixed.{fixed_there, fixed_kept, fixed_same}
 use Rattle.mio_edge.proofs.Numbered.{all_stay_below}
 use Rattle.gate_hub.specs.Hubs.{LinkReads}
 use Rattle.mio_edge.proofs.Worlds.{listening_calls}
@@ -29,3 +29,12 @@ pub returns-in-Some-clause-leads : goal.returns-in-Some-clause-leads
 returns-in-Some-clause-leads g c =
     let l = record c.in-Some.listening { table = c.read.new.self } in
     listening_calls g.W.Network.is_telling g.W.Stream.Stream.tells c.args.self.now _ c.in-Some.listening l c.args.k c.args.port (LinkReads c.read.new.into c.read.result) c.in-Some.is refl (λ at_once. (refl, c.read.ensures.leads, c.read.ensures.stepped)) refl refl
+
+pub returns-in-None-clause-winds : goal.returns-in-None-clause-winds
+returns-in-None-clause-winds g c = λ world told. sockets_same g.W.Stream.Stream.tells c.args.self.now _ refl
+
+pub returns-in-None-clause-joins : goal.returns-in-None-clause-joins
+returns-in-None-clause-joins g c = sockets_join_same c.args.self.now _ refl
+
+pub returns-in-None-clause-same : goal.returns-in-None-clause-same
+returns-in-None-clause-same g c = fixed_same c.args.self.now _ refl

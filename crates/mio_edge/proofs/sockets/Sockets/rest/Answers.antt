@@ -1,9 +1,9 @@
 use Rattle.std.proofs.Common.{refl}
 use Rattle.mio_edge.proofs.Worlds.{listening_moved}
-use Rattle.mio_edge.proofs.Winding.{sockets_moved}
+use Rattle.mio_edge.proofs.Winding.{sockets_moved, sockets_same}
 use Rattle.std.proofs.Common.{None}
-use Rattle.mio_edge.proofs.Turning.{sockets_turned}
-use Rattle.mio_edge.specs.Fixed.{fixed_there}
+use Rattle.mio_edge.proofs.Turning.{sockets_turned, sockets_turn_same}
+use Rattle.mio_edge.specs.Fixed.{fixed_there, fixed_same}
 use Rattle.mio_edge.proofs.Numbered.{all_stay_below}
 use Rattle.mio_edge.proofs.sockets.Sockets.rest.Goals as goal
 
@@ -25,3 +25,12 @@ pub invariant_of-self : goal.invariant_of-self
 invariant_of-self g c =
     let serving = c.args.self.now.serving in
     record { numbered = all_stay_below serving.announced serving.listening c.in-Some.listening c.rest.new.self c.in-Some.is serving.numbered c.rest.ensures.below }
+
+pub returns-in-None-clause-winds : goal.returns-in-None-clause-winds
+returns-in-None-clause-winds g c = sockets_same g.W.Stream.Stream.tells c.args.self.now _ refl
+
+pub returns-in-None-clause-turn : goal.returns-in-None-clause-turn
+returns-in-None-clause-turn g c = sockets_turn_same g.W.Network.is_telling g.W.Stream.Stream.tells c.args.self.now _ refl
+
+pub returns-in-None-clause-same : goal.returns-in-None-clause-same
+returns-in-None-clause-same g c = fixed_same c.args.self.now _ refl

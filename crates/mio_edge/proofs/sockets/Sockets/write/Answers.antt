@@ -1,11 +1,13 @@
 use Rattle.std.proofs.Common.{◌≡◌, refl, ◌∙◌, subst}
-use Rattle.mio_edge.specs.Fixed.{fixed_there, fixed_kept}
+use Rattle.mio_edge.specs.Fixed.{fixed_there, fixed_kept, fixed_same}
 use Rattle.mio_edge.proofs.Numbered.{all_stay_below}
 use Rattle.gate_hub.specs.Hubs.{LinkWrites}
 use Rattle.mio_edge.specs.Stepping.{StayStepped}
 use Rattle.mio_edge.specs.Tables.{TableTells, AtSession, MovesAt}
 use Rattle.mio_edge.specs.declared.listening.Listening.{Listening}
 use Rattle.mio_edge.proofs.Worlds.{listening_calls}
+use Rattle.mio_edge.proofs.Winding.{sockets_same}
+use Rattle.mio_edge.proofs.Turning.{sockets_join_same}
 use Rattle.mio_edge.proofs.sockets.Sockets.write.Goals as goal
 
 pub returns-in-Some-clause-same : goal.returns-in-Some-clause-same
@@ -34,3 +36,12 @@ returns-in-Some-clause-leads g c =
     let same = c.connect_for_write.ensures.at_once at_once in
     subst (λ (x : Listening g.row.W-Stream.Denot). (b.connecting ≡ x.connecting) × MovesAt k (TableTells t x.table) (TableTells t b.table) (AtSession k port Step) × StayStepped t x.table b.table) same (refl, c.write.ensures.leads, c.write.ensures.stepped))
     refl refl
+
+pub returns-in-None-clause-winds : goal.returns-in-None-clause-winds
+returns-in-None-clause-winds g c = λ world told. sockets_same g.W.Stream.Stream.tells c.args.self.now _ refl
+
+pub returns-in-None-clause-joins : goal.returns-in-None-clause-joins
+returns-in-None-clause-joins g c = sockets_join_same c.args.self.now _ refl
+
+pub returns-in-None-clause-same : goal.returns-in-None-clause-same
+returns-in-None-clause-same g c = fixed_same c.args.self.now _ refl

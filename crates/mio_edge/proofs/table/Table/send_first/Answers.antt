@@ -3,13 +3,38 @@ use Rattle.slab.specs.Slab.{with_value}
 use Rattle.mio_edge.specs.Turns.{QueuesStand}
 use Rattle.mio_edge.proofs.Standing.{stood_ready, rest_same, put_twice, put_over}
 use Rattle.mio_edge.proofs.Tables.{kept_at, then_is, unsent_from}
-use Rattle.mio_edge.proofs.Turns.{queues_taken}
+use Rattle.mio_edge.proofs.Turns.{queues_taken, queues_renewed, queues_passed}
 use Rattle.mio_edge.specs.Sessions.{PortsTell}
+use Rattle.mio_edge.specs.Closing.{winds_nowhere}
 use Rattle.mio_edge.proofs.Closing.{winds_stays}
-use Rattle.mio_edge.specs.Lines.{grows_same, line_grown, none_closed}
+use Rattle.mio_edge.specs.Lines.{grows_same, line_grown, moves_nowhere, none_closed}
 use Rattle.mio_edge.proofs.Numbered.{below_put}
 use Rattle.mio_edge.proofs.Stepping.{stepped_put, still_stepped}
 use Rattle.mio_edge.proofs.table.Table.send_first.Goals as goal
+
+pub returns-in_default : goal.returns-in_default
+returns-in_default g c =
+    let s = c.args.self.now in record {
+      keeps = λ world told. (told.0, queues_renewed s.sessions s.ready s.behind s.written c.pop.new.self (length s.spare.items) (sym c.in_default.ensures.first) told.1);
+      taken = c.pop.ensures.rest;
+      winds = winds_nowhere g.S.Stream.tells s.sessions;
+      turn = moves_nowhere s _ refl refl refl;
+      below = λ next below. below;
+      stepped = λ world told stepped. stepped;
+      same = refl;
+    }
+
+pub returns-in_default-get_mut : goal.returns-in_default-get_mut
+returns-in_default-get_mut g c =
+    let s = c.args.self.now in record {
+      keeps = λ world told. (told.0, queues_passed s.sessions s.ready s.behind s.written c.pop.new.self (length s.spare.items) c.in-Some.place (sym c.in_default-get_mut.ensures.value) c.in-Some.ensures.first told.1);
+      taken = c.pop.ensures.rest;
+      winds = winds_nowhere g.S.Stream.tells s.sessions;
+      turn = moves_nowhere s _ refl refl refl;
+      below = λ next below. below;
+      stepped = λ world told stepped. stepped;
+      same = refl;
+    }
 
 pub returns-then-send-clause-keeps : goal.returns-then-send-clause-keeps
 returns-then-send-clause-keeps g c = λ world told.
@@ -84,3 +109,18 @@ returns-else-send-clause-stepped g c = λ world told.
     let still = c.send.ensures.still in
     stepped_put c.args.self.now.sessions c.in-Some.place c.in-Some-get_mut.session.now c.send.new.self (sym c.in-Some-get_mut.ensures.value)
     (still_stepped c.in-Some-get_mut.session.now c.send.new.self still.is_open still.queued c.send.ensures.stepped)
+
+pub returns-then-send-clause-taken : goal.returns-then-send-clause-taken
+returns-then-send-clause-taken g c = c.pop.ensures.rest
+
+pub returns-else-send-clause-taken : goal.returns-else-send-clause-taken
+returns-else-send-clause-taken g c = c.pop.ensures.rest
+
+pub returns-then-send-clause-same : goal.returns-then-send-clause-same
+returns-then-send-clause-same g c = refl
+
+pub returns-else-send-clause-same : goal.returns-else-send-clause-same
+returns-else-send-clause-same g c = refl
+
+pub returns-else-send-clause-turn : goal.returns-else-send-clause-turn
+returns-else-send-clause-turn g c = moves_nowhere c.args.self.now _ refl refl refl
