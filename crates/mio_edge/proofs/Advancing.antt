@@ -1,15 +1,19 @@
 -- What several steps of the sockets towards the next event bring together.
-use Rattle.std.proofs.Common.{◌≡◌, ℕ, ◌≤◌, Option, None, Some, refl, sym, ◌∙◌, subst, arith}
+use Rattle.std.proofs.Common.{◌≡◌, ℕ, ◌<◌, ◌≤◌, Option, None, Some, IsSome, Result, Ok, refl, sym, ◌∙◌, subst, arith}
 use Rattle.gate_base.specs.Causes.{Rose}
+use Rattle.gate_hub.specs.declared.hub.Began.{Began}
+use Rattle.gate_hub.specs.declared.hub.Began.TheVariants as began
 use Rattle.gate_hub.specs.declared.hub.HubNext.{HubNext}
 use Rattle.gate_hub.specs.declared.hub.HubNext.TheVariants as event
 use Rattle.mio_edge.specs.Wire.{Wire}
 use Rattle.mio_edge.specs.Fixed.{SocketsSame, fixed_on}
 use Rattle.mio_edge.specs.Numbers.{Passes, NumbersIfAny}
 use Rattle.mio_edge.specs.Places.{AllHaveSent}
+use Rattle.mio_edge.specs.Stepping.{ListeningStepped}
 use Rattle.mio_edge.specs.Turning.{SocketsTurnIfTold, EventTurn}
 use Rattle.mio_edge.specs.Winding.{SocketsWind}
-use Rattle.mio_edge.specs.Worlds.{SocketsStay, SocketsMove, EventMovesIfAny}
+use Rattle.mio_edge.specs.Worlds.{ListeningTells, SocketsStay, SocketsMove, EventMovesIfAny}
+use Rattle.mio_edge.specs.declared.serving.Serving.{Serving}
 use Rattle.mio_edge.specs.declared.sockets.Sockets.{Sockets}
 use Rattle.mio_edge.proofs.Numbers.{passes_same, passes_on, numbers_after}
 use Rattle.mio_edge.proofs.Turning.{sockets_turn_on, event_turn_on}
@@ -71,6 +75,29 @@ some_failed_stops r failed e = absurd (cc)
 
 some_stopped_fails : Some event.Stopped ≡ Some event.Failed → ⊥
 some_stopped_fails e = absurd (cc)
+
+-- ---- what a start answers
+
+pub failed_begins : began.Failed ≡ began.Done → ⊥
+failed_begins e = absurd (cc)
+
+pub unfound_begins : (at : ℕ) → began.NotFound at ≡ began.Done → ⊥
+unfound_begins at e = absurd (cc)
+
+pub done_fails : began.Done ≡ began.Failed → ⊥
+done_fails e = absurd (cc)
+
+pub done_unfound : (at : ℕ) → began.Done ≡ began.NotFound at → ⊥
+done_unfound at e = absurd (cc)
+
+pub failed_unfound : (at : ℕ) → began.Failed ≡ began.NotFound at → ⊥
+failed_unfound at e = absurd (cc)
+
+pub unfound_fails : (at : ℕ) → began.NotFound at ≡ began.Failed → ⊥
+unfound_fails at e = absurd (cc)
+
+pub not_answered : {E : Type 0} (r : Result Began E) (x y : Began) → r ≡ Ok x → (x ≡ y → ⊥) → r ≡ Ok y → ⊥
+not_answered {E} r x y is off other = off (cc)
 
 -- ---- steps
 
@@ -155,6 +182,17 @@ module _ {W S : Type 0} (Is Shared : Type 0) (tells : S → Wire → Type 0) whe
     turn = tt;
     same = kept.same;
   })
+
+  -- only what is counted and what is accepted have changed
+  pub stays_counted : (a b c : Sockets W S) → c.connecting ≡ b.connecting → c.serving ≡ b.serving → SocketsStay Is tells a b → SocketsStay Is tells a c
+  stays_counted a b c connecting serving stays world told =
+      let now = stays world told in record {
+        is_telling = now.is_telling;
+        at_once = connecting ∙ now.at_once;
+        sessions = subst (λ (s : Serving S). ListeningTells tells s.listening world) (sym serving) now.sessions;
+        below = subst (λ (s : Serving S). (k : ℕ) → IsSome (world k) → k < s.announced) (sym serving) now.below;
+        stepped = subst (λ (s : Serving S). ListeningStepped s.listening) (sym serving) now.stepped;
+      }
 
   -- the closed sessions are the same
   pub sent_still : (a b : Sockets W S) → b.serving.listening ≡ a.serving.listening → AllHaveSent a → AllHaveSent b

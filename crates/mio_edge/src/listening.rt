@@ -119,7 +119,6 @@ impl<S: Stream> Listening<S> {
 
     /// Accepts the next connection that waits, where `next` is the next number, which it raises, and begins one to each target, or has it
     /// begun later. One that finds no place here is accepted only where it may be handed on. An accept that fails is passed over.
-    #[tactic(auto, using(crate::specs::Closing::winds_nowhere))]
     pub(crate) fn accept<W: Network<Stream = S>>(
         &mut self,
         network: &mut W,
@@ -239,7 +238,6 @@ impl<S: Stream> Listening<S> {
     }
 
     // Gives a port of the session at a place its connection, and has it reported.
-    #[tactic(auto, using(crate::proofs::Closing::others_same))]
     fn attach<W: Network<Stream = S>>(
         &mut self,
         network: &mut W,
@@ -262,7 +260,6 @@ impl<S: Stream> Listening<S> {
     }
 
     // Begins a connection to each target. A port whose connection can't be begun stays without one.
-    #[tactic(auto, using(crate::proofs::Closing::others_same))]
     fn connect_all<W: Network<Stream = S>>(&mut self, network: &mut W, place: usize)
         ensures prepared { (k : ℕ) → W.is_telling → IsPrepared S.tells self.old.table place k → IsPrepared S.tells self.new.table place k }
         ensures keeps { KeepsIdle S.tells place self.old.table self.new.table }
@@ -279,7 +276,6 @@ impl<S: Stream> Listening<S> {
 
     // Begins the connection of a port to its target, and says whether there is one.
     #[inline(never)]
-    #[tactic(auto, using(crate::proofs::Closing::others_same))]
     fn connect<W: Network<Stream = S>>(
         &mut self,
         network: &mut W,

@@ -191,6 +191,7 @@ impl<S: Stream> Session<S> {
     }
 
     /// Writes to a port, or answers that it isn't ready where the session moved all that it may.
+    #[inline(always)]
     pub(crate) fn write(&mut self, port: usize, from: &[u8]) -> LinkPut
         requires { 0 < length from.now }
         ensures within { TookWithin from.now result }

@@ -167,15 +167,15 @@ impl<W: Network> Sockets<W> {
         };
         let mut targets = Vec::with_capacity(alloc, upstreams.len())?;
         let found = find_targets(&mut self.network, upstreams, &mut targets)?;
-        if found != Began::Done {
+        let Began::Done = found else {
             return Ok(found);
-        }
+        };
         let width = targets.len().saturating_add(1);
         let table = Table::open(alloc, sessions.saturating_add(1), width)?;
         let began = without_place(self.network.listen(alloc, address, sessions));
-        if began != Began::Done {
+        let Began::Done = began else {
             return Ok(began);
-        }
+        };
         self.serving.listening = Some(Listening::new(targets, self.connecting, table));
         Ok(Began::Done)
     }
@@ -189,7 +189,6 @@ impl<W: Network> Sockets<W> {
     /// nothing came of them. Where the network is one of several at an address it is the same once no more are handed
     /// to it, and it is told at once where another has ended before its time. `Failed`: the count of `start` and `next` rose; the
     /// system refused to wait, or the last number was given.
-    #[tactic(auto, using(crate::proofs::Winding::sockets_same, crate::proofs::Winding::sockets_on, crate::specs::Fixed::fixed_same, crate::specs::Fixed::fixed_on, crate::proofs::Turning::sockets_turn_same, crate::proofs::Turning::sockets_join_same))]
     pub fn next(&mut self) -> HubNext
         ensures moves { SocketsMove W.is_telling W.Stream.tells (EventMoves result) self.old self.new }
         ensures over { result ≡ event.Stopped → self.old.has_stopped ≡ false → NoneOpen W.is_telling W.Stream.tells self.old }
@@ -222,7 +221,6 @@ impl<W: Network> Sockets<W> {
     /// `NotReady`: nothing came, it is the others' turn, or the port isn't connected yet; `next` names
     /// k when it may be read again. `End`: the peer will send no more. `Failed`: the connection failed or never came to
     /// be, or there is no such port.
-    #[tactic(auto, using(crate::proofs::Winding::sockets_same, crate::proofs::Winding::sockets_on, crate::specs::Fixed::fixed_same, crate::specs::Fixed::fixed_on, crate::proofs::Turning::sockets_turn_same, crate::proofs::Turning::sockets_join_same))]
     pub fn read(&mut self, k: u64, port: usize, into: &mut [u8]) -> LinkGot
         requires { 0 < length into.old }
         ensures within { GotWithin into.new result }
@@ -247,7 +245,6 @@ impl<W: Network> Sockets<W> {
     /// `NotReady`: the buffer and the socket are full, or it is the others' turn; `next` names k
     /// when it may be written again. `Failed`: the connection failed, maybe at an earlier send, or
     /// never came to be, or there is no such port.
-    #[tactic(auto, using(crate::proofs::Winding::sockets_same, crate::proofs::Winding::sockets_on, crate::specs::Fixed::fixed_same, crate::specs::Fixed::fixed_on, crate::proofs::Turning::sockets_turn_same, crate::proofs::Turning::sockets_join_same))]
     pub fn write(&mut self, k: u64, port: usize, from: &[u8]) -> LinkPut
         requires { 0 < length from.now }
         ensures within { TookWithin from.now result }
@@ -270,7 +267,6 @@ impl<W: Network> Sockets<W> {
     }
 
     /// Closes session k. What was written to it is sent still, and its peers see the end behind it.
-    #[tactic(auto, using(crate::proofs::Winding::sockets_same, crate::proofs::Winding::sockets_on, crate::specs::Fixed::fixed_same, crate::specs::Fixed::fixed_on, crate::proofs::Turning::sockets_turn_same, crate::proofs::Turning::sockets_join_same))]
     pub fn close(&mut self, k: u64)
         ensures leads { SocketsMoveAt W.is_telling W.Stream.tells k (Shuts k) self.old self.new }
         ensures stopped { self.new.has_stopped ≡ self.old.has_stopped }
@@ -290,7 +286,6 @@ impl<W: Network> Sockets<W> {
     }
 
     // A step towards the next event: none where there is to be another.
-    #[tactic(auto, using(crate::proofs::Winding::sockets_same, crate::proofs::Winding::sockets_on, crate::specs::Fixed::fixed_same, crate::specs::Fixed::fixed_on, crate::proofs::Turning::sockets_turn_same, crate::proofs::Turning::sockets_join_same))]
     fn advance(&mut self) -> Option<HubNext>
         ensures moves { SocketsMove W.is_telling W.Stream.tells (EventMovesIfAny result) self.old self.new }
         ensures over { result ≡ Some event.Stopped → NoneOpen W.is_telling W.Stream.tells self.old }
@@ -318,7 +313,6 @@ impl<W: Network> Sockets<W> {
     }
 
     // A step where connections may be accepted.
-    #[tactic(auto, using(crate::proofs::Winding::sockets_same, crate::proofs::Winding::sockets_on, crate::specs::Fixed::fixed_same, crate::specs::Fixed::fixed_on, crate::proofs::Turning::sockets_turn_same, crate::proofs::Turning::sockets_join_same))]
     fn go_on(&mut self) -> Option<HubNext>
         requires { self.old.serving.announced < 2 ^ 64 - 1 }
         ensures moves { SocketsMove W.is_telling W.Stream.tells (EventMovesIfAny result) self.old self.new }
@@ -342,7 +336,6 @@ impl<W: Network> Sockets<W> {
     }
 
     // A step once no more connections are accepted.
-    #[tactic(auto, using(crate::proofs::Winding::sockets_same, crate::proofs::Winding::sockets_on, crate::specs::Fixed::fixed_same, crate::specs::Fixed::fixed_on, crate::proofs::Turning::sockets_turn_same, crate::proofs::Turning::sockets_join_same))]
     fn finish(&mut self) -> Option<HubNext>
         requires { AllAnnounced self.old.accept self.old.serving.announced ⊎ W.is_shared }
         ensures moves { SocketsMove W.is_telling W.Stream.tells (EventMovesIfAny result) self.old self.new }
@@ -364,7 +357,6 @@ impl<W: Network> Sockets<W> {
     }
 
     // No event follows.
-    #[tactic(auto, using(crate::proofs::Winding::sockets_same, crate::proofs::Winding::sockets_on, crate::specs::Fixed::fixed_same, crate::specs::Fixed::fixed_on, crate::proofs::Turning::sockets_turn_same, crate::proofs::Turning::sockets_join_same))]
     fn stops(&mut self) -> HubNext
         requires { AllAnnounced self.old.accept self.old.serving.announced ⊎ W.is_shared }
         ensures keeps { SocketsStay W.is_telling W.Stream.tells self.old self.new }
@@ -413,7 +405,6 @@ impl<W: Network> Sockets<W> {
     }
 
     // Lets the listener go, and says whether all is over.
-    #[tactic(auto, using(crate::proofs::Winding::sockets_same, crate::proofs::Winding::sockets_on, crate::specs::Fixed::fixed_same, crate::specs::Fixed::fixed_on, crate::proofs::Turning::sockets_turn_same, crate::proofs::Turning::sockets_join_same))]
     fn is_over(&mut self) -> bool
         ensures keeps { SocketsStay W.is_telling W.Stream.tells self.old self.new }
         ensures over { result ≡ true → NoneOpen W.is_telling W.Stream.tells self.old }
@@ -435,7 +426,6 @@ impl<W: Network> Sockets<W> {
     }
 
     // Sends what the sessions wrote, where these are many.
-    #[tactic(auto, using(crate::proofs::Winding::sockets_same, crate::proofs::Winding::sockets_on, crate::specs::Fixed::fixed_same, crate::specs::Fixed::fixed_on, crate::proofs::Turning::sockets_turn_same, crate::proofs::Turning::sockets_join_same))]
     fn send_where_many(&mut self)
         ensures keeps { SocketsStay W.is_telling W.Stream.tells self.old self.new }
         ensures announced { self.new.serving.announced ≡ self.old.serving.announced }
@@ -451,7 +441,6 @@ impl<W: Network> Sockets<W> {
     }
 
     // Accepts the next connection, if there is one, and raises the next number where it is a session here.
-    #[tactic(auto, using(crate::proofs::Winding::sockets_same, crate::proofs::Winding::sockets_on, crate::specs::Fixed::fixed_same, crate::specs::Fixed::fixed_on, crate::proofs::Turning::sockets_turn_same, crate::proofs::Turning::sockets_join_same))]
     fn accept_next(&mut self) -> Admitted
         requires { self.old.serving.announced < 2 ^ 64 - 1 }
         ensures opens { IfHere result (λ k. SocketsMove W.is_telling W.Stream.tells (Opens k) self.old self.new) }
@@ -473,7 +462,6 @@ impl<W: Network> Sockets<W> {
     }
 
     // The number of the session that is to have a turn next.
-    #[tactic(auto, using(crate::proofs::Winding::sockets_same, crate::proofs::Winding::sockets_on, crate::specs::Fixed::fixed_same, crate::specs::Fixed::fixed_on, crate::proofs::Turning::sockets_turn_same, crate::proofs::Turning::sockets_join_same))]
     fn next_named(&mut self) -> Option<u64>
         ensures names { SocketsMove W.is_telling W.Stream.tells (NamesIfAny result) self.old self.new }
         ensures below { IfSome result (λ number. number < self.old.serving.announced) }
@@ -491,7 +479,6 @@ impl<W: Network> Sockets<W> {
     }
 
     // Sends what was written and waits, where no session is to have a turn. It says whether that failed.
-    #[tactic(auto, using(crate::proofs::Winding::sockets_same, crate::proofs::Winding::sockets_on, crate::specs::Fixed::fixed_same, crate::specs::Fixed::fixed_on, crate::proofs::Turning::sockets_turn_same, crate::proofs::Turning::sockets_join_same))]
     fn rest(&mut self) -> bool
         ensures keeps { SocketsStay W.is_telling W.Stream.tells self.old self.new }
         ensures announced { self.new.serving.announced ≡ self.old.serving.announced }
@@ -508,7 +495,6 @@ impl<W: Network> Sockets<W> {
     }
 
     // The next number is another's.
-    #[tactic(auto, using(crate::proofs::Winding::sockets_same, crate::proofs::Winding::sockets_on, crate::specs::Fixed::fixed_same, crate::specs::Fixed::fixed_on, crate::proofs::Turning::sockets_turn_same, crate::proofs::Turning::sockets_join_same))]
     fn pass_over(&mut self)
         requires { self.old.serving.announced < 2 ^ 64 - 1 }
         ensures keeps { SocketsStay W.is_telling W.Stream.tells self.old self.new }
@@ -523,7 +509,6 @@ impl<W: Network> Sockets<W> {
     }
 
     // A session that is to have a turn: none after a wait.
-    #[tactic(auto, using(crate::proofs::Winding::sockets_same, crate::proofs::Winding::sockets_on, crate::specs::Fixed::fixed_same, crate::specs::Fixed::fixed_on, crate::proofs::Turning::sockets_turn_same, crate::proofs::Turning::sockets_join_same))]
     fn ready(&mut self) -> Option<HubNext>
         ensures moves { SocketsMove W.is_telling W.Stream.tells (EventMovesIfAny result) self.old self.new }
         ensures numbers { NumbersIfAny W.is_shared result self.old.serving.announced self.new.serving.announced }
@@ -546,7 +531,6 @@ impl<W: Network> Sockets<W> {
     }
 
     // Fails, and counts that.
-    #[tactic(auto, using(crate::proofs::Winding::sockets_same, crate::proofs::Winding::sockets_on, crate::specs::Fixed::fixed_same, crate::specs::Fixed::fixed_on, crate::proofs::Turning::sockets_turn_same, crate::proofs::Turning::sockets_join_same))]
     fn fails(&mut self) -> HubNext
         ensures keeps { SocketsStay W.is_telling W.Stream.tells self.old self.new }
         ensures result { result ≡ event.Failed }

@@ -187,7 +187,6 @@ impl<S: Stream> Table<S> {
     }
 
     // Frees a place where there is none.
-    #[tactic(auto, using(crate::specs::Closing::winds_nowhere, crate::specs::Lines::moves_nowhere, crate::specs::Lines::grows_same))]
     fn make_place(&mut self)
         ensures keeps { Stays (TableTells S.tells self.old) (TableTells S.tells self.new) }
         ensures winds { Winds S.tells self.old.sessions self.new.sessions }
@@ -223,7 +222,6 @@ impl<S: Stream> Table<S> {
     }
 
     /// Gives a port of the session at a place its connection. It says whether there is such a port.
-    #[tactic(auto, using(crate::proofs::Closing::others_same))]
     pub(crate) fn attach(&mut self, place: usize, port: usize, stream: S, sending: Sending) -> bool
         requires { IsBegun sending }
         ensures keeps { IsIdleAt self.old.sessions place → Stays (TableTells S.tells self.old) (TableTells S.tells self.new) }
@@ -244,7 +242,6 @@ impl<S: Stream> Table<S> {
     }
 
     /// Has the connections of the session at a place begun at the first write to each.
-    #[tactic(auto, using(crate::proofs::Closing::others_same))]
     pub(crate) fn defer(&mut self, place: usize)
         ensures prepared { (k : ℕ) → IsPrepared S.tells self.old place k → IsPrepared S.tells self.new place k }
         ensures idle { IsIdleAt self.old.sessions place → IsIdleAt self.new.sessions place }
@@ -289,7 +286,6 @@ impl<S: Stream> Table<S> {
     }
 
     /// Opens the session at a place: it is found by its number from now on, which is above all others.
-    #[tactic(auto, using(crate::proofs::Closing::others_same))]
     pub(crate) fn announce(&mut self, number: u64, place: usize) -> bool
         ensures opens { result ≡ true → IsPrepared S.tells self.old place number → TableAnnounces S.tells number self.old self.new }
         ensures kept { result ≡ false → self.new ≡ self.old }
@@ -335,7 +331,6 @@ impl<S: Stream> Table<S> {
     }
 
     /// The number of the next open session that is to have a turn.
-    #[tactic(auto, using(crate::specs::Closing::winds_nowhere, crate::specs::Lines::moves_nowhere, crate::specs::Lines::grows_same))]
     pub(crate) fn next_ready(&mut self) -> Option<u64>
         ensures first { TakesFirst result self.old self.new }
         ensures names { Moves (TableTells S.tells self.old) (TableTells S.tells self.new) (NamesIfAny result) }
@@ -357,7 +352,6 @@ impl<S: Stream> Table<S> {
     }
 
     // Begins the turn of the first session that is to have one. A closed one has it here.
-    #[tactic(auto, using(crate::specs::Closing::winds_nowhere, crate::specs::Lines::moves_nowhere, crate::specs::Lines::grows_same))]
     fn turn_first(&mut self) -> Option<u64>
         ensures first { TakesFirst result self.old self.new }
         ensures names { Moves (TableTells S.tells self.old) (TableTells S.tells self.new) (NamesIfAny result) }
@@ -395,7 +389,6 @@ impl<S: Stream> Table<S> {
     }
 
     /// Sends what the sessions wrote, where these are many.
-    #[tactic(auto, using(crate::specs::Closing::winds_nowhere, crate::specs::Lines::moves_nowhere, crate::specs::Lines::grows_same))]
     pub(crate) fn send_where_many(&mut self)
         ensures keeps { Stays (TableTells S.tells self.old) (TableTells S.tells self.new) }
         ensures winds { Winds S.tells self.old.sessions self.new.sessions }
@@ -411,7 +404,6 @@ impl<S: Stream> Table<S> {
     }
 
     /// Sends what the sessions wrote. One whose connection fails in that is to have a turn.
-    #[tactic(auto, using(crate::specs::Closing::winds_nowhere, crate::specs::Lines::moves_nowhere, crate::specs::Lines::grows_same))]
     pub(crate) fn send(&mut self)
         ensures keeps { Stays (TableTells S.tells self.old) (TableTells S.tells self.new) }
         ensures sent { self.new.written.places.items ≡ [] }
@@ -427,7 +419,6 @@ impl<S: Stream> Table<S> {
     }
 
     // Sends what the first of them wrote.
-    #[tactic(auto, using(crate::specs::Closing::winds_nowhere, crate::specs::Lines::moves_nowhere, crate::specs::Lines::grows_same))]
     fn send_first(&mut self)
         ensures keeps { Stays (TableTells S.tells self.old) (TableTells S.tells self.new) }
         ensures taken { self.new.written.places.items ≡ drop 1 self.old.written.places.items }
@@ -450,7 +441,6 @@ impl<S: Stream> Table<S> {
     }
 
     /// Reads from a port of a session.
-    #[tactic(auto, using(crate::specs::Lines::grows_same))]
     pub(crate) fn read(&mut self, number: u64, port: usize, into: &mut [u8]) -> LinkGot
         requires { 0 < length into.old }
         ensures within { GotWithin into.new result }
@@ -476,7 +466,6 @@ impl<S: Stream> Table<S> {
 
     /// Writes to a port of a session.
     #[inline(always)]
-    #[tactic(auto, using(crate::specs::Lines::grows_same))]
     pub(crate) fn write(&mut self, number: u64, port: usize, from: &[u8]) -> LinkPut
         requires { 0 < length from.now }
         ensures within { TookWithin from.now result }
@@ -505,7 +494,6 @@ impl<S: Stream> Table<S> {
     }
 
     /// Closes a session. What was written to it is sent still.
-    #[tactic(auto, using(crate::specs::Closing::winds_nowhere, crate::specs::Lines::moves_nowhere, crate::specs::Lines::grows_same))]
     pub(crate) fn close(&mut self, number: u64)
         ensures leads { MovesAt number (TableTells S.tells self.old) (TableTells S.tells self.new) (Shuts number) }
         ensures sends { TableCloses S.tells number self.old self.new }
@@ -522,7 +510,6 @@ impl<S: Stream> Table<S> {
     }
 
     // Closes the session of an entry, and says at which place it stands.
-    #[tactic(auto, using(crate::specs::Closing::winds_nowhere, crate::specs::Lines::moves_nowhere, crate::specs::Lines::grows_same))]
     fn shut(&mut self, at: usize) -> usize
         requires { at < length self.old.entries.items }
         ensures closed { (world : World) → TableTells S.tells self.old world → IsClosedAt self.new.sessions result }
@@ -548,7 +535,6 @@ impl<S: Stream> Table<S> {
     }
 
     // Goes on with the end of the closed session at a place, and frees the place once it is over.
-    #[tactic(auto, using(crate::specs::Closing::winds_nowhere, crate::specs::Lines::moves_nowhere, crate::specs::Lines::grows_same))]
     fn wind_up(&mut self, place: usize)
         ensures ready { self.new.ready ≡ self.old.ready }
         ensures keeps { IsClosedAt self.old.sessions place → Stays (TableTells S.tells self.old) (TableTells S.tells self.new) }
@@ -574,7 +560,6 @@ impl<S: Stream> Table<S> {
     }
 
     // Lets the session at a place have a turn behind those that are reported next.
-    #[tactic(auto, using(crate::specs::Closing::winds_nowhere, crate::specs::Lines::moves_nowhere, crate::specs::Lines::grows_same))]
     fn put_behind(&mut self, place: usize)
         ensures ready { self.new.ready ≡ self.old.ready }
         ensures keeps { Stays (TableTells S.tells self.old) (TableTells S.tells self.new) }
@@ -595,7 +580,6 @@ impl<S: Stream> Table<S> {
     }
 
     /// Frees a place.
-    #[tactic(auto, using(crate::proofs::Closing::winds_freed, crate::proofs::Closing::others_freed))]
     pub(crate) fn release(&mut self, place: usize)
         ensures ready { self.new.ready ≡ self.old.ready }
         ensures keeps { IsIdleAt self.old.sessions place → Stays (TableTells S.tells self.old) (TableTells S.tells self.new) }
@@ -617,7 +601,6 @@ impl<S: Stream> Table<S> {
     }
 
     // Frees the place of the closed session that has waited longest for its peers' ends.
-    #[tactic(auto, using(crate::specs::Closing::winds_nowhere, crate::specs::Lines::moves_nowhere, crate::specs::Lines::grows_same))]
     fn give_up_one(&mut self)
         ensures keeps { Stays (TableTells S.tells self.old) (TableTells S.tells self.new) }
         ensures winds { Winds S.tells self.old.sessions self.new.sessions }
@@ -684,7 +667,6 @@ impl<S: Stream> Reports for Table<S> {
     ghost notes = { λ token news a b. NotesToken S.tells token news a b };
 
     /// Takes note of what was reported at a token, and lets its session have a turn if that is news.
-    #[tactic(auto, using(crate::specs::Closing::winds_nowhere, crate::specs::Lines::moves_nowhere, crate::specs::Lines::grows_same))]
     fn report(&mut self, token: usize, news: Readiness) {
         if self.settings.width == 0 {
             return;

@@ -1,4 +1,4 @@
-use Rattle.std.proofs.Common.{◌≡◌, ℕ, ◌<◌, ◌-◌, ◌^◌, refl, sym, subst}
+use Rattle.std.proofs.Common.{ℕ, ◌<◌, ◌-◌, ◌^◌, refl, sym, subst}
 use Rattle.mio_edge.specs.Closing.{winds_nowhere}
 use Rattle.mio_edge.specs.Numbers.{Passes}
 use Rattle.mio_edge.proofs.Worlds.{here_then, nothing_handed}

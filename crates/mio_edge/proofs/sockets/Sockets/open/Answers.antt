@@ -1,5 +1,6 @@
-use Rattle.std.proofs.Common.{true≢false, refl, sym, ◌∙◌, subst, arith, rules, ap, length, ◌≡◌, ◌++◌, Ok}
+use Rattle.std.proofs.Common.{true≢false, refl, sym, ◌∙◌, subst, arith, ap, length, ◌≡◌, ◌++◌, Ok}
 use Rattle.mio_edge.specs.Tables.{TableTells, empty_world}
+use Rattle.mio_edge.proofs.Advancing.{failed_begins, failed_unfound, not_answered}
 use Rattle.mio_edge.proofs.Numbered.{all_below}
 use Rattle.mio_edge.specs.Numbered.{AreBelow}
 use Rattle.gate_hub.specs.declared.hub.Began.TheVariants as began
@@ -29,7 +30,7 @@ invariant_of-self g c =
 
 pub returns-clause-leads : goal.returns-clause-leads
 returns-clause-leads g c = λ done.
-    let is : c.in_ok-found.found ≡ began.Done = search rules in
+    let is : c.in_ok-found.found ≡ began.Done = c.in-Done.is in
     let adds = c.in_ok-found.ensures.finds (ap (λ found. Ok found) is) in
     let all : c.find_targets.new.targets.items ≡ adds.0 = adds.1 ∙ ap (λ xs. xs ++ adds.0) c.in_ok-targets.ensures.items in
     let lead = subst (λ xs. LeadTo g.W.Network.names c.args.upstreams.now xs) (sym all) adds.2 in
@@ -43,5 +44,46 @@ returns-clause-leads g c = λ done.
 
 pub returns-clause-listens : goal.returns-clause-listens
 returns-clause-listens g c = λ done.
-    let is : c.without_place-began.result ≡ began.Done = search rules in
+    let is : c.without_place-began.result ≡ began.Done = c.in-Done-began.is in
     (c.in-Some.address, c.in-Some.ensures.address, c.listen.ensures (c.without_place-began.ensures.done is))
+
+pub returns-in_default : goal.returns-in_default
+returns-in_default g c =
+    let off = not_answered (Ok began.Failed) began.Failed began.Done refl failed_begins in record {
+      begins = λ is. absurd (off is);
+      keeps = λ other world told. told;
+      announced = refl;
+      accept = refl;
+      faults = refl;
+      place = λ at is. absurd (not_answered (Ok began.Failed) began.Failed (began.NotFound at) refl (failed_unfound at) is);
+      leads = λ is. absurd (off is);
+      listens = λ is. absurd (off is);
+    }
+
+pub returns-in_default-found : goal.returns-in_default-found
+returns-in_default-found g c =
+    let found = c.in_ok-found.found in
+    let off = not_answered (Ok found) found began.Done refl c.in_default-found.not-Done in record {
+      begins = λ is. absurd (off is);
+      keeps = λ other world told. record { is_telling = told.is_telling; at_once = told.at_once; sessions = told.sessions; below = told.below; stepped = told.stepped };
+      announced = refl;
+      accept = refl;
+      faults = refl;
+      place = c.in_ok-found.ensures.place;
+      leads = λ is. absurd (off is);
+      listens = λ is. absurd (off is);
+    }
+
+pub returns-in_default-began : goal.returns-in_default-began
+returns-in_default-began g c =
+    let answer = c.without_place-began.result in
+    let off = not_answered (Ok answer) answer began.Done refl c.in_default-began.not-Done in record {
+      begins = λ is. absurd (off is);
+      keeps = λ other world told. record { is_telling = told.is_telling; at_once = told.at_once; sessions = told.sessions; below = told.below; stepped = told.stepped };
+      announced = refl;
+      accept = refl;
+      faults = refl;
+      place = λ at is. absurd (not_answered (Ok answer) answer (began.NotFound at) refl (c.without_place-began.ensures.none at) is);
+      leads = λ is. absurd (off is);
+      listens = λ is. absurd (off is);
+    }

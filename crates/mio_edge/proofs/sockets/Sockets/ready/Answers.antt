@@ -1,4 +1,4 @@
-use Rattle.std.proofs.Common.{None, Some, ◌∙◌, subst, arith}
+use Rattle.std.proofs.Common.{Some, ◌∙◌, subst, arith}
 use Rattle.mio_edge.specs.Tables.{NamesIfAny}
 use Rattle.mio_edge.specs.Worlds.{SocketsTell}
 use Rattle.mio_edge.specs.Turning.{SocketsTurnIfTold}

@@ -1,6 +1,6 @@
 use Rattle.std.proofs.Common.{ℕ, ap, ◌∙◌, subst}
 use Rattle.mio_edge.specs.Tables.{Shuts}
-use Rattle.mio_edge.specs.Closing.{WindsAt, winds_on}
+use Rattle.mio_edge.specs.Closing.{WindsAt, winds_on, winds_nowhere}
 use Rattle.mio_edge.specs.Order.{Grows}
 use Rattle.mio_edge.proofs.Stepping.{wound_stepped}
 use Rattle.mio_edge.proofs.table.Table.close.Goals as goal
@@ -32,3 +32,6 @@ returns-in-Some-clause-below g c = λ next below. c.wind_up.ensures.below next (
 
 pub returns-in-Some-clause-stepped : goal.returns-in-Some-clause-stepped
 returns-in-Some-clause-stepped g c = λ stepped. wound_stepped c.shut-place.result c.shut-place.new.self.sessions c.wind_up.new.self.sessions (c.shut-place.ensures.stepped stepped) c.wind_up.ensures.others c.wind_up.ensures.sent c.wind_up.ensures.told
+
+pub returns-in_default-clause-winds : goal.returns-in_default-clause-winds
+returns-in_default-clause-winds g c = winds_nowhere g.S.Stream.tells c.args.self.now.sessions

@@ -1,4 +1,5 @@
 use Rattle.mio_edge.proofs.Stepping.{any_stepped, free_stepped}
+use Rattle.mio_edge.specs.Closing.{winds_nowhere}
 use Rattle.mio_edge.proofs.table.Table.give_up_one.Goals as goal
 
 pub returns-in-Some-clause-keeps : goal.returns-in-Some-clause-keeps
@@ -14,3 +15,6 @@ pub returns-in-Some-clause-stepped : goal.returns-in-Some-clause-stepped
 returns-in-Some-clause-stepped g c = λ stepped.
     let a = c.args.self.now.sessions in
     free_stepped c.in-Some.place a c.release.new.self.sessions (any_stepped c.in-Some.place a stepped) c.release.ensures.others c.release.ensures.free
+
+pub returns-in_default-clause-winds : goal.returns-in_default-clause-winds
+returns-in_default-clause-winds g c = winds_nowhere g.S.Stream.tells c.args.self.now.sessions

@@ -3,7 +3,7 @@ use Rattle.mio_edge.proofs.Standing.{stood_behind, rest_same, rest_written, put_
 use Rattle.mio_edge.proofs.Tables.{kept_at}
 use Rattle.mio_edge.proofs.Closing.{winds_same, flushed_at, others_put}
 use Rattle.mio_edge.proofs.Steps.{stays_put}
-use Rattle.mio_edge.specs.Closing.{AreFlushed}
+use Rattle.mio_edge.specs.Closing.{AreFlushed, winds_nowhere}
 use Rattle.mio_edge.specs.Closing.{TellsItsEnd}
 use Rattle.mio_edge.specs.Sessions.{EachPort}
 use Rattle.mio_edge.proofs.Places.{each_at}
@@ -58,3 +58,6 @@ returns-in-Some-clause-told g c = λ told.
 
 pub returns-in-Some-clause-below : goal.returns-in-Some-clause-below
 returns-in-Some-clause-below g c = below_put c.args.self.now.sessions c.args.place c.in-Some.session.now c.stand_in.new.self (sym c.in-Some.ensures.value) (ap (λ x. x.number) c.stand_in.ensures.rest)
+
+pub returns-in_default-clause-winds : goal.returns-in_default-clause-winds
+returns-in_default-clause-winds g c = winds_nowhere g.S.Stream.tells c.args.self.now.sessions

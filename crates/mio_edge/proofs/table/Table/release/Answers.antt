@@ -45,3 +45,15 @@ returns-then-len-capacity-clause-below g c = below_freed c.args.self.now.session
 
 pub returns-else-len-capacity-clause-below : goal.returns-else-len-capacity-clause-below
 returns-else-len-capacity-clause-below g c = below_freed c.args.self.now.sessions c.try_remove.new.self c.args.place c.in-Some.ensures.updates
+
+pub returns-in_default-clause-winds : goal.returns-in_default-clause-winds
+returns-in_default-clause-winds g c = λ settled. winds_freed g.S.Stream.tells c.args.self.now.sessions c.try_remove.new.self c.args.place c.in_default.ensures.updates settled
+
+pub returns-in_default-clause-others : goal.returns-in_default-clause-others
+returns-in_default-clause-others g c = others_freed c.args.self.now.sessions c.try_remove.new.self c.args.place c.in_default.ensures.updates
+
+pub returns-in_default-clause-free : goal.returns-in_default-clause-free
+returns-in_default-clause-free g c = c.in_default.ensures.updates.changed
+
+pub returns-in_default-clause-below : goal.returns-in_default-clause-below
+returns-in_default-clause-below g c = below_freed c.args.self.now.sessions c.try_remove.new.self c.args.place c.in_default.ensures.updates

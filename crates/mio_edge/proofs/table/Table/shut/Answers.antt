@@ -7,6 +7,7 @@ use Rattle.mio_edge.proofs.Turns.{queues_still}
 use Rattle.mio_edge.proofs.Closing.{shut_winds, winds_same}
 use Rattle.mio_edge.proofs.Numbered.{below_put}
 use Rattle.mio_edge.proofs.Stepping.{any_stepped, others_stepped}
+use Rattle.mio_edge.specs.Closing.{winds_nowhere}
 use Rattle.mio_edge.proofs.table.Table.shut.Goals as goal
 
 pub returns-in_default-clause-closed : goal.returns-in_default-clause-closed
@@ -84,3 +85,6 @@ returns-then-len-capacity-clause-stepped g c = others_stepped c.args.self.now.se
 
 pub returns-else-len-capacity-clause-stepped : goal.returns-else-len-capacity-clause-stepped
 returns-else-len-capacity-clause-stepped g c = others_stepped c.args.self.now.sessions c.remove-place.result.place c.in-Some.session.now (record c.in-Some.session.now { is_open = false }) (sym c.in-Some.ensures.value)
+
+pub returns-in_default-clause-winds : goal.returns-in_default-clause-winds
+returns-in_default-clause-winds g c = winds_nowhere g.S.Stream.tells c.args.self.now.sessions

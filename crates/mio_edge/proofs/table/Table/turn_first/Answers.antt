@@ -8,7 +8,7 @@ use Rattle.mio_edge.specs.declared.session.Session.{Session}
 use Rattle.mio_edge.proofs.Standing.{not_free, put_twice, put_over, written_down, not_down, stood_from, from_rest}
 use Rattle.mio_edge.proofs.Tables.{moved_at, still_closed, named_at, session_named}
 use Rattle.mio_edge.proofs.Turns.{queues_popped}
-use Rattle.mio_edge.specs.Closing.{winds_on}
+use Rattle.mio_edge.specs.Closing.{winds_nowhere, winds_on}
 use Rattle.mio_edge.proofs.Closing.{winds_same, winds_open, others_put, others_on}
 use Rattle.mio_edge.proofs.Steps.{no_turn, one_turn, lost_turn, open_turn, stays_put, stays_on}
 use Rattle.mio_edge.specs.Lines.{grows_same, line_first, none_closed}
@@ -278,3 +278,15 @@ returns-then-write_down-clause-stepped g c = λ world told. stepped_put c.args.s
 pub returns-clause-stepped : goal.returns-clause-stepped
 returns-clause-stepped g c =
     λ world told. stepped_put c.args.self.now.sessions c.in-Some.place c.in-Some-get_mut.session.now c.stand_in.new.self (sym c.in-Some-get_mut.ensures.value) (λ was. open_stepped c.stand_in.new.self (ap (λ x. x.is_open) c.stand_in.ensures.rest ∙ (ap (λ x. x.is_open) c.write_down.ensures.rest ∙ (c.begin_turn.ensures.still.is_open ∙ c.if-not-session.false))))
+
+pub returns-in_default-clause-winds : goal.returns-in_default-clause-winds
+returns-in_default-clause-winds g c = winds_nowhere g.S.Stream.tells c.args.self.now.sessions
+
+pub returns-in_default-clause-stepped : goal.returns-in_default-clause-stepped
+returns-in_default-clause-stepped g c = λ world told stepped. stepped
+
+pub returns-in_default-get_mut-clause-winds : goal.returns-in_default-get_mut-clause-winds
+returns-in_default-get_mut-clause-winds g c = winds_nowhere g.S.Stream.tells c.args.self.now.sessions
+
+pub returns-in_default-get_mut-clause-stepped : goal.returns-in_default-get_mut-clause-stepped
+returns-in_default-get_mut-clause-stepped g c = λ world told stepped. stepped

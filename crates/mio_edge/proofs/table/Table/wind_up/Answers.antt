@@ -1,7 +1,7 @@
 use Rattle.std.proofs.Common.{sym, ◌∙◌}
 use Rattle.mio_edge.proofs.Standing.{closed_moved, put_idle}
 use Rattle.slab.specs.Slab.{with_value}
-use Rattle.mio_edge.specs.Closing.{winds_on}
+use Rattle.mio_edge.specs.Closing.{winds_on, winds_nowhere}
 use Rattle.mio_edge.proofs.Closing.{winds_moved, settled_at, flushed_at, flushed_none, others_put, others_on}
 use Rattle.mio_edge.proofs.Steps.{stays_put, stays_on, stays_free}
 use Rattle.mio_edge.specs.Lines.{grows_same}
@@ -136,3 +136,6 @@ returns-in-Unread-clause-below g c = λ next below. c.put_behind.ensures.below n
 
 pub returns-in-Gone-2-clause-below : goal.returns-in-Gone-2-clause-below
 returns-in-Gone-2-clause-below g c = λ next below. c.release.ensures.below next (below_put c.args.self.now.sessions c.args.place c.in-Some.session.now c.wind_up.new.self (sym c.in-Some.ensures.value) c.wind_up.ensures.still.number next below)
+
+pub returns-in_default-clause-winds : goal.returns-in_default-clause-winds
+returns-in_default-clause-winds g c = winds_nowhere g.S.Stream.tells c.args.self.now.sessions
