@@ -53,6 +53,7 @@ pub(crate) fn hand_out(held: &mut Out, into: &mut [u8]) -> usize
 }
 
 /// Takes as many of the bytes as there is room for.
+#[inline(always)]
 pub(crate) fn take_in(held: &mut Out, from: &[u8]) -> LinkPut
     requires { 0 < length from.now }
     ensures within { TookWithin from.now result }

@@ -240,6 +240,7 @@ impl<S: Stream> Port<S> {
     }
 
     /// Takes what has room in the buffer, which is sent first where it is full.
+    #[inline(always)]
     pub(crate) fn write(&mut self, from: &[u8]) -> LinkPut
         requires { 0 < length from.now }
         ensures within { TookWithin from.now result }
