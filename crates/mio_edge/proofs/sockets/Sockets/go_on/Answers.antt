@@ -4,14 +4,13 @@ use Rattle.mio_edge.proofs.sockets.Sockets.go_on.Goals as goal
 
 pub returns-in-Here : goal.returns-in-Here
 returns-in-Here g c =
-    let here = c.in-Here.ensures in
-    let number = c.in-Here.number in record {
+    let here = c.in-Here.ensures in record {
       moves = here.opens;
       numbers = (here.number.0, here.announced);
-      running = opened_stops number;
+      running = opened_stops _;
       accept = c.accept_next.ensures.accept;
       later = omega (arith, c.accept_next.ensures.faults);
-      cause = λ is. absurd (opened_fails number is);
+      cause = λ is. absurd (opened_fails _ is);
       winds = c.accept_next.ensures.winds;
       turn = tt;
       same = c.accept_next.ensures.same;
