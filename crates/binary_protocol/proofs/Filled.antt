@@ -1,5 +1,5 @@
 -- Cells that were lent and filled to their end.
-use Rattle.std.proofs.Common.{◌≡◌, ◌≤◌, ℕ, List, length, take, arith, sym, ◌∙◌}
+use Rattle.std.proofs.Common.{◌≡◌, ℕ, List, length, take, arith, sym, ◌∙◌}
 use Rattle.std.proofs.lemmas.List.{take_all}
 use Rattle.gate_io.specs.Tails.{written_over}
 use Rattle.gate_io.proofs.Tails.{written_all}

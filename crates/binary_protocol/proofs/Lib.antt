@@ -1,3 +1,4 @@
 -- Lemmas.
 pub mod Doubles
 pub mod Filled
+pub mod Places

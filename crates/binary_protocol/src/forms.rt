@@ -1,5 +1,5 @@
 //! One item at the front of some bytes, by value. None says nothing of the bytes.
-ghost use Rattle.std.specs.Prelude.{◌≡◌, ◌≤◌, ◌+◌, ◌^◌, ◌<◌, drop, take, length, slice_index, Ok, IfSome};
+ghost use Rattle.std.specs.Prelude.{◌≡◌, ◌≤◌, ◌+◌, ◌-◌, ◌^◌, ◌<◌, drop, take, length, slice_index, Ok, IfSome};
 ghost use Rattle.std.specs.Int.{w64, to_be_bytes};
 ghost use Rattle.thrift_value.specs.declared.kind.Kind.{Kind};
 ghost use Rattle.thrift_value.specs.Items.{bool_value, i8_value, i16_value, i32_value, i64_value, double_value};
@@ -12,19 +12,22 @@ use crate::codes::{kind_of_code, type_of_code};
 use protocol_traits::{Head, Lead};
 use thrift_value::{Kind, MessageType};
 
-/// A field's kind and id or the end of the struct, and the number of bytes.
+/// A field's kind and id or the end of the struct, at a place of a frame, and the place behind it.
 #[inline(always)]
-pub fn lead_front(bytes: &[u8]) -> Option<(Lead, i16, usize)>
-    ensures within { IfSome result (λ x. x.2 ≤ length bytes.now) }
-    ensures found { IfSome result (λ x. IsGood x.0 → Finds bytes.now (field_at bytes.now) (lead_item x.0 x.1) x.2) }
+pub fn lead_from(frame: &[u8], at: usize) -> Option<(Lead, i16, usize)>
+    requires { at ≤ length frame.now }
+    ensures within { IfSome result (λ x. (at ≤ x.2) × (x.2 ≤ length frame.now)) }
+    ensures found { IfSome result (λ x. IsGood x.0 → Finds (drop at frame.now) (field_at (drop at frame.now)) (lead_item x.0 x.1) (x.2 - at)) }
 {
-    if bytes.len() >= 3 {
+    let behind = at + 3;
+    if behind <= frame.len() {
+        let bytes = &frame[at..behind];
         let id = i16::from_be_bytes([bytes[1], bytes[2]]);
         let (lead, taken) = lead_of(bytes[0]);
-        return Some((lead, id, taken));
+        return Some((lead, id, at + taken));
     }
-    if !bytes.is_empty() && bytes[0] == 0 {
-        return Some((Lead::Stop, 0, 1));
+    if at < frame.len() && frame[at] == 0 {
+        return Some((Lead::Stop, 0, at + 1));
     }
     None
 }
@@ -133,56 +136,81 @@ pub fn i8_front(bytes: &[u8]) -> Option<i8>
     Some(i8::from_be_bytes([bytes[0]]))
 }
 
-/// An i16, in two bytes.
+/// An i16, at a place of a frame, and the place behind it.
 #[inline(always)]
 #[tactic(auto, unfolding(crate::specs::Scan::i16_at))]
-pub fn i16_front(bytes: &[u8]) -> Option<i16>
-    ensures { IfSome result (λ n. Finds bytes.now (i16_at bytes.now) (i16_value n) 2) }
+pub fn i16_from(frame: &[u8], at: usize) -> Option<(i16, usize)>
+    requires { at ≤ length frame.now }
+    ensures place { IfSome result (λ x. x.1 ≡ at + 2) }
+    ensures found { IfSome result (λ x. Finds (drop at frame.now) (i16_at (drop at frame.now)) (i16_value x.0) 2) }
 {
-    if bytes.len() < 2 {
+    let behind = at + 2;
+    if behind > frame.len() {
         return None;
     }
-    Some(i16::from_be_bytes([bytes[0], bytes[1]]))
+    let bytes = &frame[at..behind];
+    Some((i16::from_be_bytes([bytes[0], bytes[1]]), behind))
 }
 
-/// An i32, in four bytes.
+/// An i32, likewise.
 #[inline(always)]
 #[tactic(auto, unfolding(crate::specs::Scan::i32_at))]
-pub fn i32_front(bytes: &[u8]) -> Option<i32>
-    ensures { IfSome result (λ n. Finds bytes.now (i32_at bytes.now) (i32_value n) 4) }
+pub fn i32_from(frame: &[u8], at: usize) -> Option<(i32, usize)>
+    requires { at ≤ length frame.now }
+    ensures place { IfSome result (λ x. x.1 ≡ at + 4) }
+    ensures found { IfSome result (λ x. Finds (drop at frame.now) (i32_at (drop at frame.now)) (i32_value x.0) 4) }
 {
-    if bytes.len() < 4 {
+    let behind = at + 4;
+    if behind > frame.len() {
         return None;
     }
-    Some(i32::from_be_bytes([bytes[0], bytes[1], bytes[2], bytes[3]]))
+    let bytes = &frame[at..behind];
+    Some((
+        i32::from_be_bytes([bytes[0], bytes[1], bytes[2], bytes[3]]),
+        behind,
+    ))
 }
 
-/// An i64, in eight bytes.
+/// An i64, likewise.
 #[inline(always)]
 #[tactic(auto, unfolding(crate::specs::Scan::i64_at))]
-pub fn i64_front(bytes: &[u8]) -> Option<i64>
-    ensures { IfSome result (λ n. Finds bytes.now (i64_at bytes.now) (i64_value n) 8) }
+pub fn i64_from(frame: &[u8], at: usize) -> Option<(i64, usize)>
+    requires { at ≤ length frame.now }
+    ensures place { IfSome result (λ x. x.1 ≡ at + 8) }
+    ensures found { IfSome result (λ x. Finds (drop at frame.now) (i64_at (drop at frame.now)) (i64_value x.0) 8) }
 {
-    if bytes.len() < 8 {
+    let behind = at + 8;
+    if behind > frame.len() {
         return None;
     }
-    Some(i64::from_be_bytes([
-        bytes[0], bytes[1], bytes[2], bytes[3], bytes[4], bytes[5], bytes[6], bytes[7],
-    ]))
+    let bytes = &frame[at..behind];
+    Some((
+        i64::from_be_bytes([
+            bytes[0], bytes[1], bytes[2], bytes[3], bytes[4], bytes[5], bytes[6], bytes[7],
+        ]),
+        behind,
+    ))
 }
 
 /// A double's eight bytes, as the number that they make big endian.
 #[inline(always)]
 #[tactic(auto, unfolding(crate::specs::Scan::double_at))]
-pub fn double_front(bytes: &[u8]) -> Option<u64>
-    ensures { IfSome result (λ n. Finds bytes.now (double_at bytes.now) (double_value (to_be_bytes w64 n)) 8) }
+pub fn double_from(frame: &[u8], at: usize) -> Option<(u64, usize)>
+    requires { at ≤ length frame.now }
+    ensures place { IfSome result (λ x. x.1 ≡ at + 8) }
+    ensures found { IfSome result (λ x. Finds (drop at frame.now) (double_at (drop at frame.now)) (double_value (to_be_bytes w64 x.0)) 8) }
 {
-    if bytes.len() < 8 {
+    let behind = at + 8;
+    if behind > frame.len() {
         return None;
     }
-    Some(u64::from_be_bytes([
-        bytes[0], bytes[1], bytes[2], bytes[3], bytes[4], bytes[5], bytes[6], bytes[7],
-    ]))
+    let bytes = &frame[at..behind];
+    Some((
+        u64::from_be_bytes([
+            bytes[0], bytes[1], bytes[2], bytes[3], bytes[4], bytes[5], bytes[6], bytes[7],
+        ]),
+        behind,
+    ))
 }
 
 /// A size or length, in four bytes.
@@ -209,6 +237,30 @@ pub fn length_front(bytes: &[u8]) -> Option<usize>
         return None;
     }
     Some(size)
+}
+
+/// Where a text of a frame begins and ends whose length stands at a place.
+#[inline(always)]
+#[tactic(auto, unfolding(crate::specs::Scan::string_at, crate::specs::Scan::size_at))]
+pub fn text_from(frame: &[u8], at: usize) -> Option<(usize, usize)>
+    requires { at ≤ length frame.now }
+    ensures place { IfSome result (λ x. (x.0 ≡ at + 4) × (x.0 ≤ x.1)) }
+    ensures found { IfSome result (λ x. Finds (drop at frame.now) (string_at (drop at frame.now)) (take (x.1 - x.0) (drop x.0 frame.now)) (x.1 - at)) }
+{
+    let begin = at + 4;
+    if begin > frame.len() {
+        return None;
+    }
+    let bytes = &frame[at..begin];
+    let size = u32::from_be_bytes([bytes[0], bytes[1], bytes[2], bytes[3]]);
+    if size >= 0x8000_0000 {
+        return None;
+    }
+    let behind = begin + size as usize;
+    if behind > frame.len() {
+        return None;
+    }
+    Some((begin, behind))
 }
 
 /// What stands before the elements of a list or set, in five bytes.

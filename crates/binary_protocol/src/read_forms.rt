@@ -12,8 +12,8 @@ ghost use Rattle.binary_protocol.specs.Reading.{begun, reads_head};
 ghost use Rattle.binary_protocol.specs.Forms.{stands_at, next_read, whole_ends};
 
 use crate::forms::{
-    bool_front, double_front, elements_front, head_front, i8_front, i16_front, i32_front,
-    i64_front, lead_front, length_front, pairs_front,
+    bool_front, double_from, elements_front, head_front, i8_front, i16_from, i32_from, i64_from,
+    lead_from, pairs_front, text_from,
 };
 use crate::reader::BinaryRead;
 use protocol_traits::{
@@ -62,8 +62,7 @@ impl<'f> FormRead for BinaryRead<'f> {
         ensures past { IfSome result (λ x. (x.0 ≡ Lead.Bad → ⊥) → IsPast at frame.now x.2) }
         ensures steps { IfSome result (λ x. StepsLead next_read stands_at frame.now at opening last x.0 x.1 x.2) }
     {
-        let (lead, id, taken) = lead_front(&frame[at..])?;
-        Some((lead, id, at + taken))
+        lead_from(frame, at)
     }
 
     #[inline(always)]
@@ -103,8 +102,7 @@ impl<'f> FormRead for BinaryRead<'f> {
         ensures past { IfSome result (λ x. IsPast at frame.now x.1) }
         ensures steps { IfSome result (λ x. StepsValue next_read stands_at frame.now at stand Kind.I16 (i16_value x.0) x.1) }
     {
-        let value = i16_front(&frame[at..])?;
-        Some((value, at + 2))
+        i16_from(frame, at)
     }
 
     #[inline(always)]
@@ -113,8 +111,7 @@ impl<'f> FormRead for BinaryRead<'f> {
         ensures past { IfSome result (λ x. IsPast at frame.now x.1) }
         ensures steps { IfSome result (λ x. StepsValue next_read stands_at frame.now at stand Kind.I32 (i32_value x.0) x.1) }
     {
-        let value = i32_front(&frame[at..])?;
-        Some((value, at + 4))
+        i32_from(frame, at)
     }
 
     #[inline(always)]
@@ -123,8 +120,7 @@ impl<'f> FormRead for BinaryRead<'f> {
         ensures past { IfSome result (λ x. IsPast at frame.now x.1) }
         ensures steps { IfSome result (λ x. StepsValue next_read stands_at frame.now at stand Kind.I64 (i64_value x.0) x.1) }
     {
-        let value = i64_front(&frame[at..])?;
-        Some((value, at + 8))
+        i64_from(frame, at)
     }
 
     #[inline(always)]
@@ -133,8 +129,7 @@ impl<'f> FormRead for BinaryRead<'f> {
         ensures past { IfSome result (λ x. IsPast at frame.now x.1) }
         ensures steps { IfSome result (λ x. StepsValue next_read stands_at frame.now at stand Kind.Double (double_item x.0) x.1) }
     {
-        let value = double_front(&frame[at..])?;
-        Some((value, at + 8))
+        double_from(frame, at)
     }
 
     #[inline(always)]
@@ -162,9 +157,7 @@ impl<'f> FormRead for BinaryRead<'f> {
         ensures part { IfSome result (λ x. (at < x.begin) × (x.begin ≤ x.end) × (x.end ≤ x.behind)) }
         ensures steps { IfSome result (λ x. StepsText next_read stands_at false hint frame.now at stand (part frame.now x.begin x.end) x.behind) }
     {
-        let size = length_front(&frame[at..])?;
-        let begin = at + 4;
-        let behind = begin + size;
+        let (begin, behind) = text_from(frame, at)?;
         Some(Span {
             begin,
             end: behind,

@@ -56,12 +56,9 @@ impl FormWrite for BinaryWrite {
         id: i16,
         value: bool,
     ) -> usize {
-        let [high, low] = id.to_be_bytes();
-        lay(
-            cells,
-            to,
-            &[code_of_kind(Kind::Bool), high, low, value as u8],
-        )
+        let to = lay(cells, to, &[code_of_kind(Kind::Bool)]);
+        let to = lay(cells, to, &id.to_be_bytes());
+        lay(cells, to, &[value as u8])
     }
 
     #[inline(always)]
@@ -139,8 +136,8 @@ impl FormWrite for BinaryWrite {
         kind: Kind,
         size: u32,
     ) -> Option<usize> {
-        let [a, b, c, d] = size.to_be_bytes();
-        Some(lay(cells, to, &[code_of_kind(kind), a, b, c, d]))
+        let to = lay(cells, to, &[code_of_kind(kind)]);
+        Some(lay(cells, to, &size.to_be_bytes()))
     }
 
     #[inline(always)]
@@ -173,10 +170,6 @@ fn lay_pairs(cells: &mut [u8], to: usize, key: Kind, value: Kind, size: u32) -> 
     ensures laid { take result cells.new ≡ take to cells.old ++ (code_of_kind key ∷ code_of_kind value ∷ size_of size) }
     ensures place { result ≡ to + 6 }
 {
-    let [a, b, c, d] = size.to_be_bytes();
-    lay(
-        cells,
-        to,
-        &[code_of_kind(key), code_of_kind(value), a, b, c, d],
-    )
+    let to = lay(cells, to, &[code_of_kind(key), code_of_kind(value)]);
+    lay(cells, to, &size.to_be_bytes())
 }

@@ -1,10 +1,10 @@
 //! Bytes laid into cells from a place on, each call by value: it is told the place and answers the one behind.
 //!
-//! A short part of a frame is copied by sixteen or 32 bytes, whose number is known when the code is built, so cells
-//! behind the answer may be written over.
+//! A short part of a frame is copied by sixteen bytes or twice as many, whose number is known when the code is built, so
+//! cells behind the answer may be written over.
 #![tactic(auto)]
 
-ghost use Rattle.std.specs.Prelude.{◌≡◌, ◌+◌, ◌-◌, ◌≤◌, ◌++◌, length, take, drop};
+ghost use Rattle.std.specs.Prelude.{◌≡◌, ◌+◌, ◌-◌, ◌≤◌, ◌<◌, ◌++◌, length, take, drop};
 
 /// How many cells behind a place `lay_part` may write over.
 pub const SLACK: usize = 32;
@@ -51,8 +51,8 @@ pub fn lay_part(cells: &mut [u8], to: usize, frame: &[u8], begin: usize, end: us
     let left = frame.len() - begin;
     if count <= HALF && left >= HALF {
         lay_wide::<HALF>(cells, to, frame, begin, count)
-    } else if count <= SLACK && left >= SLACK {
-        lay_wide::<SLACK>(cells, to, frame, begin, count)
+    } else if count >= HALF && count <= SLACK {
+        lay_ends::<HALF>(cells, to, &frame[begin..], count)
     } else {
         lay_apart(cells, to, &frame[begin..], count)
     }
@@ -87,13 +87,32 @@ fn lay_front(cells: &mut [u8], to: usize, part: &[u8], count: usize) -> usize
     ensures laid { take result cells.new ≡ take to cells.old ++ take count part.now }
     ensures place { result ≡ to + count }
 {
-    match count {
-        1 => lay_ends::<1>(cells, to, part, count),
-        2..=3 => lay_ends::<2>(cells, to, part, count),
-        4..=7 => lay_ends::<4>(cells, to, part, count),
-        8..=15 => lay_ends::<8>(cells, to, part, count),
-        16..=31 => lay_ends::<16>(cells, to, part, count),
-        _ => lay(cells, to, &part[..count]),
+    if count < 8 {
+        lay_few(cells, to, part, count)
+    } else if count < 16 {
+        lay_ends::<8>(cells, to, part, count)
+    } else if count < 32 {
+        lay_ends::<16>(cells, to, part, count)
+    } else {
+        lay(cells, to, &part[..count])
+    }
+}
+
+// The first bytes of a part, fewer than eight.
+#[inline(always)]
+fn lay_few(cells: &mut [u8], to: usize, part: &[u8], count: usize) -> usize
+    requires room { to + count ≤ length cells.old }
+    requires bytes { count ≤ length part.now }
+    requires few { count < 8 }
+    ensures laid { take result cells.new ≡ take to cells.old ++ take count part.now }
+    ensures place { result ≡ to + count }
+{
+    if count >= 4 {
+        lay_ends::<4>(cells, to, part, count)
+    } else if count >= 2 {
+        lay_ends::<2>(cells, to, part, count)
+    } else {
+        lay(cells, to, &part[..count])
     }
 }
 

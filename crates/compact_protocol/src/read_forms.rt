@@ -160,10 +160,10 @@ impl<'f> FormRead for CompactRead<'f> {
         ensures steps { IfSome result (λ x. StepsText next_read stands_at false hint frame.now at stand (part frame.now x.begin x.end) x.behind) }
     {
         let (size, begin) = size_from(frame, at)?;
-        if frame.len() - begin < size as usize {
+        let behind = begin + size as usize;
+        if behind > frame.len() {
             return None;
         }
-        let behind = begin + size as usize;
         Some(Span {
             begin,
             end: behind,

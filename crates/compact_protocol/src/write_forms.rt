@@ -198,6 +198,7 @@ fn lay_field(cells: &mut [u8], to: usize, last: i16, id: i16, code: u8) -> usize
 }
 
 /// Lays a field's kind, and its id in full.
+#[cold]
 #[inline(never)]
 fn lay_long_field(cells: &mut [u8], to: usize, id: i16, code: u8) -> usize
     requires { to + 9 ≤ length cells.old }

@@ -1,10 +1,10 @@
 -- A number that is read group by group: what the groups so far carry, and what the bytes behind them add.
-use Rattle.std.proofs.Common.{◌≡◌, ℕ, zero, suc, ◌+◌, ◌-◌, ◌*◌, ◌%◌, ◌^◌, ◌<◌, ◌≤◌, ◌⊎◌, inl, inr, List, [], ◌∷◌, length, drop, get_or, Ok, Err, arith, refl, sym, ◌∙◌, ap, add-one, drop-cons}
+use Rattle.std.proofs.Common.{◌≡◌, ℕ, zero, suc, ◌+◌, ◌-◌, ◌*◌, ◌%◌, ◌^◌, ◌<◌, ◌≤◌, ◌⊎◌, inl, inr, List, [], ◌∷◌, length, drop, get_or, Ok, Err, arith, refl, sym, ◌∙◌, ap, add-one, add-zero, drop-cons, length-drop}
 use Rattle.std.specs.Prelude.{Result}
 use Rattle.std.proofs.Math.Nat.{add-mul, mul_assoc, mul-le-mul_right}
 use Rattle.std.proofs.Math.Pow.{pow_mono}
 use Rattle.std.proofs.lemmas.Nat.{pow-add}
-use Rattle.std.proofs.lemmas.List.{drop_all}
+use Rattle.std.proofs.lemmas.List.{drop_all, get_or-drop}
 use Rattle.std.proofs.lemmas.Bool.Decides.{nat_tests}
 use Rattle.varint_zigzag.specs.declared.fault.VarFault.{VarFault}
 use Rattle.varint_zigzag.specs.declared.fault.VarFault.TheVariants.{Short, Bad}
@@ -144,6 +144,12 @@ single_front [] some last most width m w = absurd (omega arith)
 single_front (b ∷ bs) some last most width m w =
     let wide : 2 ^ 7 ≤ 2 ^ width = pow_mono w in
     last_front most width b bs m (omega (arith, wide)) last
+
+-- the same behind a place
+pub single_there : (at : ℕ) (bytes : List ℕ) → at < length bytes → get_or bytes at 0 < 128 → (most width : ℕ) → 0 < most → 7 ≤ width → varint_at most width (drop at bytes) ≡ Ok (get_or bytes at 0, 1)
+single_there at bytes some last most width m w =
+    let first : get_or (drop at bytes) 0 0 ≡ get_or bytes at 0 = get_or-drop at bytes 0 0 ∙ ap (λ k. get_or bytes k 0) (add-zero at) in
+    single_front (drop at bytes) (omega (arith, length-drop at bytes)) (omega (arith, first)) most width m w ∙ ap (λ n. Ok (n, 1)) first
 
 -- no bit of a group is shifted out
 pub whole : (low number shift : ℕ) → number + low * 2 ^ shift < 2 ^ 64 → low * 2 ^ shift % 18446744073709551616 ≡ low * 2 ^ shift

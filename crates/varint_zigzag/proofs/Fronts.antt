@@ -6,13 +6,15 @@ use Rattle.std.specs.Int.{w8, w64, from_le_bytes}
 use Rattle.std.specs.List.{prefix_len}
 use Rattle.std.proofs.lemmas.List.{get_or-drop, length-take-le}
 use Rattle.std.proofs.lemmas.Bool.Decides.{nat_tests}
-use Rattle.std.proofs.lemmas.Nat.{and_mask, mod-pow-add, pow-add, pow_pos}
+use Rattle.std.proofs.lemmas.Nat.{and_mask, and_block, mod-pow-add, pow-add, pow_pos}
+use Rattle.std.proofs.lemmas.Nat.Bits.{and_high}
 use Rattle.std.proofs.Math.Pow.{pow_mono}
+use Rattle.std.proofs.Math.Nat.{pow-succ'}
 use Rattle.std.specs.Simd.Lanes.{number_l}
 use lib.Count.{count_trailing_zeros}
 use Rattle.varint_zigzag.specs.Varint.{varint_at, below}
 use Rattle.varint_zigzag.specs.Bounds.{at_last, at_more}
-use Rattle.varint_zigzag.specs.Places.{found_at, is_last, end_mark, IsEnded, groups_of, IsFront, AllBelow, AreGroups}
+use Rattle.varint_zigzag.specs.Places.{found_at, is_last, end_mark, IsEnded, groups_of, groups_in, IsFront, AllBelow, AreGroups}
 use Rattle.varint_zigzag.proofs.Groups.{high_fits}
 use Rattle.varint_zigzag.proofs.Words.{lanes_and}
 use Rattle.varint_zigzag.proofs.Ends.{lowest_mark}
@@ -214,42 +216,154 @@ unfolding lows
 masked_lows bytes long small =
     subst (λ n. bit_and (number_l 256 bytes) (number_l 256 (replicate n 127)) ≡ number_l 256 (map (λ b. bit_and b 127) bytes)) long (lanes_and 8 127 bytes (omega arith) small)
 
--- the bits of the bytes before the one that ends the number, and of it
-cut_word : (word mask before : ℕ) → mask ≡ 2 ^ (8 * (before + 1)) - 1 → bit_and word mask ≡ word % 2 ^ (8 * suc before)
-cut_word word mask before is =
-    let own : mask ≡ 2 ^ (8 * suc before) - 1 = is ∙ ap (λ n. 2 ^ (8 * n) - 1) (add-one before) in
-    ap (bit_and word) own ∙ and_mask word (8 * suc before)
+-- ---- the word up to the lowest mark
 
--- what is gathered from a word is the number
-pub front_number : (bytes : List ℕ) (word mask before number : ℕ) → 8 ≤ length bytes → ((k : ℕ) → Fits w8 (get_or bytes k 0)) → before < 8 → word ≡ number_l 256 (take 8 bytes)
-    → mask ≡ 2 ^ (8 * (before + 1)) - 1 → ((groups : List ℕ) → AreGroups groups → bit_and (bit_and word mask) 9187201950435737471 ≡ number_l 256 groups → number ≡ number_l 128 groups)
-    → number ≡ groups_of (suc before) (take 8 bytes)
-front_number bytes word mask before number room small few is cuts gathers =
-    let front = take 8 bytes in
-    let long : length front ≡ 8 = omega (arith, length-take 8 bytes) in
+turned : (x y : ℕ) → x + 256 * y ≡ y * 2 ^ 8 + x
+turned x y = omega arith
+
+-- byte by byte
+both : (x y m n : ℕ) → x < 256 → m < 256 → bit_and (x + 256 * y) (m + 256 * n) ≡ bit_and x m + 256 * bit_and y n
+both x y m n hx hm =
+    ap (λ k. bit_and k (m + 256 * n)) (turned x y) ∙ ap (bit_and (y * 2 ^ 8 + x)) (turned m n) ∙ and_block 8 y n x m hx hm ∙ sym (turned (bit_and x m) (bit_and y n))
+
+mark_of_last : (b : ℕ) → b < 128 → end_mark b ≡ 128
+mark_of_last b last = grind (arith, nat_tests, last)
+
+mark_of_more : (b : ℕ) → 128 ≤ b → end_mark b ≡ 0
+mark_of_more b more = grind (arith, nat_tests, more)
+
+-- no byte has the bit of its mark
+unmarked : (b : ℕ) → b < 256 → bit_and b (end_mark b) ≡ 0
+unmarked b small = split (nat_lt b 128) refl
+  where
+    split : (t : Bool) → nat_lt b 128 ≡ t → bit_and b (cond t 128 0) ≡ 0
+    split true e = let last : b < 128 = grind (arith, nat_tests, e) in omega (arith, and_high b 1 7)
+    split false e = omega (arith, and_mask b 0)
+
+mark_small : (b : ℕ) → end_mark b < 256
+mark_small b = split (nat_lt b 128)
+  where
+    split : (t : Bool) → cond t 128 0 < 256
+    split true = omega arith
+    split false = omega arith
+
+apart : (bytes : List ℕ) → AllBelow 256 bytes → bit_and (number_l 256 bytes) (number_l 256 (map end_mark bytes)) ≡ 0
+apart [] small = refl
+apart (b ∷ bytes) small =
+    both b (number_l 256 bytes) (end_mark b) (number_l 256 (map end_mark bytes)) small.0 (mark_small b) ∙ omega (arith, unmarked b small.0, apart bytes small.1)
+
+some_mark : (n : ℕ) (bytes : List ℕ) → IsEnded (suc n) bytes → 0 < number_l 256 (map end_mark bytes)
+some_mark zero [] e = absurd e
+some_mark zero (b ∷ bytes) e = let last = mark_of_last b e in omega (arith, last)
+some_mark (suc n) [] e = absurd e
+some_mark (suc n) (b ∷ bytes) e = let more = some_mark n bytes e.1 in omega (arith, more)
+
+cut_at : (n : ℕ) (bytes : List ℕ) → AllBelow 256 bytes → IsEnded (suc n) bytes → bit_and (number_l 256 bytes) (number_l 256 (map end_mark bytes) - 1) ≡ number_l 256 bytes % 2 ^ (8 * suc n)
+cut_at zero [] small e = absurd e
+cut_at (suc n) [] small e = absurd e
+cut_at zero (b ∷ bytes) small e =
+    let rest = number_l 256 bytes in
+    let marks = number_l 256 (map end_mark bytes) in
+    let less : end_mark b + 256 * marks - 1 ≡ 127 + 256 * marks = omega (arith, mark_of_last b e) in
+    ap (bit_and (b + 256 * rest)) less ∙ both b rest 127 marks small.0 (omega arith) ∙ omega (arith, and_mask b 7, apart bytes small.1, e)
+cut_at (suc n) (b ∷ bytes) small e =
+    let rest = number_l 256 bytes in
+    let marks = number_l 256 (map end_mark bytes) in
+    let less : end_mark b + 256 * marks - 1 ≡ 255 + 256 * (marks - 1) = omega (arith, mark_of_more b e.0, some_mark n bytes e.1) in
+    let more : 8 * suc (suc n) ≡ 8 * suc n + 8 = omega arith in
+    let high : (b + 256 * rest) / 2 ^ 8 ≡ rest = omega (arith, small.0) in
+    let low : (b + 256 * rest) % 2 ^ 8 ≡ b = omega (arith, small.0) in
+    let own : bit_and b 255 ≡ b = omega (arith, and_mask b 8, small.0) in
+    let whole : (b + 256 * rest) % 2 ^ (8 * suc (suc n)) ≡ rest % 2 ^ (8 * suc n) * 2 ^ 8 + b =
+    ap (λ k. (b + 256 * rest) % 2 ^ k) more ∙ mod-pow-add (b + 256 * rest) (8 * suc n) 8 ∙ ap (λ k. k % 2 ^ (8 * suc n) * 2 ^ 8 + (b + 256 * rest) % 2 ^ 8) high ∙ ap (λ k. rest % 2 ^ (8 * suc n) * 2 ^ 8 + k) low in
+    ap (bit_and (b + 256 * rest)) less ∙ both b rest 255 (marks - 1) small.0 (omega arith)
+    ∙ ap (λ k. k + 256 * bit_and rest (marks - 1)) own ∙ ap (λ k. b + 256 * k) (cut_at n bytes small.1 e.1) ∙ turned b (rest % 2 ^ (8 * suc n)) ∙ sym whole
+
+ended_of_take : (n m : ℕ) (bytes : List ℕ) → n ≤ m → IsEnded n bytes → IsEnded n (take m bytes)
+ended_of_take zero m bytes few e = absurd e
+ended_of_take (suc n) zero bytes few e = absurd (omega arith)
+ended_of_take (suc zero) (suc m) [] few e = absurd e
+ended_of_take (suc zero) (suc m) (b ∷ bytes) few e = e
+ended_of_take (suc (suc n)) (suc m) [] few e = absurd e
+ended_of_take (suc (suc n)) (suc m) (b ∷ bytes) few e = (e.0, ended_of_take (suc n) m bytes (omega arith) e.1)
+
+-- what the lowest mark cuts from a word is the front
+pub front_at : (bytes : List ℕ) (word ends : ℕ) → 8 ≤ length bytes → ((k : ℕ) → Fits w8 (get_or bytes k 0)) → word ≡ number_l 256 (take 8 bytes) → ends ≡ number_l 256 (map end_mark (take 8 bytes))
+    → 0 < ends → IsFront bytes (bit_and word (ends - 1)) (count_trailing_zeros 64 ends / 8 + 1)
+front_at bytes word ends room small is marks some =
+    let ending = ended_by_marks bytes ends room marks some in
+    let before = count_trailing_zeros 64 ends / 8 in
+    let ended : IsEnded (suc before) bytes = subst (λ n. IsEnded n bytes) (add-one before) ending.ended in
+    record {
+      room = room;
+      ended = ending.ended;
+      own_is = rw (add-one) (ap (λ k. bit_and k (ends - 1)) is ∙ ap (λ k. bit_and (number_l 256 (take 8 bytes)) (k - 1)) marks
+          ∙ cut_at before (take 8 bytes) (first_below 8 bytes small) (ended_of_take (suc before) 8 bytes (omega (arith, ending.few)) ended));
+      few = omega (arith, ending.few);
+    }
+
+front_kept : (bytes : List ℕ) (own n : ℕ) → ((k : ℕ) → Fits w8 (get_or bytes k 0)) → IsFront bytes own n → own ≡ number_l 256 (kept n (take 8 bytes))
+front_kept bytes own n small front = front.own_is ∙ number_kept n (take 8 bytes) (first_below 8 bytes small)
+
+-- what is gathered from it is the number
+pub front_number : (bytes : List ℕ) (own n number : ℕ) → ((k : ℕ) → Fits w8 (get_or bytes k 0)) → IsFront bytes own n
+    → ((groups : List ℕ) → AreGroups groups → bit_and own 9187201950435737471 ≡ number_l 256 groups → number ≡ number_l 128 groups) → number ≡ groups_of n bytes
+front_number bytes own n number small front gathers =
+    let eight = take 8 bytes in
+    let long : length eight ≡ 8 = length-take-le 8 bytes front.room in
     let below = first_below 8 bytes small in
-    let own : bit_and word mask ≡ number_l 256 (kept (suc before) front) =
-    cut_word word mask before cuts ∙ ap (λ k. k % 2 ^ (8 * suc before)) is ∙ number_kept (suc before) front below in
-    let long_kept : length (kept (suc before) front) ≡ 8 = length-kept (suc before) front ∙ long in
-    gathers (lows (kept (suc before) front)) (lows_are_groups _ long_kept)
-    (ap (λ k. bit_and k 9187201950435737471) own ∙ masked_lows (kept (suc before) front) long_kept (kept_below (suc before) front below))
-    ∙ lows_kept (suc before) front
+    let long_kept : length (kept n eight) ≡ 8 = length-kept n eight ∙ long in
+    gathers (lows (kept n eight)) (lows_are_groups _ long_kept)
+    (ap (λ k. bit_and k 9187201950435737471) (front_kept bytes own n small front) ∙ masked_lows (kept n eight) long_kept (kept_below n eight below))
+    ∙ lows_kept n eight ∙ groups_take n 8 bytes front.few
 
-pub front_at : (bytes : List ℕ) (number before : ℕ) → before < 8 → IsEnded (before + 1) bytes → number ≡ groups_of (suc before) (take 8 bytes) → IsFront bytes number (before + 1)
-front_at bytes number before few ended is = record { ended = ended; number_is = rw (add-one) (is ∙ groups_take (suc before) 8 bytes (omega arith)); few = omega arith }
+no_groups : (k : ℕ) → groups_in k 0 ≡ 0
+no_groups zero = refl
+no_groups (suc k) = omega (arith, no_groups k)
 
-pub front_found : (most width : ℕ) (bytes : List ℕ) (number n : ℕ) → IsFront bytes number n → n ≤ most → number < 2 ^ width → varint_at most width bytes ≡ Ok (number, n)
-front_found most width bytes number n front few fits =
-    varint_of_groups most width n bytes front.ended few (omega (arith, front.number_is)) ∙ ap (λ k. Ok (k, n)) (sym front.number_is)
+groups_kept : (k n : ℕ) (bytes : List ℕ) → n ≤ k → AllBelow 256 bytes → groups_in k (number_l 256 (kept n bytes)) ≡ groups_of n bytes
+unfolding kept
+groups_kept k zero [] few small = no_groups k
+groups_kept k (suc n) [] few small = no_groups k
+groups_kept k zero (b ∷ bytes) few small = ap (groups_in k) (number_of_none (b ∷ bytes)) ∙ no_groups k
+groups_kept zero (suc n) (b ∷ bytes) few small = absurd (omega arith)
+groups_kept (suc k) (suc n) (b ∷ bytes) few small =
+    let rest = number_l 256 (kept n bytes) in
+    let low : (b + 256 * rest) % 128 ≡ b % 128 = omega arith in
+    let high : (b + 256 * rest) / 256 ≡ rest = omega (arith, small.0) in
+    ap (λ x. x + 128 * groups_in k ((b + 256 * rest) / 256)) low ∙ ap (λ x. b % 128 + 128 * groups_in k x) high
+    ∙ ap (λ x. b % 128 + 128 * x) (groups_kept k n bytes (omega arith) small.1)
 
-pub front_found_64 : (bytes : List ℕ) (number n : ℕ) → IsFront bytes number n → varint_at 10 64 bytes ≡ Ok (number, n)
-front_found_64 bytes number n front =
+-- a small word has few bytes
+few_groups : (k n : ℕ) (bytes : List ℕ) → IsEnded n bytes → number_l 256 (kept n bytes) < 128 * 256 ^ k → n ≤ suc k
+unfolding kept
+few_groups k zero bytes e h = absurd e
+few_groups k (suc zero) bytes e h = omega arith
+few_groups k (suc (suc n)) [] e h = absurd e
+few_groups zero (suc (suc n)) (b ∷ bytes) e h = absurd (omega (arith, e.0))
+few_groups (suc k) (suc (suc n)) (b ∷ bytes) e h =
+    let wide : 256 ^ suc k ≡ 256 * 256 ^ k = pow-succ' 256 k in
+    let rest : number_l 256 (kept (suc n) bytes) < 128 * 256 ^ k = omega (arith, wide) in
+    omega (arith, few_groups k (suc n) bytes e.1 rest)
+
+pub front_found : (most width k : ℕ) (bytes : List ℕ) (own n number : ℕ) → ((i : ℕ) → Fits w8 (get_or bytes i 0)) → IsFront bytes own n → own < 128 * 256 ^ k → suc k ≤ most
+    → number ≡ groups_in (suc k) own → number < 2 ^ width → varint_at most width bytes ≡ Ok (number, n)
+front_found most width k bytes own n number small front below room is fits =
+    let eight = take 8 bytes in
+    let kept_is = front_kept bytes own n small front in
+    let few : n ≤ suc k = few_groups k n eight (ended_of_take n 8 bytes front.few front.ended) (omega (arith, kept_is, below)) in
+    let whole : number ≡ groups_of n bytes =
+    is ∙ ap (groups_in (suc k)) kept_is ∙ groups_kept (suc k) n eight few (first_below 8 bytes small) ∙ groups_take n 8 bytes front.few in
+    varint_of_groups most width n bytes front.ended (omega (arith, few, room)) (omega (arith, whole, fits)) ∙ ap (λ x. Ok (x, n)) (sym whole)
+
+pub front_found_64 : (bytes : List ℕ) (own n number : ℕ) → IsFront bytes own n → number ≡ groups_of n bytes → varint_at 10 64 bytes ≡ Ok (number, n)
+front_found_64 bytes own n number front is =
     let few : 7 * n ≤ 64 = omega (arith, front.few) in
     let wide : 2 ^ (7 * n) ≤ 2 ^ 64 = pow_mono few in
-    front_found 10 64 bytes number n front (omega (arith, front.few)) (omega (arith, groups_small n bytes, front.number_is, wide))
+    varint_of_groups 10 64 n bytes front.ended (omega (arith, front.few)) (omega (arith, groups_small n bytes, wide)) ∙ ap (λ x. Ok (x, n)) (sym is)
 
-pub front_within : (bytes : List ℕ) (number n at : ℕ) → at ≤ length bytes → IsFront (drop at bytes) number n → at + n ≤ length bytes
-front_within bytes number n at within front = omega (arith, ended_length n (drop at bytes) front.ended, length-drop at bytes)
+pub front_within : (bytes : List ℕ) (own n at : ℕ) → at ≤ length bytes → IsFront (drop at bytes) own n → at + n ≤ length bytes
+front_within bytes own n at within front = omega (arith, ended_length n (drop at bytes) front.ended, length-drop at bytes)
 
 -- ---- numbers of nine and ten bytes
 

@@ -1,7 +1,7 @@
 -- The shortest bytes of a number, eight at a time.
 use Rattle.std.proofs.Common.{◌≡◌, ℕ, zero, suc, ◌+◌, ◌-◌, ◌*◌, ◌/◌, ◌%◌, ◌^◌, ◌<◌, ◌≤◌, inl, inr, List, [], ◌∷◌, ◌++◌, length, take, get_or, replicate, bit_and, arith, refl, sym, ap, ◌∙◌, length-take, length-append, append_assoc}
 use Rattle.std.specs.Int.{w64, to_le_bytes}
-use Rattle.std.proofs.lemmas.Nat.{and_mask, mod-pow-add, pow-add, pow_pos, shr-shr, le_bytes_8}
+use Rattle.std.proofs.lemmas.Nat.{mod-pow-add, pow-add, pow_pos, shr-shr, le_bytes_8}
 use Rattle.std.proofs.lemmas.Nat.Bits.{and_high}
 use Rattle.std.proofs.lemmas.List.{take_all, take-append-le}
 use Rattle.std.proofs.Math.Pow.{pow_mono}
@@ -15,39 +15,29 @@ use Rattle.varint_zigzag.proofs.Tops.{Sized, wider}
 
 -- ---- the groups, spread
 
-low_of_56 : (x y : ℕ) → x < 268435456 → bit_and (x + 268435456 * y) 268435455 ≡ x
-low_of_56 x y hx = omega (arith, and_mask (x + 268435456 * y) 28)
-
 high_of_56 : (x y : ℕ) → x < 268435456 → y < 268435456 → bit_and (x + 268435456 * y) 72057593769492480 ≡ 268435456 * y
 high_of_56 x y hx hy = omega (arith, and_high (x + 268435456 * y) 28 28)
-
-low_of_28 : (x y : ℕ) → x < 16384 → bit_and (x + 16384 * y) 16383 ≡ x
-low_of_28 x y hx = omega (arith, and_mask (x + 16384 * y) 14)
 
 high_of_28 : (x y : ℕ) → x < 16384 → y < 16384 → bit_and (x + 16384 * y) 268419072 ≡ 16384 * y
 high_of_28 x y hx hy = omega (arith, and_high (x + 16384 * y) 14 14)
 
-low_of_14 : (x y : ℕ) → x < 128 → bit_and (x + 128 * y) 127 ≡ x
-low_of_14 x y hx = omega (arith, and_mask (x + 128 * y) 7)
-
 high_of_14 : (x y : ℕ) → x < 128 → y < 128 → bit_and (x + 128 * y) 16256 ≡ 128 * y
 high_of_14 x y hx hy = omega (arith, and_high (x + 128 * y) 7 7)
 
--- one step: the two masks and the shift
-abbrev pub spread_once : ℕ → ℕ → ℕ → ℕ → ℕ
-spread_once low high times number = bit_and number low + bit_and number high * times % 18446744073709551616
+-- a step adds to the number what its high groups are worth more: fifteen times, three times, and once
+abbrev pub spread_fours : ℕ → ℕ
+spread_fours number = number + 15 * bit_and number 72057593769492480
 
-fours_spread : (number a b : ℕ) → a < 268435456 → b < 268435456 → number ≡ a + 268435456 * b → spread_once 268435455 72057593769492480 16 number ≡ number_l 4294967296 (a ∷ b ∷ [])
+abbrev pub spread_pairs : ℕ → ℕ
+spread_pairs number = number + 3 * bit_and number 1152851136131088384
+
+abbrev pub spread_ones : ℕ → ℕ
+spread_ones number = number + bit_and number 4575727041462157184
+
+fours_spread : (number a b : ℕ) → a < 268435456 → b < 268435456 → number ≡ a + 268435456 * b → spread_fours number ≡ number_l 4294967296 (a ∷ b ∷ [])
 fours_spread number a b ha hb is =
-    let low = low_of_56 a b ha in
     let high = high_of_56 a b ha hb in
-    rw (is, low, high) (omega arith)
-
-pairs_low : (a b c d : ℕ) → a < 16384 → b < 16384 → c < 16384 → d < 16384
-    → bit_and (number_l 4294967296 ((a + 16384 * b) ∷ (c + 16384 * d) ∷ [])) 70364449226751 ≡ number_l 4294967296 (a ∷ c ∷ [])
-pairs_low a b c d ha hb hc hd =
-    lanes_and 32 16383 ((a + 16384 * b) ∷ (c + 16384 * d) ∷ []) (omega arith) (omega arith, (omega arith, tt))
-    ∙ rw (low_of_28 a b ha, low_of_28 c d hc) refl
+    rw (is, high) (omega arith)
 
 pairs_high : (a b c d : ℕ) → a < 16384 → b < 16384 → c < 16384 → d < 16384
     → bit_and (number_l 4294967296 ((a + 16384 * b) ∷ (c + 16384 * d) ∷ [])) 1152851136131088384 ≡ number_l 4294967296 (16384 * b ∷ 16384 * d ∷ [])
@@ -56,17 +46,10 @@ pairs_high a b c d ha hb hc hd =
     ∙ rw (high_of_28 a b ha hb, high_of_28 c d hc hd) refl
 
 pairs_spread : (number a b c d : ℕ) → a < 16384 → b < 16384 → c < 16384 → d < 16384 → number ≡ number_l 4294967296 ((a + 16384 * b) ∷ (c + 16384 * d) ∷ [])
-    → spread_once 70364449226751 1152851136131088384 4 number ≡ number_l 65536 (a ∷ b ∷ c ∷ d ∷ [])
+    → spread_pairs number ≡ number_l 65536 (a ∷ b ∷ c ∷ d ∷ [])
 pairs_spread number a b c d ha hb hc hd is =
-    let low = pairs_low a b c d ha hb hc hd in
     let high = pairs_high a b c d ha hb hc hd in
-    rw (is, low, high) (omega arith)
-
-ones_low : (a b c d e f g h : ℕ) → a < 128 → b < 128 → c < 128 → d < 128 → e < 128 → f < 128 → g < 128 → h < 128
-    → bit_and (number_l 65536 ((a + 128 * b) ∷ (c + 128 * d) ∷ (e + 128 * f) ∷ (g + 128 * h) ∷ [])) 35747867511423103 ≡ number_l 65536 (a ∷ c ∷ e ∷ g ∷ [])
-ones_low a b c d e f g h ha hb hc hd he hf hg hh =
-    lanes_and 16 127 ((a + 128 * b) ∷ (c + 128 * d) ∷ (e + 128 * f) ∷ (g + 128 * h) ∷ []) (omega arith) (omega arith, (omega arith, (omega arith, (omega arith, tt))))
-    ∙ rw (low_of_14 a b ha, low_of_14 c d hc, low_of_14 e f he, low_of_14 g h hg) refl
+    rw (is, high) (omega arith)
 
 ones_high : (a b c d e f g h : ℕ) → a < 128 → b < 128 → c < 128 → d < 128 → e < 128 → f < 128 → g < 128 → h < 128
     → bit_and (number_l 65536 ((a + 128 * b) ∷ (c + 128 * d) ∷ (e + 128 * f) ∷ (g + 128 * h) ∷ [])) 4575727041462157184 ≡ number_l 65536 (128 * b ∷ 128 * d ∷ 128 * f ∷ 128 * h ∷ [])
@@ -76,21 +59,20 @@ ones_high a b c d e f g h ha hb hc hd he hf hg hh =
 
 ones_spread : (number a b c d e f g h : ℕ) → a < 128 → b < 128 → c < 128 → d < 128 → e < 128 → f < 128 → g < 128 → h < 128
     → number ≡ number_l 65536 ((a + 128 * b) ∷ (c + 128 * d) ∷ (e + 128 * f) ∷ (g + 128 * h) ∷ [])
-    → spread_once 35747867511423103 4575727041462157184 2 number ≡ number_l 256 (a ∷ b ∷ c ∷ d ∷ e ∷ f ∷ g ∷ h ∷ [])
+    → spread_ones number ≡ number_l 256 (a ∷ b ∷ c ∷ d ∷ e ∷ f ∷ g ∷ h ∷ [])
 ones_spread number a b c d e f g h ha hb hc hd he hf hg hh is =
-    let low = ones_low a b c d e f g h ha hb hc hd he hf hg hh in
     let high = ones_high a b c d e f g h ha hb hc hd he hf hg hh in
-    rw (is, low, high) (omega arith)
+    rw (is, high) (omega arith)
 
 eight_spread : (number a b c d e f g h : ℕ) → a < 128 → b < 128 → c < 128 → d < 128 → e < 128 → f < 128 → g < 128 → h < 128 → number ≡ number_l 128 (a ∷ b ∷ c ∷ d ∷ e ∷ f ∷ g ∷ h ∷ [])
-    → spread_once 35747867511423103 4575727041462157184 2 (spread_once 70364449226751 1152851136131088384 4 (spread_once 268435455 72057593769492480 16 number)) ≡ number_l 256 (a ∷ b ∷ c ∷ d ∷ e ∷ f ∷ g ∷ h ∷ [])
+    → spread_ones (spread_pairs (spread_fours number)) ≡ number_l 256 (a ∷ b ∷ c ∷ d ∷ e ∷ f ∷ g ∷ h ∷ [])
 eight_spread number a b c d e f g h ha hb hc hd he hf hg hh is =
     let fours = fours_spread number (a + 128 * b + 16384 * (c + 128 * d)) (e + 128 * f + 16384 * (g + 128 * h)) (omega arith) (omega arith) (omega arith) in
     let pairs = pairs_spread _ (a + 128 * b) (c + 128 * d) (e + 128 * f) (g + 128 * h) (omega arith) (omega arith) (omega arith) (omega arith) fours in
     ones_spread _ a b c d e f g h ha hb hc hd he hf hg hh pairs
 
 pub spread_groups : (groups : List ℕ) → AreGroups groups → (number : ℕ) → number ≡ number_l 128 groups
-    → spread_once 35747867511423103 4575727041462157184 2 (spread_once 70364449226751 1152851136131088384 4 (spread_once 268435455 72057593769492480 16 number)) ≡ number_l 256 groups
+    → spread_ones (spread_pairs (spread_fours number)) ≡ number_l 256 groups
 spread_groups [] are number is = absurd (omega (arith, are.eight))
 spread_groups (a ∷ []) are number is = absurd (omega (arith, are.eight))
 spread_groups (a ∷ b ∷ []) are number is = absurd (omega (arith, are.eight))

@@ -1,5 +1,5 @@
 -- Numbers as lists of lanes, the lowest first, and what the masks of the code take from them.
-use Rattle.std.proofs.Common.{◌≡◌, ℕ, ◌+◌, ◌*◌, ◌/◌, ◌^◌, ◌<◌, List, [], ◌∷◌, map, length, replicate, bit_and, arith, refl, sym, ap, ◌∙◌}
+use Rattle.std.proofs.Common.{◌≡◌, ℕ, ◌+◌, ◌-◌, ◌*◌, ◌/◌, ◌^◌, ◌<◌, List, [], ◌∷◌, map, length, replicate, bit_and, arith, refl, sym, ap, ◌∙◌}
 use Rattle.std.proofs.lemmas.Nat.{and_block, and_mask}
 use Rattle.std.proofs.lemmas.Nat.Bits.{and_high}
 use Rattle.std.specs.Simd.Lanes.{number_l}
@@ -21,14 +21,8 @@ lanes_and k m (x ∷ xs) small below =
 
 -- ---- two groups of seven bits in sixteen, then two of fourteen in 32, then two of 28 in 64
 
-low_of_16 : (x y : ℕ) → x < 128 → bit_and (x + 256 * y) 127 ≡ x
-low_of_16 x y hx = omega (arith, and_mask (x + 256 * y) 7)
-
 high_of_16 : (x y : ℕ) → x < 128 → y < 128 → bit_and (x + 256 * y) 32512 ≡ 256 * y
 high_of_16 x y hx hy = omega (arith, and_high (x + 256 * y) 7 8)
-
-low_of_32 : (x y : ℕ) → x < 16384 → bit_and (x + 65536 * y) 16383 ≡ x
-low_of_32 x y hx = omega (arith, and_mask (x + 65536 * y) 14)
 
 high_of_32 : (x y : ℕ) → x < 16384 → y < 16384 → bit_and (x + 65536 * y) 1073676288 ≡ 65536 * y
 high_of_32 x y hx hy = omega (arith, and_high (x + 65536 * y) 14 16)
@@ -39,23 +33,11 @@ low_of_64 x y hx = omega (arith, and_mask (x + 4294967296 * y) 28)
 high_of_64 : (x y : ℕ) → x < 268435456 → y < 268435456 → bit_and (x + 4294967296 * y) 1152921500311879680 ≡ 4294967296 * y
 high_of_64 x y hx hy = omega (arith, and_high (x + 4294967296 * y) 28 32)
 
-pairs_low : (a b c d e f g h : ℕ) → a < 128 → b < 128 → c < 128 → d < 128 → e < 128 → f < 128 → g < 128 → h < 128
-    → bit_and (number_l 65536 ((a + 256 * b) ∷ (c + 256 * d) ∷ (e + 256 * f) ∷ (g + 256 * h) ∷ [])) 35747867511423103 ≡ number_l 65536 (a ∷ c ∷ e ∷ g ∷ [])
-pairs_low a b c d e f g h ha hb hc hd he hf hg hh =
-    lanes_and 16 127 ((a + 256 * b) ∷ (c + 256 * d) ∷ (e + 256 * f) ∷ (g + 256 * h) ∷ []) (omega arith) (omega arith, (omega arith, (omega arith, (omega arith, tt))))
-    ∙ rw (low_of_16 a b ha, low_of_16 c d hc, low_of_16 e f he, low_of_16 g h hg) refl
-
 pairs_high : (a b c d e f g h : ℕ) → a < 128 → b < 128 → c < 128 → d < 128 → e < 128 → f < 128 → g < 128 → h < 128
     → bit_and (number_l 65536 ((a + 256 * b) ∷ (c + 256 * d) ∷ (e + 256 * f) ∷ (g + 256 * h) ∷ [])) 9151454082924314368 ≡ number_l 65536 (256 * b ∷ 256 * d ∷ 256 * f ∷ 256 * h ∷ [])
 pairs_high a b c d e f g h ha hb hc hd he hf hg hh =
     lanes_and 16 32512 ((a + 256 * b) ∷ (c + 256 * d) ∷ (e + 256 * f) ∷ (g + 256 * h) ∷ []) (omega arith) (omega arith, (omega arith, (omega arith, (omega arith, tt))))
     ∙ rw (high_of_16 a b ha hb, high_of_16 c d hc hd, high_of_16 e f he hf, high_of_16 g h hg hh) refl
-
-fours_low : (a b c d : ℕ) → a < 16384 → b < 16384 → c < 16384 → d < 16384
-    → bit_and (number_l 4294967296 ((a + 65536 * b) ∷ (c + 65536 * d) ∷ [])) 70364449226751 ≡ number_l 4294967296 (a ∷ c ∷ [])
-fours_low a b c d ha hb hc hd =
-    lanes_and 32 16383 ((a + 65536 * b) ∷ (c + 65536 * d) ∷ []) (omega arith) (omega arith, (omega arith, tt))
-    ∙ rw (low_of_32 a b ha, low_of_32 c d hc) refl
 
 fours_high : (a b c d : ℕ) → a < 16384 → b < 16384 → c < 16384 → d < 16384
     → bit_and (number_l 4294967296 ((a + 65536 * b) ∷ (c + 65536 * d) ∷ [])) 4611404544524353536 ≡ number_l 4294967296 (65536 * b ∷ 65536 * d ∷ [])
@@ -63,28 +45,32 @@ fours_high a b c d ha hb hc hd =
     lanes_and 32 1073676288 ((a + 65536 * b) ∷ (c + 65536 * d) ∷ []) (omega arith) (omega arith, (omega arith, tt))
     ∙ rw (high_of_32 a b ha hb, high_of_32 c d hc hd) refl
 
--- one fold: the two masks and the shift
-abbrev pub folded_once : ℕ → ℕ → ℕ → ℕ → ℕ
-folded_once low high half word = bit_and word low + bit_and word high / half
+-- a fold takes from the word what its high groups are worth less: one half, three quarters, and the last by two masks
+abbrev pub fold_pairs : ℕ → ℕ
+fold_pairs word = word - bit_and word 9151454082924314368 / 2
+
+abbrev pub fold_fours : ℕ → ℕ
+fold_fours word = word - 3 * (bit_and word 4611404544524353536 / 4)
+
+abbrev pub fold_last : ℕ → ℕ
+fold_last word = bit_and word 268435455 + bit_and word 1152921500311879680 / 16
 
 pairs_fold : (word a b c d e f g h : ℕ) → a < 128 → b < 128 → c < 128 → d < 128 → e < 128 → f < 128 → g < 128 → h < 128 → word ≡ number_l 256 (a ∷ b ∷ c ∷ d ∷ e ∷ f ∷ g ∷ h ∷ [])
-    → folded_once 35747867511423103 9151454082924314368 2 word ≡ number_l 65536 ((a + 128 * b) ∷ (c + 128 * d) ∷ (e + 128 * f) ∷ (g + 128 * h) ∷ [])
+    → fold_pairs word ≡ number_l 65536 ((a + 128 * b) ∷ (c + 128 * d) ∷ (e + 128 * f) ∷ (g + 128 * h) ∷ [])
 pairs_fold word a b c d e f g h ha hb hc hd he hf hg hh is =
     let lanes : word ≡ number_l 65536 ((a + 256 * b) ∷ (c + 256 * d) ∷ (e + 256 * f) ∷ (g + 256 * h) ∷ []) = omega arith in
-    let low = pairs_low a b c d e f g h ha hb hc hd he hf hg hh in
     let high = pairs_high a b c d e f g h ha hb hc hd he hf hg hh in
-    rw (lanes, low, high) (omega arith)
+    rw (lanes, high) (omega arith)
 
 fours_fold : (word a b c d : ℕ) → a < 16384 → b < 16384 → c < 16384 → d < 16384 → word ≡ number_l 65536 (a ∷ b ∷ c ∷ d ∷ [])
-    → folded_once 70364449226751 4611404544524353536 4 word ≡ number_l 4294967296 ((a + 16384 * b) ∷ (c + 16384 * d) ∷ [])
+    → fold_fours word ≡ number_l 4294967296 ((a + 16384 * b) ∷ (c + 16384 * d) ∷ [])
 fours_fold word a b c d ha hb hc hd is =
     let lanes : word ≡ number_l 4294967296 ((a + 65536 * b) ∷ (c + 65536 * d) ∷ []) = omega arith in
-    let low = fours_low a b c d ha hb hc hd in
     let high = fours_high a b c d ha hb hc hd in
-    rw (lanes, low, high) (omega arith)
+    rw (lanes, high) (omega arith)
 
 last_fold : (word a b : ℕ) → a < 268435456 → b < 268435456 → word ≡ number_l 4294967296 (a ∷ b ∷ [])
-    → folded_once 268435455 1152921500311879680 16 word ≡ a + 268435456 * b
+    → fold_last word ≡ a + 268435456 * b
 last_fold word a b ha hb is =
     let lanes : word ≡ a + 4294967296 * b = omega arith in
     let low = low_of_64 a b ha in
@@ -92,14 +78,14 @@ last_fold word a b ha hb is =
     rw (lanes, low, high) (omega arith)
 
 eight_gathered : (word a b c d e f g h : ℕ) → a < 128 → b < 128 → c < 128 → d < 128 → e < 128 → f < 128 → g < 128 → h < 128 → word ≡ number_l 256 (a ∷ b ∷ c ∷ d ∷ e ∷ f ∷ g ∷ h ∷ [])
-    → folded_once 268435455 1152921500311879680 16 (folded_once 70364449226751 4611404544524353536 4 (folded_once 35747867511423103 9151454082924314368 2 word)) ≡ number_l 128 (a ∷ b ∷ c ∷ d ∷ e ∷ f ∷ g ∷ h ∷ [])
+    → fold_last (fold_fours (fold_pairs word)) ≡ number_l 128 (a ∷ b ∷ c ∷ d ∷ e ∷ f ∷ g ∷ h ∷ [])
 eight_gathered word a b c d e f g h ha hb hc hd he hf hg hh is =
     let pairs = pairs_fold word a b c d e f g h ha hb hc hd he hf hg hh is in
     let fours = fours_fold _ (a + 128 * b) (c + 128 * d) (e + 128 * f) (g + 128 * h) (omega arith) (omega arith) (omega arith) (omega arith) pairs in
     last_fold _ (a + 128 * b + 16384 * (c + 128 * d)) (e + 128 * f + 16384 * (g + 128 * h)) (omega arith) (omega arith) fours ∙ omega arith
 
 pub gathered_groups : (groups : List ℕ) → AreGroups groups → (word : ℕ) → word ≡ number_l 256 groups
-    → folded_once 268435455 1152921500311879680 16 (folded_once 70364449226751 4611404544524353536 4 (folded_once 35747867511423103 9151454082924314368 2 word)) ≡ number_l 128 groups
+    → fold_last (fold_fours (fold_pairs word)) ≡ number_l 128 groups
 gathered_groups [] are word is = absurd (omega (arith, are.eight))
 gathered_groups (a ∷ []) are word is = absurd (omega (arith, are.eight))
 gathered_groups (a ∷ b ∷ []) are word is = absurd (omega (arith, are.eight))

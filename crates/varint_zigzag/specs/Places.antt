@@ -1,5 +1,6 @@
 -- Numbers at a place, and the groups of seven bits that they are made of.
-use Rattle.std.specs.Prelude.{◌≡◌, ℕ, zero, suc, ◌+◌, ◌*◌, ◌%◌, ◌^◌, ◌<◌, ◌≤◌, Bool, if◌then◌else◌, nat_lt, List, [], ◌∷◌, length, Option, Some, None, Result, Ok, Err}
+use Rattle.std.specs.Prelude.{◌≡◌, ℕ, zero, suc, ◌+◌, ◌*◌, ◌/◌, ◌%◌, ◌^◌, ◌<◌, ◌≤◌, Bool, if◌then◌else◌, nat_lt, List, [], ◌∷◌, length, take, Option, Some, None, Result, Ok, Err}
+use Rattle.std.specs.Simd.Lanes.{number_l}
 use Rattle.varint_zigzag.specs.declared.fault.VarFault.{VarFault}
 
 -- the number that was found at a place, and the place behind it
@@ -29,10 +30,16 @@ groups_of zero bytes = 0
 groups_of (suc n) [] = 0
 groups_of (suc n) (b ∷ bytes) = b % 128 + 128 * groups_of n bytes
 
--- the bytes begin with this number, in so many of them, at most eight
-pub record IsFront (bytes : List ℕ) (number count : ℕ) : Type 0 where
+-- the number that the seven low bits of so many bytes of a word make, the lowest first
+abbrev pub groups_in : ℕ → ℕ → ℕ
+groups_in zero word = 0
+groups_in (suc n) word = word % 128 + 128 * groups_in n (word / 256)
+
+-- the bytes begin with a number of so many bytes, which lie among eight and make this word
+pub record IsFront (bytes : List ℕ) (own count : ℕ) : Type 0 where
+  pub room : 8 ≤ length bytes
   pub ended : IsEnded count bytes
-  pub number_is : number ≡ groups_of count bytes
+  pub own_is : own ≡ number_l 256 (take 8 bytes) % 2 ^ (8 * count)
   pub few : count ≤ 8
 
 abbrev pub AllBelow : ℕ → List ℕ → Type 0

@@ -204,9 +204,10 @@ fn put_two(cells: &mut [u8], to: usize, two: [u8; 2])
 // Eight groups of seven bits, each in a byte of its own.
 #[inline(always)]
 fn spread(number: u64) -> u64
+    requires { number < 2 ^ 56 }
     ensures { (groups : List ℕ) → AreGroups groups → number ≡ number_l 128 groups → result ≡ number_l 256 groups }
 {
-    let fours = (number & 0x0000_0000_0fff_ffff) + ((number & 0x00ff_ffff_f000_0000) << 4);
-    let pairs = (fours & 0x0000_3fff_0000_3fff) + ((fours & 0x0fff_c000_0fff_c000) << 2);
-    (pairs & 0x007f_007f_007f_007f) + ((pairs & 0x3f80_3f80_3f80_3f80) << 1)
+    let fours = number + 15 * (number & 0x00ff_ffff_f000_0000);
+    let pairs = fours + 3 * (fours & 0x0fff_c000_0fff_c000);
+    pairs + (pairs & 0x3f80_3f80_3f80_3f80)
 }

@@ -2,9 +2,9 @@
 ghost use Rattle.std.specs.Prelude.{◌≡◌, ℕ, List, ◌≤◌, ◌<◌, ◌+◌, ◌-◌, ◌*◌, ◌^◌, length, take, drop, IfSome, map};
 ghost use Rattle.std.specs.Simd.Lanes.{number_l};
 ghost use Rattle.varint_zigzag.specs.Varint.{varint_at};
-ghost use Rattle.varint_zigzag.specs.Places.{found_at, end_mark, IsEnded, IsFront, AllBelow, AreGroups};
+ghost use Rattle.varint_zigzag.specs.Places.{found_at, end_mark, groups_in, IsEnded, IsFront, AllBelow, AreGroups};
 
-use crate::reading::{read_u16, read_u32, read_u64, single};
+use crate::reading::{read_u16, read_u32, read_u64};
 
 /// So many bytes are looked at together.
 pub(crate) const WORD: usize = 8;
@@ -12,26 +12,17 @@ pub(crate) const WORD: usize = 8;
 /// The most bytes of a number of 64 bits.
 const LONG: usize = 10;
 
-/// The most bytes of a number of 16 or 32 bits.
-const MOST: usize = 5;
+/// The bytes of a number of 16 bits, of at most three, make less.
+const ABOVE_U16: u64 = 1 << 18;
+
+/// The bytes of a number of 32 bits, of at most five, make less.
+const ABOVE_U32: u64 = 1 << 36;
 
 /// The high bit of each byte of a word.
 pub(crate) const HIGH_BITS: u64 = 0x8080_8080_8080_8080;
 
 /// The seven low bits of each byte of a word.
 const LOW_BITS: u64 = 0x7f7f_7f7f_7f7f_7f7f;
-
-/// All bits of a word's first byte, of its first two, and so on to all eight.
-static UP_TO: [u64; WORD] = [
-    0xff,
-    0xffff,
-    0x00ff_ffff,
-    0xffff_ffff,
-    0x00ff_ffff_ffff,
-    0xffff_ffff_ffff,
-    0x00ff_ffff_ffff_ffff,
-    0xffff_ffff_ffff_ffff,
-];
 
 /// The number below 2^16 that stands at a place, of at most five bytes, and the place behind it. It may be padded.
 ///
@@ -42,9 +33,9 @@ pub fn read_u16_at(bytes: &[u8], at: usize) -> Option<(u16, usize)>
     ensures within { IfSome result (λ found. found.1 ≤ length bytes.now) }
     ensures exact { result ≡ found_at at (varint_at 5 16 (drop at bytes.now)) }
 {
-    if let Some((number, count)) = front_of(bytes, at) {
-        if count <= MOST && number < 1 << 16 {
-            return Some((number as u16, at + count));
+    if let Some((own, count)) = front_of(bytes, at) {
+        if own < ABOVE_U16 {
+            return Some((three_gathered(own), at + count));
         }
     }
     rest_u16(bytes, at)
@@ -59,9 +50,9 @@ pub fn read_u32_at(bytes: &[u8], at: usize) -> Option<(u32, usize)>
     ensures within { IfSome result (λ found. found.1 ≤ length bytes.now) }
     ensures exact { result ≡ found_at at (varint_at 5 32 (drop at bytes.now)) }
 {
-    if let Some((number, count)) = front_of(bytes, at) {
-        if count <= MOST && number < 1 << 32 {
-            return Some((number as u32, at + count));
+    if let Some((own, count)) = front_of(bytes, at) {
+        if own < ABOVE_U32 {
+            return Some((five_gathered(own), at + count));
         }
     }
     rest_u32(bytes, at)
@@ -75,8 +66,11 @@ pub fn read_size_at(bytes: &[u8], at: usize) -> Option<(u32, usize)>
     ensures within { IfSome result (λ found. found.1 ≤ length bytes.now) }
     ensures exact { result ≡ found_at at (varint_at 5 32 (drop at bytes.now)) }
 {
-    if let Some(number) = single(&bytes[at..]) {
-        return Some((u32::from(number), at + 1));
+    if at < bytes.len() {
+        let first = bytes[at];
+        if first < 128 {
+            return Some((u32::from(first), at + 1));
+        }
     }
     read_u32_at(bytes, at)
 }
@@ -90,8 +84,8 @@ pub fn read_u64_at(bytes: &[u8], at: usize) -> Option<(u64, usize)>
     ensures within { IfSome result (λ found. found.1 ≤ length bytes.now) }
     ensures exact { result ≡ found_at at (varint_at 10 64 (drop at bytes.now)) }
 {
-    if let Some((number, count)) = front_of(bytes, at) {
-        return Some((number, at + count));
+    if let Some((own, count)) = front_of(bytes, at) {
+        return Some((gathered(own & LOW_BITS), at + count));
     }
     if let Some((number, count)) = long_front_of(bytes, at) {
         return Some((number, at + count));
@@ -100,6 +94,7 @@ pub fn read_u64_at(bytes: &[u8], at: usize) -> Option<(u64, usize)>
 }
 
 // The same group by group: near the end of the bytes, and where a number is long.
+#[cold]
 #[inline(never)]
 fn rest_u16(bytes: &[u8], at: usize) -> Option<(u16, usize)>
     requires { at ≤ length bytes.now }
@@ -112,6 +107,7 @@ fn rest_u16(bytes: &[u8], at: usize) -> Option<(u16, usize)>
     }
 }
 
+#[cold]
 #[inline(never)]
 fn rest_u32(bytes: &[u8], at: usize) -> Option<(u32, usize)>
     requires { at ≤ length bytes.now }
@@ -124,6 +120,7 @@ fn rest_u32(bytes: &[u8], at: usize) -> Option<(u32, usize)>
     }
 }
 
+#[cold]
 #[inline(never)]
 fn rest_u64(bytes: &[u8], at: usize) -> Option<(u64, usize)>
     requires { at ≤ length bytes.now }
@@ -136,24 +133,41 @@ fn rest_u64(bytes: &[u8], at: usize) -> Option<(u64, usize)>
     }
 }
 
-// The number whose last byte is one of the eight at a place, and how many bytes it has.
+// The bytes of the number whose last one is among the eight at a place, as a number, and how many they are.
 #[inline(always)]
 fn front_of(bytes: &[u8], at: usize) -> Option<(u64, usize)>
     requires { at ≤ length bytes.now }
     ensures { IfSome result (λ found. IsFront (drop at bytes.now) found.0 found.1) }
 {
-    let before = before_last(bytes, at)?;
-    let own = word_at(bytes, at) & bits_up_to(before);
-    Some((gathered(own & LOW_BITS), before as usize + 1))
+    if at + WORD > bytes.len() {
+        return None;
+    }
+    let word = word_at(bytes, at);
+    let ends = ends_of(word);
+    if ends == 0 {
+        return None;
+    }
+    Some((word & (ends - 1), ends.trailing_zeros() as usize / 8 + 1))
 }
 
-// The bits of a word's bytes up to one of them. To look them up costs less than a shift by so many.
+// The number of 16 bits whose bytes are these, at most three.
 #[inline(always)]
-fn bits_up_to(last: u32) -> u64
-    requires { last < 8 }
-    ensures { result ≡ 2 ^ (8 * (last + 1)) - 1 }
+fn three_gathered(own: u64) -> u16
+    requires { own < 2 ^ 18 }
+    ensures { result ≡ groups_in 3 own }
 {
-    UP_TO[last as usize]
+    ((own & 0x7f) + ((own >> 1) & 0x3f80) + ((own >> 2) & 0xc000)) as u16
+}
+
+// The number of 32 bits whose bytes are these, at most five.
+#[inline(always)]
+fn five_gathered(own: u64) -> u32
+    requires { own < 2 ^ 36 }
+    ensures { result ≡ groups_in 5 own }
+{
+    let two = (own & 0x7f) + ((own >> 1) & 0x3f80);
+    let more = ((own >> 2) & 0x001f_c000) + ((own >> 3) & 0x0fe0_0000);
+    (two + more + ((own >> 4) & 0xf000_0000)) as u32
 }
 
 // How many of the eight bytes at a place stand before the one that ends a number.
@@ -180,7 +194,7 @@ fn word_at(bytes: &[u8], at: usize) -> u64
     requires { at + 8 ≤ length bytes.now }
     ensures { result ≡ number_l 256 (take 8 (drop at bytes.now)) }
 {
-    match bytes[at..].first_chunk::<WORD>() {
+    match bytes[at..at + WORD].first_chunk::<WORD>() {
         Some(word) => u64::from_le_bytes(*word),
         None => 0,
     }
@@ -225,7 +239,7 @@ fn long_front_of(bytes: &[u8], at: usize) -> Option<(u64, usize)>
 fn gathered(word: u64) -> u64
     ensures { (groups : List ℕ) → AreGroups groups → word ≡ number_l 256 groups → result ≡ number_l 128 groups }
 {
-    let pairs = (word & 0x007f_007f_007f_007f) + ((word & 0x7f00_7f00_7f00_7f00) >> 1);
-    let fours = (pairs & 0x0000_3fff_0000_3fff) + ((pairs & 0x3fff_0000_3fff_0000) >> 2);
+    let pairs = word - ((word & 0x7f00_7f00_7f00_7f00) >> 1);
+    let fours = pairs - 3 * ((pairs & 0x3fff_0000_3fff_0000) >> 2);
     (fours & 0x0000_0000_0fff_ffff) + ((fours & 0x0fff_ffff_0000_0000) >> 4)
 }

@@ -1,4 +1,4 @@
-use Rattle.std.proofs.Common.{◌≡◌, ◌++◌, List, ℕ, length, arith, ap}
+use Rattle.std.proofs.Common.{◌++◌, List, ℕ, arith, ap}
 use Rattle.binary_protocol.proofs.Filled.{filled}
 use Rattle.binary_protocol.proofs.writer.put_head.Goals as goal
 

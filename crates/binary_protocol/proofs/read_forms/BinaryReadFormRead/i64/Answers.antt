@@ -1,15 +1,16 @@
-use Rattle.std.proofs.Common.{refl, rules, FitsSigned}
-use Rattle.std.specs.Int.{w64}
-use Rattle.std.proofs.lemmas.Int.{to_z-of_z}
-use Rattle.std.proofs.lemmas.List.{take_rest}
+use Rattle.std.proofs.Common.{refl, arith}
 use Rattle.thrift_value.specs.declared.kind.Kind.TheVariants as kinds
 use Rattle.thrift_value.specs.Items.{i64_value}
 use Rattle.binary_protocol.specs.Scan.{value_at}
-use Rattle.binary_protocol.specs.Forms.{value_read}
+use Rattle.binary_protocol.proofs.Places.{value_past, value_seen}
 use Rattle.binary_protocol.proofs.read_forms.BinaryReadFormRead.i64.Goals as goal
+
+pub returns-clause-past : goal.returns-clause-past
+unfolding value_at
+returns-clause-past c =
+    value_past c.args.frame.now c.args.at 8 kinds.I64 i64_value c.i64_from.result c.requires (omega arith) c.i64_from.ensures.place c.i64_from.ensures.found
 
 pub returns-clause-steps : goal.returns-clause-steps
 unfolding value_at
 returns-clause-steps c =
-    let fits : FitsSigned w64 c.in_ok-value.value = search rules in
-    rw (to_z-of_z w64 c.in_ok-value.value fits) (value_read c.args.frame.now c.args.at 8 c.args.stand kinds.I64 (i64_value c.in_ok-value.value) refl (rw take_rest at c.in_ok-value.ensures))
+    value_seen c.args.frame.now c.args.at 8 c.args.stand kinds.I64 i64_value c.i64_from.result refl c.i64_from.ensures.place c.i64_from.ensures.found
