@@ -223,9 +223,8 @@ fn pass_own<R: FormKeep<W>, W: FormWrite, O: Outcome>(
     kept
 }
 
-/// The same for the writer of the target's protocol, as a function of its own: what one pair of protocols needs fits the
-/// registers, what all of them and the way by events need doesn't.
-#[inline(never)]
+/// The same for the writer of the target's protocol.
+#[inline(always)]
 fn pass_apart<R: FormRead, W: FormWrite, O: Outcome>(
     schema: &Schema,
     route: Route,

@@ -1,6 +1,7 @@
 //! What becomes of a frame of the client.
-ghost use Rattle.std.specs.Prelude.{◌≡◌, ◌+◌, ◌^◌, ◌<◌, ◌≤◌, ◌++◌, Some, length, take, drop, IfSome};
+ghost use Rattle.std.specs.Prelude.{◌≡◌, ◌+◌, ◌^◌, ◌<◌, ◌≤◌, ◌++◌, Option, Some, length, take, drop, IfSome};
 ghost use Rattle.protocol_traits.specs.Room.{room_for};
+ghost use Rattle.type_tables.specs.declared.declared.MethodInfo.{MethodInfo};
 ghost use Rattle.session_core.specs.Quick.{seen_as};
 ghost use Rattle.session_judge.specs.Client.{call_bytes, call_of, call_verdict, is_answered, of_client, onward, passed_on, refused};
 ghost use Rattle.session_judge.specs.declared.calls.CallSeen.{CallSeen};
@@ -51,9 +52,12 @@ impl Outcome for CallSeen {
     }
 
     #[inline(always)]
+    #[tactic(auto, unfolding(translate_core::specs::Routes::info_of))]
     fn passed_by(schema: &Schema, route: Route, head: &Head<'_>) -> Self {
-        let info = told_of(schema, route, head).info;
-        seen_of(info.method, info.mtype)
+        match head.mtype {
+            MessageType::Call => call_seen(told_of(schema, route, head).info.method),
+            other => other_seen(other),
+        }
     }
 }
 
@@ -64,8 +68,20 @@ fn seen_of(method: Option<MethodInfo>, mtype: MessageType) -> CallSeen
 {
     match mtype {
         MessageType::Call => call_seen(method),
+        other => other_seen(other),
+    }
+}
+
+/// What is seen of a message of this type that is no call, whatever its method is.
+#[cold]
+#[inline(never)]
+fn other_seen(mtype: MessageType) -> CallSeen
+    requires { mtype ≡ MessageType.Call → ⊥ }
+    ensures { (method : Option MethodInfo) → client_told result ≡ Some (passed_on method mtype) }
+{
+    match mtype {
         MessageType::Oneway => CallSeen::Goes,
-        MessageType::Reply | MessageType::Exception => CallSeen::WrongWay,
+        _ => CallSeen::WrongWay,
     }
 }
 

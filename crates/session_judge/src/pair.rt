@@ -73,7 +73,7 @@ impl<'s> Judge for PairJudge<'s> {
     #[inline(always)]
     fn pass_call(&mut self, frame: &[u8], out: &mut Out) -> CallLook {
         let (from, to) = (self.client, self.upstream);
-        self.room.clear();
+        self.room.cut(0);
         let room = self.room.tail(frame.len());
         let habit = &mut self.calls;
         pass_call(self.schema, self.service, from, to, frame, room, habit, out)
@@ -81,14 +81,14 @@ impl<'s> Judge for PairJudge<'s> {
 
     fn client(&mut self, frame: &[u8], out: &mut Out) -> ClientJudged {
         let (from, to) = (self.client, self.upstream);
-        self.room.clear();
+        self.room.cut(0);
         let room = self.room.tail(frame.len());
         judge_client(self.schema, self.service, from, to, frame, room, out)
     }
 
     fn answer(&mut self, frame: &[u8], cause: Cause, out: &mut Out) {
         let own = self.client;
-        self.room.clear();
+        self.room.cut(0);
         let room = self.room.tail(frame.len());
         answer(own, own, frame, room, &cause, out);
     }
@@ -96,7 +96,7 @@ impl<'s> Judge for PairJudge<'s> {
     #[inline(always)]
     fn pass_reply(&mut self, call: Call, frame: &[u8], out: &mut Out) -> bool {
         let (from, to) = (self.upstream, self.client);
-        self.room.clear();
+        self.room.cut(0);
         let room = self.room.tail(frame.len());
         let habit = &mut self.replies;
         pass_reply(self.schema, call.result, from, to, frame, room, habit, out)
@@ -104,7 +104,7 @@ impl<'s> Judge for PairJudge<'s> {
 
     fn upstream(&mut self, call: Call, frame: &[u8], out: &mut Out) -> UpstreamJudged {
         let (from, to) = (self.upstream, self.client);
-        self.room.clear();
+        self.room.cut(0);
         let room = self.room.tail(frame.len());
         judge_by_events(self.schema, call.result, from, to, frame, room, out)
     }

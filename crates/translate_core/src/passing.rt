@@ -40,23 +40,78 @@ pub fn pass_quickly<R: FormRead, W: FormWrite, O: Outcome>(
     ensures short { length out.new.bytes ≤ length out.old.bytes + room_for (length frame.now) }
     ensures passes { O.passes result out.old.bytes out.new.bytes (judged_frame R.ReadRules W.WireWrite schema.now route frame.now) }
 {
+    if !is_hinted::<R, W>() && habit.begins_untyped::<W>(schema) {
+        let passed = pass_untyped::<R, W, O>(schema, &route, frame, room, out);
+        if !W::is_marked() {
+            return passed;
+        }
+        if !passed.is_left() {
+            habit.was_enough();
+            return passed;
+        }
+        habit.asks();
+    }
+    pass_typed::<R, W, O>(schema, &route, frame, room, out)
+}
+
+/// The same with nothing known of the message's types. This and `pass_typed` are functions of their own: what one pair of
+/// protocols needs fits the registers, what all of them need doesn't, and few messages ask for their types.
+#[inline(never)]
+fn pass_untyped<R: FormRead, W: FormWrite, O: Outcome>(
+    schema: &Schema,
+    route: &Route,
+    frame: &[u8],
+    room: &mut [u8],
+    out: &mut Out,
+) -> O
+    requires reads { R.hinted ≡ false }
+    requires writes { W.hinted ≡ false }
+    requires known { IsKnownRoute schema.now route.now }
+    requires room { length frame.now ≤ length room.old }
+    requires size { length frame.now < 2 ^ 31 }
+    requires fits { length out.old.bytes + room_for (length frame.now) ≤ out.old.room }
+    ensures left { O.fails result → out.new ≡ out.old }
+    ensures room { out.new.room ≡ out.old.room }
+    ensures short { length out.new.bytes ≤ length out.old.bytes + room_for (length frame.now) }
+    ensures passes { O.passes result out.old.bytes out.new.bytes (judged_frame R.ReadRules W.WireWrite schema.now route.now frame.now) }
+{
     let Some((head, at)) = R::front(frame, room) else {
         return O::left();
     };
     if !holds_name::<W>(head.name) {
         return O::left();
     }
-    if !is_hinted::<R, W>() && habit.begins_untyped::<W>(schema) {
-        if append_message::<R, W, Nothing>(Nothing, schema, &head, frame, at, out) {
-            habit.was_enough();
-            return O::passed_by(schema, route, &head);
-        }
-        if !W::is_marked() {
-            return O::left();
-        }
-        habit.asks();
+    if append_message::<R, W, Nothing>(Nothing, schema, &head, frame, at, out) {
+        return O::passed_by(schema, *route, &head);
     }
-    let told = told_of(schema, route, &head);
+    O::left()
+}
+
+/// The same with what is declared of the message.
+#[inline(never)]
+fn pass_typed<R: FormRead, W: FormWrite, O: Outcome>(
+    schema: &Schema,
+    route: &Route,
+    frame: &[u8],
+    room: &mut [u8],
+    out: &mut Out,
+) -> O
+    requires known { IsKnownRoute schema.now route.now }
+    requires room { length frame.now ≤ length room.old }
+    requires size { length frame.now < 2 ^ 31 }
+    requires fits { length out.old.bytes + room_for (length frame.now) ≤ out.old.room }
+    ensures left { O.fails result → out.new ≡ out.old }
+    ensures room { out.new.room ≡ out.old.room }
+    ensures short { length out.new.bytes ≤ length out.old.bytes + room_for (length frame.now) }
+    ensures passes { O.passes result out.old.bytes out.new.bytes (judged_frame R.ReadRules W.WireWrite schema.now route.now frame.now) }
+{
+    let Some((head, at)) = R::front(frame, room) else {
+        return O::left();
+    };
+    if !holds_name::<W>(head.name) {
+        return O::left();
+    }
+    let told = told_of(schema, *route, &head);
     if append_told::<R, W>(schema, told.body, &head, frame, at, out) {
         return O::passed(told.info);
     }

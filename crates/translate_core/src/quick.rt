@@ -18,7 +18,7 @@ use crate::leaves::{
     AROUND, BoolLeaf, DoubleLeaf, I8Leaf, I16Leaf, I32Leaf, I64Leaf, Reach, UuidLeaf, take_leaf,
     take_text,
 };
-use crate::runs::{take_leaves, take_texts};
+use crate::runs::{take_leaves, take_rare_leaves, take_texts};
 use protocol_traits::{Container, DEPTH, FormRead, FormWrite, Lead, Opening, Pairs, Stand};
 use thrift_value::Kind;
 use type_tables::Schema;
@@ -66,6 +66,7 @@ pub fn take_fields<R: FormRead, W: FormWrite, K: Known>(
             return Some(behind);
         }
         if let Lead::Bad = lead {
+            *into = to;
             return None;
         }
         let reach = take_field::<R, W, K>(
@@ -207,8 +208,19 @@ fn take_map_field<R: FormRead, W: FormWrite, K: Known>(
 {
     let next = known.field(schema, id, Kind::Map);
     let value = W::field(cells, to, opening, last, id, Kind::Map);
+    let mut written = value;
     let stand = Stand::Field;
-    take_map::<R, W, K>(next, schema, frame, behind, cells, value, stand, depth)
+    let read = take_map::<R, W, K>(
+        next,
+        schema,
+        frame,
+        behind,
+        cells,
+        &mut written,
+        stand,
+        depth,
+    )?;
+    Some(Reach { read, written })
 }
 
 /// Takes a field whose value is a list or set.
@@ -276,7 +288,20 @@ fn take_level<R: FormRead, W: FormWrite, K: Known>(
 {
     match kind {
         Kind::Struct => take_struct::<R, W, K>(known, schema, frame, at, cells, to, stand, depth),
-        Kind::Map => take_map::<R, W, K>(known, schema, frame, at, cells, to, stand, depth),
+        Kind::Map => {
+            let mut written = to;
+            let read = take_map::<R, W, K>(
+                known,
+                schema,
+                frame,
+                at,
+                cells,
+                &mut written,
+                stand,
+                depth,
+            )?;
+            Some(Reach { read, written })
+        }
         _ => {
             let container = sequence_kind(kind)?;
             take_list::<R, W, K>(known, schema, frame, at, cells, to, stand, container, depth)
@@ -542,13 +567,13 @@ fn take_run<R: FormRead, W: FormWrite, K: Known>(
     ensures takes { TookRun R.ReadRules W.WireWrite (K.means known) schema.now depth frame.now at kind size cells.old to cells.new result }
 {
     match kind {
-        Kind::Bool => take_leaves::<R, W, BoolLeaf>(frame, at, cells, to, size),
-        Kind::I8 => take_leaves::<R, W, I8Leaf>(frame, at, cells, to, size),
-        Kind::I16 => take_leaves::<R, W, I16Leaf>(frame, at, cells, to, size),
+        Kind::Bool => take_rare_leaves::<R, W, BoolLeaf>(frame, at, cells, to, size),
+        Kind::I8 => take_rare_leaves::<R, W, I8Leaf>(frame, at, cells, to, size),
+        Kind::I16 => take_rare_leaves::<R, W, I16Leaf>(frame, at, cells, to, size),
         Kind::I32 => take_leaves::<R, W, I32Leaf>(frame, at, cells, to, size),
         Kind::I64 => take_leaves::<R, W, I64Leaf>(frame, at, cells, to, size),
-        Kind::Double => take_leaves::<R, W, DoubleLeaf>(frame, at, cells, to, size),
-        Kind::Uuid => take_leaves::<R, W, UuidLeaf>(frame, at, cells, to, size),
+        Kind::Double => take_rare_leaves::<R, W, DoubleLeaf>(frame, at, cells, to, size),
+        Kind::Uuid => take_rare_leaves::<R, W, UuidLeaf>(frame, at, cells, to, size),
         Kind::Str => take_texts::<R, W>(frame, at, cells, to, known.hint(), size),
         Kind::Struct | Kind::Map | Kind::Set | Kind::List => take_levels::<R, W, K>(
             known, schema, frame, at, cells, to, kind, size, depth,
@@ -613,20 +638,20 @@ fn take_map<R: FormRead, W: FormWrite, K: Known>(
     frame: &[u8],
     at: usize,
     cells: &mut [u8],
-    to: usize,
+    to: &mut usize,
     stand: Stand,
     depth: usize,
-) -> Option<Reach>
+) -> Option<usize>
     requires known { K.sound known schema.now }
     requires informed { Informs K.tells R.hinted W.hinted }
     requires size { length frame.now < 2 ^ 31 }
     requires place { at ≤ length frame.now }
-    requires room { HasRoom AROUND frame.now at cells.old to }
+    requires room { HasRoom AROUND frame.now at cells.old to.old }
     requires shallow { depth ≤ DEPTH }
     ensures kept { length cells.new ≡ length cells.old }
-    ensures past { IfSome result (λ x. IsPast at frame.now x.read) }
-    ensures grows { IfSome result (λ x. Grows at to x.read x.written) }
-    ensures takes { TookValue R.ReadRules W.WireWrite (K.means known) schema.now depth frame.now at stand Kind.Map cells.old to cells.new result }
+    ensures past { IfSome result (λ read. IsPast at frame.now read) }
+    ensures grows { IfSome result (λ read. Grows at to.old read to.new) }
+    ensures takes { TookValue R.ReadRules W.WireWrite (K.means known) schema.now depth frame.now at stand Kind.Map cells.old to.old cells.new (reached result to.new) }
 {
     if depth >= DEPTH {
         return None;
@@ -634,16 +659,16 @@ fn take_map<R: FormRead, W: FormWrite, K: Known>(
     let pairs = R::pairs(frame, at, stand)?;
     if pairs.size == 0 {
         let mark = mark_for::<W, K>(known, schema)?;
-        let written = W::no_pairs(cells, to, stand, mark);
-        return Some(Reach {
-            read: pairs.behind,
-            written,
-        });
+        let written = W::no_pairs(cells, *to, stand, mark);
+        *to = written;
+        return Some(pairs.behind);
     }
-    let written = W::pairs(cells, to, stand, pairs.key, pairs.value, pairs.size)?;
+    let written = W::pairs(cells, *to, stand, pairs.key, pairs.value, pairs.size)?;
     let key = known.key(schema, pairs.key, pairs.value);
     let value = known.value(schema, pairs.key, pairs.value);
-    take_pairs::<R, W, K>(key, value, schema, frame, cells, written, pairs, depth + 1)
+    let reach = take_pairs::<R, W, K>(key, value, schema, frame, cells, written, pairs, depth + 1)?;
+    *to = reach.written;
+    Some(reach.read)
 }
 
 /// Takes the pairs of an open map, of whose keys and values this is known, to its end.

@@ -1,42 +1,10 @@
-use Rattle.std.proofs.Common.{◌≡◌, ◌++◌, refl, ap, ◌∙◌}
+use Rattle.std.proofs.Common.{◌≡◌, subst, ◌∙◌}
 use Rattle.gate_io.specs.Buffer.{Buffer}
-use Rattle.protocol_traits.specs.Heads.{header_of}
-use Rattle.type_walk.specs.Positions.{start}
-use Rattle.translate_core.specs.Positions.{typed}
-use Rattle.translate_core.specs.Routes.{body_of, info_of, start_of}
-use Rattle.translate_core.specs.Body.{source_in, target_in}
 use Rattle.translate_core.specs.Judged.{judged_frame}
-use Rattle.translate_core.proofs.Judging.{passed_whole}
-use Rattle.translate_core.proofs.passing.pass_quickly.Goals.{then-not-is_hinted+then-begins_untyped+else-append_message+else-not-is_marked, else-not-is_hinted}
+use Rattle.translate_core.proofs.passing.pass_quickly.Goals.{then-not-is_hinted+then-begins_untyped+else-not-is_marked+else-not-is_left, else-not-is_hinted}
 use Rattle.translate_core.proofs.passing.pass_quickly.Goals as goal
 
-pub returns-then-append_message-clause-passes : goal.returns-then-append_message-clause-passes
-unfolding start_of
-returns-then-append_message-clause-passes g c =
-    let source = source_in g.R.ReadRules in
-    let target = target_in g.W.WireWrite in
-    let d = c.args.schema.now in
-    let header = header_of c.in-Some.head in
-    let read = c.in-Some.ensures.reads in
-    let body = body_of d c.args.route header in
-    let x = c.append_message.ensures.passes c.if-append_message.true body tt read.0 read.2 in
-    c.passed_by.ensures.passes c.args.out.now.bytes c.append_message.new.out.bytes (judged_frame g.R.ReadRules g.W.WireWrite d c.args.route c.args.frame.now)
-    (passed_whole source typed (start_of d c.args.route) (info_of d c.args.route) target c.args.frame.now header read.0 x.0 (start d body) x.2 x.1 (info_of d c.args.route header)
-    c.args.out.now.bytes (c.args.out.now.bytes ++ target.plain_head header) c.append_message.new.out.bytes x.3
-    read.1 (c.holds_name.ensures c.if-not-holds_name.false) refl refl x.4 x.5 refl x.6)
-
-pub returns-then-append_told-clause-passes : goal.returns-then-append_told-clause-passes
-unfolding start_of
-returns-then-append_told-clause-passes g c =
-    let source = source_in g.R.ReadRules in
-    let target = target_in g.W.WireWrite in
-    let d = c.args.schema.now in
-    let header = header_of c.in-Some.head in
-    let read = c.in-Some.ensures.reads in
-    let same : c.if-not-is_hinted.out ≡ c.args.out.now = elim c.if-not-is_hinted.branch [ then-not-is_hinted+then-begins_untyped+else-append_message+else-not-is_marked w ↦ w.out-is ∙ w.append_message.ensures.left w.if-append_message.false | else-not-is_hinted w ↦ w.out-is ] in
-    let x = c.append_told.ensures.passes c.if-append_told.true read.0 read.2 in
-    c.passed.ensures.passes c.args.out.now.bytes c.append_told.new.out.bytes (judged_frame g.R.ReadRules g.W.WireWrite d c.args.route c.args.frame.now)
-    (passed_whole source typed (start_of d c.args.route) (info_of d c.args.route) target c.args.frame.now header read.0 x.0 (start d c.told_of-told.result.body) x.2 x.1 c.told_of-told.result.info
-    c.args.out.now.bytes (c.if-not-is_hinted.out.bytes ++ target.plain_head header) c.append_told.new.out.bytes x.3
-    read.1 (c.holds_name.ensures c.if-not-holds_name.false) (ap (start d) c.told_of-told.ensures.body) c.told_of-told.ensures.info x.4 x.5
-    (ap (λ (b : Buffer). b.bytes ++ target.plain_head header) same) x.6)
+pub returns-clause-passes : goal.returns-clause-passes
+returns-clause-passes g c =
+    let same : c.if-not-is_hinted.out ≡ c.args.out.now = elim c.if-not-is_hinted.branch [ then-not-is_hinted+then-begins_untyped+else-not-is_marked+else-not-is_left w ↦ w.out-is ∙ w.pass_untyped-passed.ensures.left (w.is_left.ensures.left w.if-not-is_left.false) | else-not-is_hinted w ↦ w.out-is ] in
+    subst (λ (b : Buffer). g.O.Outcome.passes c.pass_typed.result b.bytes c.pass_typed.new.out.bytes (judged_frame g.R.ReadRules g.W.WireWrite c.args.schema.now c.args.route c.args.frame.now)) same c.pass_typed.ensures.passes

@@ -134,16 +134,15 @@ take_struct_field-returns-clause-takes g t c =
     spells (whole (field_type d (Some (in_struct ty)) c.args.id kinds.Struct) (next ty means))) c.take_struct.ensures.takes
 
 pub take_map_field-returns-clause-takes : goal.take_map_field-returns-clause-takes
-take_map_field-returns-clause-takes g t c =
+take_map_field-returns-clause-takes g t c ty means =
     let source = source_in g.R.ReadRules in
     let target = target_in g.W.WireWrite in
     let d = c.args.schema.now in
     let spells = rw (to_z-of_z w16 c.args.last c.ranges.last, to_z-of_z w16 c.args.id c.ranges.id) at c.field-value.ensures.spells in
     let next = rw (to_z-of_z w16 c.args.id c.ranges.id) at c.field-next.ensures.means in
-    if_some _ _ c.take_map.result (λ (x : Reach) whole ty means.
     takes_field source target g.R.ReadRules.stands_at g.W.WireWrite.stands_at c.args.frame.now g.R.ReadRules.pays g.met.W.FormWrite.goes_on
-    d ty c.args.depth c.args.at c.args.behind x.read c.args.opening c.args.last c.args.id kinds.Map c.args.cells.now c.field-value.new.cells c.take_map.new.cells c.args.to c.field-value.result x.written
-    spells (whole (field_type d (Some (in_struct ty)) c.args.id kinds.Map) (next ty means))) c.take_map.ensures.takes
+    d ty c.args.depth c.args.at c.args.behind c.in_ok-read.read c.args.opening c.args.last c.args.id kinds.Map c.args.cells.now c.field-value.new.cells c.take_map.new.cells c.args.to c.field-value.result c.take_map.new.to
+    spells (c.in_ok-read.ensures.takes (field_type d (Some (in_struct ty)) c.args.id kinds.Map) (next ty means))
 
 pub take_list_field-returns-clause-takes : goal.take_list_field-returns-clause-takes
 take_list_field-returns-clause-takes g t c =
@@ -291,19 +290,19 @@ take_levels-returns-clause-takes g t c level flat means opening up outer deep =
 
 pub take_run-returns-in-Bool-clause-takes : goal.take_run-returns-in-Bool-clause-takes
 take_run-returns-in-Bool-clause-takes g t c =
-    rw c.in-Bool.is (if_some _ _ c.take_leaves.result (λ (x : Reach) whole level flat means. whole c.args.schema.now level c.args.depth flat) c.take_leaves.ensures.takes)
+    rw c.in-Bool.is (if_some _ _ c.take_rare_leaves.result (λ (x : Reach) whole level flat means. whole c.args.schema.now level c.args.depth flat) c.take_rare_leaves.ensures.takes)
 
 pub take_run-returns-in-I8-clause-takes : goal.take_run-returns-in-I8-clause-takes
 take_run-returns-in-I8-clause-takes g t c =
-    rw c.in-I8.is (if_some _ _ c.take_leaves-in-I8.result (λ (x : Reach) whole level flat means. whole c.args.schema.now level c.args.depth flat) c.take_leaves-in-I8.ensures.takes)
+    rw c.in-I8.is (if_some _ _ c.take_rare_leaves-in-I8.result (λ (x : Reach) whole level flat means. whole c.args.schema.now level c.args.depth flat) c.take_rare_leaves-in-I8.ensures.takes)
 
 pub take_run-returns-in-I16-clause-takes : goal.take_run-returns-in-I16-clause-takes
 take_run-returns-in-I16-clause-takes g t c =
-    rw c.in-I16.is (if_some _ _ c.take_leaves-in-I16.result (λ (x : Reach) whole level flat means. whole c.args.schema.now level c.args.depth flat) c.take_leaves-in-I16.ensures.takes)
+    rw c.in-I16.is (if_some _ _ c.take_rare_leaves-in-I16.result (λ (x : Reach) whole level flat means. whole c.args.schema.now level c.args.depth flat) c.take_rare_leaves-in-I16.ensures.takes)
 
 pub take_run-returns-in-I32-clause-takes : goal.take_run-returns-in-I32-clause-takes
 take_run-returns-in-I32-clause-takes g t c =
-    rw c.in-I32.is (if_some _ _ c.take_leaves-in-I32.result (λ (x : Reach) whole level flat means. whole c.args.schema.now level c.args.depth flat) c.take_leaves-in-I32.ensures.takes)
+    rw c.in-I32.is (if_some _ _ c.take_leaves.result (λ (x : Reach) whole level flat means. whole c.args.schema.now level c.args.depth flat) c.take_leaves.ensures.takes)
 
 pub take_run-returns-in-I64-clause-takes : goal.take_run-returns-in-I64-clause-takes
 take_run-returns-in-I64-clause-takes g t c =
@@ -311,11 +310,11 @@ take_run-returns-in-I64-clause-takes g t c =
 
 pub take_run-returns-in-Double-clause-takes : goal.take_run-returns-in-Double-clause-takes
 take_run-returns-in-Double-clause-takes g t c =
-    rw c.in-Double.is (if_some _ _ c.take_leaves-in-Double.result (λ (x : Reach) whole level flat means. whole c.args.schema.now level c.args.depth flat) c.take_leaves-in-Double.ensures.takes)
+    rw c.in-Double.is (if_some _ _ c.take_rare_leaves-in-Double.result (λ (x : Reach) whole level flat means. whole c.args.schema.now level c.args.depth flat) c.take_rare_leaves-in-Double.ensures.takes)
 
 pub take_run-returns-in-Uuid-clause-takes : goal.take_run-returns-in-Uuid-clause-takes
 take_run-returns-in-Uuid-clause-takes g t c =
-    rw c.in-Uuid.is (if_some _ _ c.take_leaves-in-Uuid.result (λ (x : Reach) whole level flat means. whole c.args.schema.now level c.args.depth flat) c.take_leaves-in-Uuid.ensures.takes)
+    rw c.in-Uuid.is (if_some _ _ c.take_rare_leaves-in-Uuid.result (λ (x : Reach) whole level flat means. whole c.args.schema.now level c.args.depth flat) c.take_rare_leaves-in-Uuid.ensures.takes)
 
 pub take_run-returns-in-Str-clause-takes : goal.take_run-returns-in-Str-clause-takes
 take_run-returns-in-Str-clause-takes g t c =
@@ -350,24 +349,24 @@ take_map-returns-then-pairs-eq0-clause-takes g t c ty means opening nest outer c
     let pairs = c.in_ok-pairs.pairs in
     let steps = rw c.if-pairs-eq0.true at c.in_ok-pairs.ensures.steps in
     takes_item source target g.R.ReadRules.stands_at g.W.WireWrite.stands_at c.args.frame.now g.R.ReadRules.pays g.met.W.FormWrite.goes_on
-    c.args.at pairs.behind opening nest p empty_map c.args.cells.now c.no_pairs-written.new.cells c.args.to c.no_pairs-written.result (calls_some c.args.stand kinds.Map opening nest calls)
+    c.args.at pairs.behind opening nest p empty_map c.args.cells.now c.no_pairs-written.new.cells c.args.to.now c.no_pairs-written.result (calls_some c.args.stand kinds.Map opening nest calls)
     (steps opening nest (hint_of p) calls (omega (arith, deep)))
     (c.no_pairs-written.ensures.spells opening nest (mark_of p empty_map) (λ marked. c.in_ok-mark.ensures ty means marked) calls)
 
 pub take_map-returns-clause-takes : goal.take_map-returns-clause-takes
-take_map-returns-clause-takes g t c =
+take_map-returns-clause-takes g t c ty means =
     let source = source_in g.R.ReadRules in
     let target = target_in g.W.WireWrite in
     let d = c.args.schema.now in
     let pairs = c.in_ok-pairs.pairs in
     let some : 0 < pairs.size = omega arith in
     let steps = rw (pairs_some pairs.key pairs.value pairs.size some) at c.in_ok-pairs.ensures.steps in
-    if_some _ _ c.take_pairs.result (λ (x : Reach) whole ty means.
+    let reach = c.in_ok-reach.reach in
     takes_level source target g.R.ReadRules.stands_at g.W.WireWrite.stands_at c.args.frame.now g.R.ReadRules.pays g.met.W.FormWrite.goes_on
-    d ty c.args.depth c.args.at pairs.behind x.read c.args.stand kinds.Map (map_begin pairs.key pairs.value pairs.size) (slots.Keys pairs.key pairs.value pairs.size) (in_map d ty pairs.key pairs.value)
-    c.args.cells.now c.pairs-2.new.cells c.take_pairs.new.cells c.args.to c.in_ok-written.written x.written
+    d ty c.args.depth c.args.at pairs.behind reach.read c.args.stand kinds.Map (map_begin pairs.key pairs.value pairs.size) (slots.Keys pairs.key pairs.value pairs.size) (in_map d ty pairs.key pairs.value)
+    c.args.cells.now c.pairs-2.new.cells c.take_pairs.new.cells c.args.to.now c.in_ok-written.written reach.written
     refl (λ nest. refl) (λ outer. refl) (omega arith) steps c.in_ok-written.ensures.spells
-    (λ up outer deep. whole (in_map d ty pairs.key pairs.value) (turns_map d ty pairs.key pairs.value) (c.key-key.ensures.means ty means) (c.value-value.ensures.means ty means) up outer deep)) c.take_pairs.ensures.takes
+    (λ up outer deep. c.in_ok-reach.ensures.takes (in_map d ty pairs.key pairs.value) (turns_map d ty pairs.key pairs.value) (c.key-key.ensures.means ty means) (c.value-value.ensures.means ty means) up outer deep)
 
 pub take_pairs-pairs-init : goal.take_pairs-pairs-init
 take_pairs-pairs-init g t c =
