@@ -215,6 +215,7 @@ fn write<H: Hub, J: Judge, N: Notes>(
 }
 
 /// Reads what the session has room for.
+#[inline(never)]
 fn read<H: Hub, J: Judge, N: Notes>(
     session: &mut Session<J>,
     hub: &mut H,
@@ -275,6 +276,7 @@ fn give<J: Judge, N: Notes>(session: &mut Session<J>, side: Side, bytes: &[u8], 
 }
 
 /// So many bytes that were due to a side were sent to it.
+#[inline(always)]
 fn pass_on<J: Judge, N: Notes>(session: &mut Session<J>, side: Side, count: usize, notes: &mut N)
     requires due { count ≤ length (due_to side session.old.standing) }
     ensures matches { MatchesOn J.rules session.old session.new (N.tells notes.old notes.new)

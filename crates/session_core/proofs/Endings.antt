@@ -7,12 +7,13 @@ use Rattle.session_core.specs.Standing.{Standing}
 use Rattle.session_core.specs.Fits.{told}
 use Rattle.session_core.specs.Notes.{Note}
 use Rattle.session_core.specs.Steps.{Waits, is_none, of_client, of_upstream, ByUpstream, ByClient, IsStill, outcome_of, by_both}
-use Rattle.session_core.specs.Working.{StandsStill, Goes, Took, ending_of, ending_by}
+use Rattle.session_core.specs.Working.{standing, limit_of, of_upstream_in, of_client_in, Keeps, StandsStill, Goes, Took, ending_of, ending_by}
 use Rattle.session_core.specs.Working.{ByUpstream as took_upstream, ByClient as took_client}
 use Rattle.session_core.specs.Ends.{IsAtRest}
 use Rattle.session_core.specs.Session.{due_to}
 use Rattle.gate_hub.specs.declared.hub.Side.{Side}
 use Rattle.gate_hub.specs.declared.hub.Side.TheVariants as side
+use Rattle.session_core.specs.declared.state.State.{State}
 use Rattle.session_core.specs.declared.state.Standstill.{Standstill}
 use Rattle.session_core.specs.declared.state.Standstill.TheVariants as standstill
 use Rattle.session_core.specs.declared.outcome.Outcome.{Outcome}
@@ -58,6 +59,14 @@ goes_at rules others limit k max_calls m s t notes why a b d h =
     subst (λ (r : Rules). Goes r limit max_calls s t notes why) a
     (subst (λ (n : ℕ). Goes others n max_calls s t notes why) b
     (subst (λ (n : ℕ). Goes others k n s t notes why) d h))
+
+-- where the state shows by itself that no frame can be taken
+pub rests_at : (rules : Rules) (old new : State) → Keeps rules old new → of_upstream_in rules new ≡ Waits → of_client_in rules new ≡ Waits → StandsStill rules (limit_of old) old.calls.capacity (standing new) standstill.Waits
+rests_at rules old new keeps upstream client = (
+  subst (λ (n : ℕ). of_upstream rules n (standing new) ≡ Waits) keeps.ready.client.limit_is upstream,
+  subst (λ (n : ℕ). of_client rules n old.calls.capacity (standing new) ≡ Waits) keeps.ready.client.limit_is
+      (subst (λ (n : ℕ). of_client rules (limit_of new) n (standing new) ≡ Waits) keeps.ready.capacity client),
+)
 
 pub ending_at : (rules : Rules) (limit max_calls : ℕ) (s t : Standing) (notes : List Note) (why : Standstill) → Goes rules limit max_calls s t notes (Some why) → ending_of limit t why ≡ outcome_of rules limit max_calls t
 ending_at rules limit max_calls s t notes why goes = ended_by rules limit max_calls t why (subst (λ (x : Standing). StandsStill rules limit max_calls x why) (sym goes.0) goes.1)

@@ -117,6 +117,7 @@ impl<J: Judge> Session<J> {
     }
 
     /// So many of the bytes that are due to a side were sent.
+    #[inline(always)]
     pub fn sent<N: Notes>(&mut self, side: Side, n: usize, notes: &mut N)
         requires due { n ≤ length (due_to side self.old.standing) }
         ensures same { (self.new.judge ≡ self.old.judge) × (self.new.limit ≡ self.old.limit) × (self.new.max_calls ≡ self.old.max_calls) }

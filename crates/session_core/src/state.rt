@@ -23,13 +23,14 @@
 //! A session with an outcome takes nothing more.
 ghost use Rattle.std.specs.Prelude.{◌≡◌, ◌+◌, ◌^◌, ◌<◌, ◌≤◌, [], ◌++◌, length, take, min, ◌-◌, ℕ, is_some, IfOk, true, not, ◌&&◌, Some, None, if◌then◌else◌};
 ghost use Rattle.framed_transport.specs.Front.{front, whole_size, is_part, is_whole};
+ghost use Rattle.session_core.specs.Rules.{Rules};
 ghost use Rattle.session_core.specs.Standing.{Standing, History, begun};
 ghost use Rattle.session_core.specs.Fits.{told};
 ghost use Rattle.session_core.specs.Steps.{outcome_of, IsStill, is_none, by_upstream, by_client, at_end, Move, Waits};
 ghost use Rattle.session_core.specs.Ends.{held_of, most_held};
 ghost use Rattle.session_core.specs.Session.{due_to, and_came, and_sent, and_ended, room_of};
 ghost use Rattle.session_core.specs.Halves.{fed, let_go, ended};
-ghost use Rattle.session_core.specs.Working.{standing, limit_of, half_of, with_half, of_upstream_in, of_client_in, IsReady, Works, Keeps, IsSettledBy, FitsOn, IsSound, Comes, GoesOn, Cuts, ends_step, ending_of, IsFound, without_reply, without_call, ComesRefused, TakesNoMoreOf, told_of_reply, told_of_call};
+ghost use Rattle.session_core.specs.Working.{standing, limit_of, half_of, with_half, of_upstream_in, of_client_in, IsReady, Works, Keeps, Knows, IsSettledBy, FitsOn, IsSound, Comes, GoesOn, Cuts, ends_step, ending_of, IsFound, without_reply, without_call, ComesRefused, TakesNoMoreOf, told_of_reply, told_of_call};
 ghost use Rattle.session_core.specs.Looks.{came, stopped, stopped_by};
 
 use crate::framing::{answer_call, judge_client, judge_upstream, pass_call, pass_reply};
@@ -414,6 +415,7 @@ impl State {
     }
 
     /// Takes a frame, or says why none can be taken.
+    #[inline(never)]
     fn step<J: Judge, N: Notes>(&mut self, judge: &mut J, notes: &mut N) -> Option<Stop>
         requires works { Works (J.rules judge.old) (J.longest judge.old) self.old }
         ensures same { judge.new ≡ judge.old }
@@ -432,6 +434,7 @@ impl State {
     }
 
     /// Takes all that can be taken, and says why no more can be.
+    #[inline(always)]
     fn advance<J: Judge, N: Notes>(&mut self, judge: &mut J, notes: &mut N) -> Stop
         requires works { Works (J.rules judge.old) (J.longest judge.old) self.old }
         ensures same { judge.new ≡ judge.old }
@@ -445,7 +448,22 @@ impl State {
             if let Some(stop) = self.step(judge, notes) {
                 return stop;
             }
+            if self.rests() {
+                return Stop::Waits;
+            }
         }
+    }
+
+    /// Whether it shows at once that no frame can be taken, as mostly after one was.
+    #[inline(always)]
+    fn rests(&self) -> bool
+        ensures upstream { (rules : Rules) → result ≡ true → of_upstream_in rules self.now ≡ Waits }
+        ensures client { (rules : Rules) → result ≡ true → Knows rules self.now → of_client_in rules self.now ≡ Waits }
+    {
+        if self.upstream.ended || (self.client.is_paid() && self.upstream.held.held() >= 4) {
+            return false;
+        }
+        !self.upstream.is_paid() || (self.client.held.held() < 4 && self.known.is_none())
     }
 
     /// Whether something is due to a side: the session goes on then.
@@ -523,6 +541,7 @@ impl State {
     }
 
     /// Takes all that can be taken, and keeps the outcome.
+    #[inline(always)]
     pub fn settle<J: Judge, N: Notes>(&mut self, judge: &mut J, notes: &mut N)
         requires works { Works (J.rules judge.old) (J.longest judge.old) self.old }
         ensures same { judge.new ≡ judge.old }
@@ -584,6 +603,7 @@ impl State {
     }
 
     /// So many of the bytes that were due to a side were sent. While some are left, no more can be taken than before.
+    #[inline(always)]
     pub fn sent<J: Judge, N: Notes>(&mut self, judge: &mut J, side: Side, n: usize, notes: &mut N)
         requires works { Works (J.rules judge.old) (J.longest judge.old) self.old }
         requires due { n ≤ length (half_of side self.old).due.bytes }
