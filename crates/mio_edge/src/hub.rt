@@ -187,6 +187,7 @@ impl<W: Network> Hub for MioHub<W> {
         got
     }
 
+    #[inline(always)]
     fn write(&mut self, k: u64, side: Side, from: &[u8]) -> LinkPut
         requires { 0 < length from.now }
         ensures within { TookWithin from.now result }

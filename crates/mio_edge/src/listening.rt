@@ -301,7 +301,7 @@ impl<S: Stream> Listening<S> {
 
     /// Begins the connection of a port of session `number` where that was left to the first write.
     /// Where it can't be begun the port stays without one.
-    #[inline]
+    #[inline(always)]
     pub(crate) fn connect_for_write<W: Network<Stream = S>>(
         &mut self,
         network: &mut W,
@@ -316,6 +316,21 @@ impl<S: Stream> Listening<S> {
         if self.connecting == Connecting::AtOnce {
             return;
         }
+        self.connect_deferred(network, number, port);
+    }
+
+    // Begins that connection, if it is to be begun still.
+    #[inline(never)]
+    fn connect_deferred<W: Network<Stream = S>>(
+        &mut self,
+        network: &mut W,
+        number: u64,
+        port: usize,
+    )
+        ensures turns { SameTurns self.old.table self.new.table }
+        ensures below { StayBelow self.old.table.sessions self.new.table.sessions }
+        ensures same { fixed_of self.new ≡ fixed_of self.old }
+    {
         let Some(place) = self.table.find_deferred(number, port) else {
             return;
         };

@@ -281,6 +281,7 @@ impl<S: Stream> Port<S> {
     }
 
     /// Sends what was written, as far as the stream takes it now.
+    #[inline(never)]
     pub(crate) fn send(&mut self)
         ensures keeps { Stays (PortTells S.tells self.old) (PortTells S.tells self.new) }
         ensures sent { HasSent self.new }

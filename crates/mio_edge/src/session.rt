@@ -169,6 +169,7 @@ impl<S: Stream> Session<S> {
     }
 
     /// Reads from a port, or answers that it isn't ready where the session moved all that it may.
+    #[inline(always)]
     pub(crate) fn read(&mut self, port: usize, into: &mut [u8]) -> LinkGot
         requires { 0 < length into.old }
         ensures within { GotWithin into.new result }

@@ -245,6 +245,7 @@ impl<W: Network> Sockets<W> {
     /// `NotReady`: the buffer and the socket are full, or it is the others' turn; `next` names k
     /// when it may be written again. `Failed`: the connection failed, maybe at an earlier send, or
     /// never came to be, or there is no such port.
+    #[inline(always)]
     pub fn write(&mut self, k: u64, port: usize, from: &[u8]) -> LinkPut
         requires { 0 < length from.now }
         ensures within { TookWithin from.now result }

@@ -441,6 +441,7 @@ impl<S: Stream> Table<S> {
     }
 
     /// Reads from a port of a session.
+    #[inline(always)]
     pub(crate) fn read(&mut self, number: u64, port: usize, into: &mut [u8]) -> LinkGot
         requires { 0 < length into.old }
         ensures within { GotWithin into.new result }
@@ -467,6 +468,30 @@ impl<S: Stream> Table<S> {
     /// Writes to a port of a session.
     #[inline(always)]
     pub(crate) fn write(&mut self, number: u64, port: usize, from: &[u8]) -> LinkPut
+        requires { 0 < length from.now }
+        ensures within { TookWithin from.now result }
+        ensures leads { MovesAt number (TableTells S.tells self.old) (TableTells S.tells self.new) (AtSession number port (LinkWrites from.now result)) }
+        ensures winds { (world : World) → TableTells S.tells self.old world → Winds S.tells self.old.sessions self.new.sessions }
+        ensures joins { JoinsBehind self.old self.new }
+        ensures below { StayBelow self.old.sessions self.new.sessions }
+        ensures stepped { StayStepped S.tells self.old self.new }
+        ensures same { self.new.settings ≡ self.old.settings }
+    {
+        if let Some(session) = self.sessions.get_mut(self.turning)
+            && session.number == number
+            && session.is_open
+            && session.is_written
+            && !session.is_spent()
+        {
+            return session.write(port, from);
+        }
+        self.write_first(number, port, from)
+    }
+
+    // The same for a session that may be another than the one whose turn it is, may have moved all that it may, or wasn't
+    // written to.
+    #[inline(never)]
+    fn write_first(&mut self, number: u64, port: usize, from: &[u8]) -> LinkPut
         requires { 0 < length from.now }
         ensures within { TookWithin from.now result }
         ensures leads { MovesAt number (TableTells S.tells self.old) (TableTells S.tells self.new) (AtSession number port (LinkWrites from.now result)) }

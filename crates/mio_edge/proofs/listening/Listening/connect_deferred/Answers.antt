@@ -1,4 +1,4 @@
-use Rattle.mio_edge.proofs.listening.Listening.connect_for_write.Goals as goal
+use Rattle.mio_edge.proofs.listening.Listening.connect_deferred.Goals as goal
 
 pub returns-in_default-clause-below : goal.returns-in_default-clause-below
 returns-in_default-clause-below g c = λ next below. below
