@@ -111,8 +111,10 @@ fn lay_few(cells: &mut [u8], to: usize, part: &[u8], count: usize) -> usize
         lay_ends::<4>(cells, to, part, count)
     } else if count >= 2 {
         lay_ends::<2>(cells, to, part, count)
+    } else if count == 1 {
+        lay_fixed::<1>(cells, to, part, 0)
     } else {
-        lay(cells, to, &part[..count])
+        to
     }
 }
 
@@ -157,7 +159,7 @@ fn bytes_at<const N: usize>(frame: &[u8], begin: usize) -> [u8; N]
     requires { begin + N ≤ length frame.now }
     ensures { result ≡ take N (drop begin frame.now) }
 {
-    match frame[begin..].first_chunk::<N>() {
+    match frame[begin..begin + N].first_chunk::<N>() {
         Some(bytes) => *bytes,
         None => [0; N],
     }

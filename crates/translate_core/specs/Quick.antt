@@ -186,6 +186,11 @@ module _ {S T : Type 0} (reads : ReadRules S) (writes : WriteRules T) where
     TookValue depth frame at stand kind old to new taken = IfSome taken (λ x. (ty : Ty) → means ty
         → TakesValue (source_in reads) (target_in writes) reads.stands_at writes.stands_at d ty depth frame at stand kind old to new x.read x.written)
 
+    -- a map was taken, where the place in the cells is told apart
+    abbrev pub TookMap : ℕ → List ℕ → ℕ → Stand → List ℕ → ℕ → List ℕ → Option ℕ → ℕ → Type 0
+    TookMap depth frame at stand old to new taken into =
+        TookValue depth frame at stand kinds.Map old to new (reached taken into)
+
     -- a field was taken whose value has this kind
     abbrev pub TookField : ℕ → List ℕ → ℕ → Opening → ℤ → Kind → ℤ → ℕ → List ℕ → ℕ → List ℕ → Option Reach → Type 0
     TookField depth frame at opening last kind id behind old to new taken = IfSome taken (λ x. (ty : Ty) → means ty

@@ -7,7 +7,7 @@ ghost use Rattle.protocol_traits.specs.declared.forms.Container.{Container};
 ghost use Rattle.protocol_traits.specs.declared.forms.Lead.{Lead};
 ghost use Rattle.protocol_traits.specs.declared.forms.Stand.{Stand};
 ghost use Rattle.protocol_traits.specs.Forms.{IsPast, container_kind};
-ghost use Rattle.translate_core.specs.Quick.{Grows, HasRoom, Informs, TookElements, TookField, TookFields, TookLead, TookList, TookPairs, TookRun, TookValue, reached};
+ghost use Rattle.translate_core.specs.Quick.{Grows, HasRoom, Informs, TookElements, TookField, TookFields, TookLead, TookList, TookMap, TookPairs, TookRun, TookValue, reached};
 
 use crate::fields::{
     BEFORE_FIELD, container_kind, sequence_kind, sequence_of, take_flag, take_leaf_field,
@@ -66,6 +66,7 @@ pub fn take_fields<R: FormRead, W: FormWrite, K: Known>(
             return Some(behind);
         }
         if let Lead::Bad = lead {
+            // A way out of its own: joined with the one above, it would be a test a field more.
             *into = to;
             return None;
         }
@@ -581,9 +582,9 @@ fn take_run<R: FormRead, W: FormWrite, K: Known>(
     }
 }
 
-/// Takes so many elements that are structs or containers. Other kinds are none.
+/// Takes so many elements that are structs or containers, by a call: most lists are of others. Other kinds are none.
 #[cycle(body)]
-#[inline(always)]
+#[inline(never)]
 fn take_levels<R: FormRead, W: FormWrite, K: Known>(
     known: K,
     schema: &Schema,
@@ -629,7 +630,7 @@ fn take_levels<R: FormRead, W: FormWrite, K: Known>(
     })
 }
 
-/// Takes a map inside so many levels.
+/// Takes a map inside so many levels: answers the place behind it in the frame, and moves `to` to the one in the cells.
 #[cycle(body)]
 #[inline(never)]
 fn take_map<R: FormRead, W: FormWrite, K: Known>(
@@ -651,7 +652,7 @@ fn take_map<R: FormRead, W: FormWrite, K: Known>(
     ensures kept { length cells.new ≡ length cells.old }
     ensures past { IfSome result (λ read. IsPast at frame.now read) }
     ensures grows { IfSome result (λ read. Grows at to.old read to.new) }
-    ensures takes { TookValue R.ReadRules W.WireWrite (K.means known) schema.now depth frame.now at stand Kind.Map cells.old to.old cells.new (reached result to.new) }
+    ensures takes { TookMap R.ReadRules W.WireWrite (K.means known) schema.now depth frame.now at stand cells.old to.old cells.new result to.new }
 {
     if depth >= DEPTH {
         return None;

@@ -72,6 +72,17 @@ pub fn read_size_at(bytes: &[u8], at: usize) -> Option<(u32, usize)>
             return Some((u32::from(first), at + 1));
         }
     }
+    longer_size(bytes, at)
+}
+
+// By a call, so that what reads a text holds little code: few sizes have more bytes than one.
+#[cold]
+#[inline(never)]
+fn longer_size(bytes: &[u8], at: usize) -> Option<(u32, usize)>
+    requires { at ≤ length bytes.now }
+    ensures within { IfSome result (λ found. found.1 ≤ length bytes.now) }
+    ensures exact { result ≡ found_at at (varint_at 5 32 (drop at bytes.now)) }
+{
     read_u32_at(bytes, at)
 }
 
@@ -87,10 +98,7 @@ pub fn read_u64_at(bytes: &[u8], at: usize) -> Option<(u64, usize)>
     if let Some((own, count)) = front_of(bytes, at) {
         return Some((gathered(own & LOW_BITS), at + count));
     }
-    if let Some((number, count)) = long_front_of(bytes, at) {
-        return Some((number, at + count));
-    }
-    rest_u64(bytes, at)
+    longer_u64(bytes, at)
 }
 
 // The same group by group: near the end of the bytes, and where a number is long.
@@ -120,13 +128,16 @@ fn rest_u32(bytes: &[u8], at: usize) -> Option<(u32, usize)>
     }
 }
 
-#[cold]
+// Numbers of nine and ten bytes, and others group by group: one call, so that what reads a number holds little code.
 #[inline(never)]
-fn rest_u64(bytes: &[u8], at: usize) -> Option<(u64, usize)>
+fn longer_u64(bytes: &[u8], at: usize) -> Option<(u64, usize)>
     requires { at ≤ length bytes.now }
     ensures within { IfSome result (λ found. found.1 ≤ length bytes.now) }
     ensures exact { result ≡ found_at at (varint_at 10 64 (drop at bytes.now)) }
 {
+    if let Some((number, count)) = long_front_of(bytes, at) {
+        return Some((number, at + count));
+    }
     match read_u64(&bytes[at..]) {
         Ok((number, used)) => Some((number, at + used)),
         Err(_) => None,
@@ -209,7 +220,7 @@ fn ends_of(word: u64) -> u64
 }
 
 // A number of nine or ten bytes.
-#[inline(never)]
+#[inline(always)]
 fn long_front_of(bytes: &[u8], at: usize) -> Option<(u64, usize)>
     requires { at ≤ length bytes.now }
     ensures within { IfSome result (λ found. at + found.1 ≤ length bytes.now) }

@@ -66,7 +66,7 @@ pub fn read_u64(bytes: &[u8]) -> Result<(u64, usize), VarFault>
 
 // The number of one byte, as most are.
 #[inline(always)]
-pub fn single(bytes: &[u8]) -> Option<u8>
+fn single(bytes: &[u8]) -> Option<u8>
     ensures found { IfSome result (λ n. (most width : ℕ) → 0 < most → 7 ≤ width → varint_at most width bytes.now ≡ Ok (n, 1)) }
     ensures some { IfSome result (λ _. 0 < length bytes.now) }
 {
