@@ -78,7 +78,7 @@ pub fn lead_from(frame: &[u8], at: usize, last: i16) -> Option<(Lead, i16, usize
 
 /// What a kind's number stands for in front of a field.
 #[inline(always)]
-fn lead_of(code: u8) -> Lead
+pub fn lead_of(code: u8) -> Lead
     ensures { result ≡ lead_of_kind (kind_of code) }
 {
     match code {
@@ -149,9 +149,9 @@ fn unzigzag16(number: u16) -> i16
     if number % 2 == 0 { half } else { -half - 1 }
 }
 
-/// A signed number of 16 bits.
+/// A field's id that stands in full, a signed number of 16 bits, and the place behind it.
 #[inline(always)]
-fn id_from(frame: &[u8], at: usize) -> Option<(i16, usize)>
+pub fn id_from(frame: &[u8], at: usize) -> Option<(i16, usize)>
     requires { at ≤ length frame.now }
     ensures { IfSome result (λ x. Finds frame.now at id_at x.0 x.1) }
 {

@@ -14,5 +14,7 @@ mod values;
 mod write_forms;
 mod writer;
 
+pub use forms::{id_from, lead_of};
 pub use reader::CompactRead;
+pub use scan::next_id;
 pub use writer::{CompactWrite, short_step};

@@ -19,7 +19,7 @@ ghost use Rattle.kept_forms.specs.Shortest.{AreShortest, IsOwnFront, IsOwnHead, 
 use crate::keeping::FormKeep;
 use crate::renewing::renew;
 use crate::shortest::is_tight;
-use compact_protocol::{CompactRead, CompactWrite, short_step};
+use compact_protocol::{CompactRead, CompactWrite, id_from, lead_of, next_id, short_step};
 use protocol_traits::{Container, FormRead, Head, Lead, Mark, Opening, Pairs, Stand, UUID};
 use thrift_value::Kind;
 use varint_zigzag::{
@@ -34,6 +34,9 @@ const FALSE: u8 = 2;
 
 /// The code of a bool's kind that is read in the head of a container, but not written.
 const OTHER_BOOL: u8 = 2;
+
+/// From this byte on a field's head tells its id by its step from the one before. In a lower one, but 0, it stands in full.
+const STEPS: u8 = 16;
 
 /// A list or set of as many elements has its size in full.
 const MANY: u32 = 15;
@@ -66,11 +69,23 @@ impl<'f> FormKeep<CompactWrite> for CompactRead<'f> {
         ensures past { IfSome result (λ x. (x.0 ≡ Lead.Bad → ⊥) → IsPast at frame.now x.2) }
         ensures keeps { IfSome result (λ x. KeepsLead frame.now at opening last x.0 x.1 x.2) }
     {
-        let (lead, id, behind) = CompactRead::next_field(frame, at, opening, last)?;
-        if !is_own_id(frame, at, behind, last, id) {
+        if at >= frame.len() {
             return None;
         }
-        Some((lead, id, behind))
+        let byte = frame[at];
+        let short = at + 1;
+        if byte >= STEPS {
+            let id = next_id(last, byte / STEPS)?;
+            return Some((lead_of(byte % STEPS), id, short));
+        }
+        if byte == 0 {
+            return Some((Lead::Stop, 0, short));
+        }
+        let (id, behind) = id_from(frame, short)?;
+        if !is_long_id(frame, at, behind, last, id) {
+            return None;
+        }
+        Some((lead_of(byte), id, behind))
     }
 
     #[inline(always)]
