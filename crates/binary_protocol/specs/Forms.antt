@@ -28,7 +28,7 @@ use Rattle.protocol_traits.specs.Steps.{Step, told}
 use Rattle.binary_protocol.specs.declared.scan.Called.TheVariants as calls
 use Rattle.binary_protocol.specs.Codes.{kind_of_code}
 use Rattle.binary_protocol.specs.Heads.{head_at, name_place, seq_at, strict_at, type_at, version_at}
-use Rattle.binary_protocol.specs.Scan.{Scan, fault, unsigned_at, nests, called_for, item_in, value_in, value_at, field_of, field_at, string_at, text_at, uuid_at, shifted, size_at, zero_at, elements_at, set_at, list_at, map_of, map_at, is_bad_kind}
+use Rattle.binary_protocol.specs.Scan.{Scan, fault, unsigned_at, nests, called_for, item_in, value_in, value_at, field_of, field_at, string_at, uuid_at, shifted, size_at, zero_at, elements_at, set_at, list_at, map_of, map_at, is_bad_kind}
 use Rattle.binary_protocol.specs.Reading.{State, rest, begun, headed, reads, reads_head, reads_end}
 use Rattle.binary_protocol.specs.Laws.{head_was_read, reads_ok}
 
@@ -255,13 +255,6 @@ end_read frame at container opening nest hint done =
 drop_more : (n m : ℕ) (xs : List ℕ) → drop m (drop n xs) ≡ drop (n + m) xs
 drop_more n m xs = drop-drop m n xs
 
-pub text_there : (frame : List ℕ) (at size : ℕ) → Finds (drop at frame) (string_at (drop at frame)) (take size (drop 4 (drop at frame))) (size + 4)
-    → Finds (drop at frame) (value_at kinds.Str (drop at frame)) (text (part frame (at + 4) (at + 4 + size))) (size + 4)
-unfolding value_at text_at
-text_there frame at size found =
-    let same : part frame (at + 4) (at + 4 + size) ≡ take size (drop 4 (drop at frame)) = ap (λ n. take n (drop (at + 4) frame)) (omega arith) ∙ ap (take size) (sym (drop_more at 4 frame)) in
-    rw (found.0, same) (refl, found.1)
-
 pub uuid_there : (frame : List ℕ) (at : ℕ) → 16 ≤ length (drop at frame) → Finds (drop at frame) (value_at kinds.Uuid (drop at frame)) (uuid_value (part frame at (at + 16))) 16
 unfolding value_at uuid_at
 uuid_there frame at long =
@@ -356,13 +349,6 @@ blank_found bytes key value long first second found =
 
 pub struct_read : (frame : List ℕ) (at : ℕ) (stand : Stand) → StepsInto next_read stands_at frame at stand kinds.Struct struct_begin at
 struct_read frame at stand = subst (StepsInto next_read stands_at frame at stand kinds.Struct struct_begin) (add-zero at) (level_read frame at 0 stand kinds.Struct struct_begin (struct_there (drop at frame)))
-
-pub text_read : (frame : List ℕ) (at size : ℕ) (stand : Stand) → Finds (drop at frame) (string_at (drop at frame)) (take size (drop 4 (drop at frame))) (size + 4)
-    → StepsValue next_read stands_at frame at stand kinds.Str (text (part frame (at + 4) (at + 4 + size))) (at + 4 + size)
-text_read frame at size stand found =
-    let same : at + (size + 4) ≡ at + 4 + size = omega arith in
-    subst (StepsValue next_read stands_at frame at stand kinds.Str (text (part frame (at + 4) (at + 4 + size)))) same
-    (value_read frame at (size + 4) stand kinds.Str (text (part frame (at + 4) (at + 4 + size))) refl (text_there frame at size found))
 
 -- a field takes a byte at least
 abbrev TakesSome : Scan Item → Type 0

@@ -103,10 +103,10 @@ fn pass_binary<O: Outcome>(
         Proto::Binary => keep_own::<BinaryRead, BinaryWrite, O>(
             schema, route, frame, room, habit, out,
         ),
-        Proto::Compact => pass_apart::<BinaryRead, CompactWrite, O>(
+        Proto::Compact => pass_quickly::<BinaryRead, CompactWrite, O>(
             schema, route, frame, room, habit, out,
         ),
-        Proto::Json => pass_apart::<BinaryRead, JsonWrite, O>(
+        Proto::Json => pass_quickly::<BinaryRead, JsonWrite, O>(
             schema, route, frame, room, habit, out,
         ),
     }
@@ -133,13 +133,13 @@ fn pass_compact<O: Outcome>(
     ensures passes { O.passes result out.old.bytes out.new.bytes (judged_to compact_source schema.now route to frame.now) }
 {
     match to {
-        Proto::Binary => pass_apart::<CompactRead, BinaryWrite, O>(
+        Proto::Binary => pass_quickly::<CompactRead, BinaryWrite, O>(
             schema, route, frame, room, habit, out,
         ),
         Proto::Compact => pass_own::<CompactRead, CompactWrite, O>(
             schema, route, frame, room, habit, out,
         ),
-        Proto::Json => pass_apart::<CompactRead, JsonWrite, O>(
+        Proto::Json => pass_quickly::<CompactRead, JsonWrite, O>(
             schema, route, frame, room, habit, out,
         ),
     }
@@ -166,13 +166,15 @@ fn pass_json<O: Outcome>(
     ensures passes { O.passes result out.old.bytes out.new.bytes (judged_to json_source schema.now route to frame.now) }
 {
     match to {
-        Proto::Binary => pass_apart::<JsonRead, BinaryWrite, O>(
+        Proto::Binary => pass_quickly::<JsonRead, BinaryWrite, O>(
             schema, route, frame, room, habit, out,
         ),
-        Proto::Compact => pass_apart::<JsonRead, CompactWrite, O>(
+        Proto::Compact => pass_quickly::<JsonRead, CompactWrite, O>(
             schema, route, frame, room, habit, out,
         ),
-        Proto::Json => pass_apart::<JsonRead, JsonWrite, O>(schema, route, frame, room, habit, out),
+        Proto::Json => pass_quickly::<JsonRead, JsonWrite, O>(
+            schema, route, frame, room, habit, out,
+        ),
     }
 }
 
@@ -218,31 +220,9 @@ fn pass_own<R: FormKeep<W>, W: FormWrite, O: Outcome>(
 {
     let kept = keep_own::<R, W, O>(schema, route, frame, room, habit, out);
     if kept.is_left() {
-        return pass_apart::<R, W, O>(schema, route, frame, room, habit, out);
+        return pass_quickly::<R, W, O>(schema, route, frame, room, habit, out);
     }
     kept
-}
-
-/// The same for the writer of the target's protocol.
-#[inline(always)]
-fn pass_apart<R: FormRead, W: FormWrite, O: Outcome>(
-    schema: &Schema,
-    route: Route,
-    frame: &[u8],
-    room: &mut [u8],
-    habit: &mut Habit,
-    out: &mut Out,
-) -> O
-    requires known { IsKnownRoute schema.now route }
-    requires room { length frame.now ≤ length room.old }
-    requires size { length frame.now < 2 ^ 31 }
-    requires fits { length out.old.bytes + room_for (length frame.now) ≤ out.old.room }
-    ensures left { O.fails result → out.new ≡ out.old }
-    ensures room { out.new.room ≡ out.old.room }
-    ensures short { length out.new.bytes ≤ length out.old.bytes + room_for (length frame.now) }
-    ensures passes { O.passes result out.old.bytes out.new.bytes (judged_frame R.ReadRules W.WireWrite schema.now route frame.now) }
-{
-    pass_quickly::<R, W, O>(schema, route, frame, room, habit, out)
 }
 
 /// Translates a frame to the end of `out` event by event, or leaves `out` as it was: `translate` for a frame that the quick

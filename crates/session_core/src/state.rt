@@ -30,7 +30,7 @@ ghost use Rattle.session_core.specs.Steps.{outcome_of, IsStill, is_none, by_upst
 ghost use Rattle.session_core.specs.Ends.{held_of, most_held};
 ghost use Rattle.session_core.specs.Session.{due_to, and_came, and_sent, and_ended, room_of};
 ghost use Rattle.session_core.specs.Halves.{fed, let_go, ended};
-ghost use Rattle.session_core.specs.Working.{standing, limit_of, half_of, with_half, of_upstream_in, of_client_in, IsReady, Works, Keeps, Knows, IsSettledBy, FitsOn, IsSound, Comes, GoesOn, Cuts, ends_step, ending_of, IsFound, without_reply, without_call, ComesRefused, TakesNoMoreOf, told_of_reply, told_of_call};
+ghost use Rattle.session_core.specs.Working.{standing, limit_of, half_of, with_half, of_upstream_in, of_client_in, IsReady, Works, Keeps, IsSettledBy, FitsOn, IsSound, Comes, GoesOn, Cuts, ends_step, ending_of, IsFound, without_reply, without_call, ComesRefused, TakesNoMoreOf, told_of_reply, told_of_call};
 ghost use Rattle.session_core.specs.Looks.{came, stopped, stopped_by};
 
 use crate::framing::{answer_call, judge_client, judge_upstream, pass_call, pass_reply};
@@ -458,12 +458,12 @@ impl State {
     #[inline(always)]
     fn rests(&self) -> bool
         ensures upstream { (rules : Rules) → result ≡ true → of_upstream_in rules self.now ≡ Waits }
-        ensures client { (rules : Rules) → result ≡ true → Knows rules self.now → of_client_in rules self.now ≡ Waits }
+        ensures client { (rules : Rules) → result ≡ true → of_client_in rules self.now ≡ Waits }
     {
         if self.upstream.ended || (self.client.is_paid() && self.upstream.held.held() >= 4) {
             return false;
         }
-        !self.upstream.is_paid() || (self.client.held.held() < 4 && self.known.is_none())
+        !self.upstream.is_paid() || self.client.held.held() < 4
     }
 
     /// Whether something is due to a side: the session goes on then.

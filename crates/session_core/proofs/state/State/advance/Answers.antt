@@ -84,7 +84,7 @@ returns-then-rests-clause-ending g c =
     let i = c.frames.invariant in
     let keeps = keeps_on rules old s t i.keeps (keeps_by _ g.J.Judge.rules c.args.judge.now c.frames.judge s t i.same c.in_default.ensures.keeps) in
     ended_by rules (limit_of old) old.calls.capacity (standing t) standstill.Waits
-    (rests_at rules old t keeps (c.rests.ensures.upstream rules c.if-rests.true) (c.rests.ensures.client rules c.if-rests.true keeps.known))
+    (rests_at rules old t keeps (c.rests.ensures.upstream rules c.if-rests.true) (c.rests.ensures.client rules c.if-rests.true))
 
 pub returns-then-rests-clause-fits : goal.returns-then-rests-clause-fits
 returns-then-rests-clause-fits g c =

@@ -17,12 +17,12 @@ returns-then-not-is_paid-clause-upstream c = λ rules t.
     ]
 
 pub returns-then-not-is_paid-clause-client : goal.returns-then-not-is_paid-clause-client
-returns-then-not-is_paid-clause-client c = λ rules t known.
+returns-then-not-is_paid-clause-client c = λ rules t.
     let s = c.args.self.now in
     waits_for_upstream rules (limit_of s) s.calls.capacity (standing s) (owed_some c.is_paid-2.result s.upstream.due.bytes c.if-not-is_paid.true c.is_paid-2.ensures)
 
-pub returns-then-held-lt4-clause-upstream : goal.returns-then-held-lt4-clause-upstream
-returns-then-held-lt4-clause-upstream c = λ rules t.
+pub returns-else-not-is_paid-clause-upstream : goal.returns-else-not-is_paid-clause-upstream
+returns-else-not-is_paid-clause-upstream c = λ rules t.
     let s = c.args.self.now in
     elim c.if-is_paid.branch [
       | then-is_paid w ↦
@@ -31,7 +31,7 @@ returns-then-held-lt4-clause-upstream c = λ rules t.
           owing_upstream_waits rules (limit_of s) (standing s) c.if-self.false (owed_some c.is_paid.result s.client.due.bytes w.if-is_paid.false c.is_paid.ensures)
     ]
 
-pub returns-then-held-lt4-clause-client : goal.returns-then-held-lt4-clause-client
-returns-then-held-lt4-clause-client c = λ rules t known.
+pub returns-else-not-is_paid-clause-client : goal.returns-else-not-is_paid-clause-client
+returns-else-not-is_paid-clause-client c = λ rules t.
     let s = c.args.self.now in
-    short_client_waits rules (limit_of s) s.calls.capacity (standing s) (omega (arith, c.if-held-lt4.true, c.held-else-not-is_paid.ensures.count))
+    short_client_waits rules (limit_of s) s.calls.capacity (standing s) (grind (arith, nat_tests, t, c.held-else-not-is_paid.ensures.count))
