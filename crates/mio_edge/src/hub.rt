@@ -171,6 +171,7 @@ impl<W: Network> Hub for MioHub<W> {
         self.sockets.next()
     }
 
+    #[inline(always)]
     fn read(&mut self, k: u64, side: Side, into: &mut [u8]) -> LinkGot
         requires { 0 < length into.old }
         ensures within { GotWithin into.new result }

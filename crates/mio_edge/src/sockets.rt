@@ -221,6 +221,7 @@ impl<W: Network> Sockets<W> {
     /// `NotReady`: nothing came, it is the others' turn, or the port isn't connected yet; `next` names
     /// k when it may be read again. `End`: the peer will send no more. `Failed`: the connection failed or never came to
     /// be, or there is no such port.
+    #[inline(always)]
     pub fn read(&mut self, k: u64, port: usize, into: &mut [u8]) -> LinkGot
         requires { 0 < length into.old }
         ensures within { GotWithin into.new result }
