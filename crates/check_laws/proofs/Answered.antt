@@ -4,12 +4,12 @@ use Rattle.idl_names.specs.Files.{FileTree}
 use Rattle.idl_rules.specs.declared.row.IdlFault.{IdlFault}
 use Rattle.idl_files.specs.Walk.{walked}
 use Rattle.gate_idl.specs.Opening.{IsOpened, Opened}
-use Rattle.gate_run.specs.Checking.{Checks}
-use Rattle.gate_run.specs.Outcome.{Streams}
-use Rattle.gate_run.specs.Starting.{Halts, IsRead}
-use Rattle.gate_run.specs.declared.start.NoStart.{NoStart}
-use Rattle.gate_run.specs.declared.start.NoStart.TheVariants as stops
-use Rattle.gate_run.specs.declared.status.Ending.{Ending}
+use Rattle.gate_streams.specs.Checking.{Checks}
+use Rattle.gate_start.specs.Streams.{Streams}
+use Rattle.gate_start.specs.Starting.{Halts, IsRead}
+use Rattle.gate_start.specs.declared.start.NoStart.{NoStart}
+use Rattle.gate_start.specs.declared.start.NoStart.TheVariants as stops
+use Rattle.gate_start.specs.declared.status.Ending.{Ending}
 use Rattle.check_laws.specs.Answers.{IsAnswered, SaysWhatIs}
 use Rattle.check_laws.specs.Held.{AreHeld, IsRefusedText, IsWalked}
 use Rattle.check_laws.proofs.Texts.{walk_is_held}

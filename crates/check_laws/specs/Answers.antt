@@ -8,12 +8,12 @@ use Rattle.idl_consts.specs.declared.row.ConstFault.{ConstFault}
 use Rattle.type_tables.specs.Declarations.{Declarations}
 use Rattle.gate_idl.specs.declared.refusal.Refusal.{Refusal}
 use Rattle.gate_idl.specs.Opening.{AllFit, IsMisfit, Opened, misfit, refused}
-use Rattle.gate_run.specs.Checking.{declared_text}
-use Rattle.gate_run.specs.Outcome.{Streams}
-use Rattle.gate_run.specs.Starting.{Halts}
-use Rattle.gate_run.specs.Writing.{Tells}
-use Rattle.gate_run.specs.declared.start.NoStart.TheVariants as stops
-use Rattle.gate_run.specs.declared.status.Ending.{Ending}
+use Rattle.gate_streams.specs.Checking.{declared_text}
+use Rattle.gate_start.specs.Streams.{Streams}
+use Rattle.gate_start.specs.Starting.{Halts}
+use Rattle.gate_start.specs.Writing.{Tells}
+use Rattle.gate_start.specs.declared.start.NoStart.TheVariants as stops
+use Rattle.gate_start.specs.declared.status.Ending.{Ending}
 use Rattle.check_laws.specs.Held.{AreHeld, IsRefusedText}
 
 -- What an IDL is by what its files hold: a text of them is refused where it is wrong; or all of them are documents, and the first refusal of what these

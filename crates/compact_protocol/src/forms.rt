@@ -76,7 +76,7 @@ pub fn lead_from(frame: &[u8], at: usize, last: i16) -> Option<(Lead, i16, usize
     Some((lead_of(byte), id, behind))
 }
 
-/// What a kind's number stands for in front of a field.
+/// What a kind's number stands for in front of a field: `Bad` where it is no kind's.
 #[inline(always)]
 pub fn lead_of(code: u8) -> Lead
     ensures { result ≡ lead_of_kind (kind_of code) }

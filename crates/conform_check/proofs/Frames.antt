@@ -6,7 +6,7 @@ use Rattle.type_walk.specs.Positions.{Position}
 use Rattle.protocol_traits.specs.declared.fault.Fault.{Fault}
 use Rattle.protocol_traits.specs.Heads.{Header}
 use Rattle.protocol_traits.specs.Steps.{Step as ReadStep, told}
-use Rattle.translate_core.specs.Body.{Source, Ended}
+use Rattle.translate_verdicts.specs.Body.{Source, Ended}
 use Rattle.conform_check.specs.declared.step.Step.{Step}
 use Rattle.conform_check.specs.declared.breach.Breach.{Breach}
 use Rattle.conform_check.specs.declared.breach.Checked.{Checked}

@@ -11,10 +11,10 @@ use Rattle.protocol_traits.specs.declared.fault.Fault.{Fault}
 use Rattle.protocol_traits.specs.Heads.{Header}
 use Rattle.protocol_traits.specs.Steps.{Step as ReadStep}
 use Rattle.protocol_traits.specs.declared.traits.ReadRules.{Ghosts as ReadRules}
-use Rattle.translate_core.specs.declared.route.Route.TheVariants.{ByName}
-use Rattle.translate_core.specs.Positions.{typed}
-use Rattle.translate_core.specs.Routes.{body_of}
-use Rattle.translate_core.specs.Body.{Source, TargetRules, Ended, going, whole, source_in}
+use Rattle.translate_verdicts.specs.declared.route.Route.TheVariants.{ByName}
+use Rattle.translate_verdicts.specs.Positions.{typed}
+use Rattle.translate_verdicts.specs.Routes.{body_of}
+use Rattle.translate_verdicts.specs.Body.{Source, TargetRules, Ended, going, whole, source_in}
 use Rattle.conform_check.specs.declared.step.Step.{Step}
 use Rattle.conform_check.specs.declared.breach.Breach.{Breach}
 use Rattle.conform_check.specs.declared.breach.Breach.TheVariants as breaches

@@ -3,7 +3,7 @@ use crate::step::Step;
 use protocol_traits::Fault;
 
 /// How a message breaks what is declared of it.
-#[derive(Clone, Copy, Debug, PartialEq, Eq)]
+#[derive(Clone, Copy)]
 pub enum Breach {
     /// No method has its name, so its body isn't declared. It stands at the empty path.
     UnknownMethod,
@@ -25,7 +25,7 @@ pub enum Breach {
 }
 
 /// What was found of a frame.
-#[derive(Clone, Copy, Debug, PartialEq, Eq)]
+#[derive(Clone, Copy)]
 pub enum Checked {
     /// It is a message, and meets what is declared of it.
     Meets,

@@ -3,7 +3,7 @@ ghost use Rattle.std.specs.Prelude.{◌≡◌};
 ghost use Rattle.conform_check.specs.Inside.{next_place, next_step};
 
 /// One step on the way from a message's body to a place in it.
-#[derive(Clone, Copy, Debug, PartialEq, Eq)]
+#[derive(Clone, Copy)]
 pub enum Step {
     /// The field of a struct with this id.
     Field(i16),

@@ -7,12 +7,12 @@ use Rattle.type_tables.specs.Declarations.{Declarations}
 use Rattle.protocol_traits.specs.declared.fault.Fault.{Fault}
 use Rattle.protocol_traits.specs.Heads.{Header}
 use Rattle.type_walk.specs.Positions.{Position, hint_of, after, start}
-use Rattle.translate_core.specs.declared.route.Route.TheVariants.{ByName}
+use Rattle.translate_verdicts.specs.declared.route.Route.TheVariants.{ByName}
 use Rattle.translate_core.specs.Answers.{TakesAll, marked, spelled}
-use Rattle.translate_core.specs.Body.{Source, going, whole}
-use Rattle.translate_core.specs.Positions.{typed}
-use Rattle.translate_core.specs.Routes.{body_of}
-use Rattle.translate_core.proofs.Whole.{whole_end}
+use Rattle.translate_verdicts.specs.Body.{Source, going, whole}
+use Rattle.translate_verdicts.specs.Positions.{typed}
+use Rattle.translate_verdicts.specs.Routes.{body_of}
+use Rattle.translate_verdicts.proofs.Whole.{whole_end}
 use Rattle.conform_check.specs.Checking.{Checking, Refused, Unread, after_head, begun, check_target, checked_by, found}
 use Rattle.verdict_laws.specs.Following.{behind, Follows}
 use Rattle.verdict_laws.proofs.Bodies.{IsNested, writers, whole_follows, whole_faults, whole_ends}

@@ -8,8 +8,8 @@ use Rattle.type_tables.specs.Declarations.{Declarations}
 use Rattle.type_walk.specs.Positions.{start}
 use Rattle.protocol_traits.specs.declared.fault.Fault.{Fault}
 use Rattle.protocol_traits.specs.Heads.{Header}
-use Rattle.translate_core.specs.declared.route.Route.TheVariants.{ByName}
-use Rattle.translate_core.specs.Routes.{body_of}
+use Rattle.translate_verdicts.specs.declared.route.Route.TheVariants.{ByName}
+use Rattle.translate_verdicts.specs.Routes.{body_of}
 use Rattle.protocol_pairs.specs.Pairs.{binary_source, compact_source}
 use Rattle.binary_protocol.specs.Grammar.{BinarySpells}
 use Rattle.compact_protocol.specs.Grammar.{CompactSpells}

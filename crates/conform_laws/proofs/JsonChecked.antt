@@ -9,8 +9,8 @@ use Rattle.type_walk.specs.Positions.{start, hint_of}
 use Rattle.protocol_traits.specs.declared.fault.Fault.{Fault}
 use Rattle.protocol_traits.specs.declared.proto.Proto.TheVariants as protocols
 use Rattle.protocol_traits.specs.Heads.{Header}
-use Rattle.translate_core.specs.declared.route.Route.TheVariants.{ByName}
-use Rattle.translate_core.specs.Routes.{body_of}
+use Rattle.translate_verdicts.specs.declared.route.Route.TheVariants.{ByName}
+use Rattle.translate_verdicts.specs.Routes.{body_of}
 use Rattle.protocol_pairs.specs.Pairs.{json_source}
 use Rattle.json_protocol.specs.Reading.{State, begun, reads}
 use Rattle.json_protocol.specs.Head.{reads_head}

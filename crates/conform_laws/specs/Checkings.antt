@@ -9,8 +9,8 @@ use Rattle.protocol_traits.specs.Heads.{Header}
 use Rattle.protocol_pairs.specs.Pairs.{binary_source, compact_source, json_source}
 use Rattle.binary_protocol.specs.Grammar.{BinarySpells}
 use Rattle.compact_protocol.specs.Grammar.{CompactSpells}
-use Rattle.translate_core.specs.declared.route.Route.TheVariants.{ByName}
-use Rattle.translate_core.specs.Routes.{body_of}
+use Rattle.translate_verdicts.specs.declared.route.Route.TheVariants.{ByName}
+use Rattle.translate_verdicts.specs.Routes.{body_of}
 use Rattle.binary_laws.specs.Faults as binary_faults
 use Rattle.binary_laws.specs.Reads.{header_of_message}
 use Rattle.compact_laws.specs.Faults as compact_faults

@@ -8,8 +8,8 @@ use Rattle.gate_io.specs.declared.byte_streams.Sink.{Ghosts as Sink}
 use Rattle.gate_words.specs.Peers.{is_http}
 use Rattle.gate_words.specs.declared.routing.Routing.{Routing}
 use Rattle.gate_words.specs.declared.serving.Serving.{Serving}
-use Rattle.gate_run.specs.Serving.{WaitsLater, LinkFaultsLater}
-use Rattle.gate_run.specs.declared.start.Start.{Start}
+use Rattle.gate_serve.specs.Serving.{WaitsLater, LinkFaultsLater}
+use Rattle.gate_start.specs.declared.start.Start.{Start}
 use Rattle.crew_exit.specs.declared.Exit.{Ghosts as Exit}
 use Rattle.crew_server.specs.Workers.{Leaves}
 use Rattle.crew_server.specs.Serving.{ServesPart, Works}

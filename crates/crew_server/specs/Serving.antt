@@ -7,15 +7,15 @@ use Rattle.gate_words.specs.Peers.{is_http}
 use Rattle.gate_words.specs.Serving.{part_of}
 use Rattle.gate_words.specs.declared.options.Declared.{Declared}
 use Rattle.gate_words.specs.declared.serving.Serving.{Serving}
-use Rattle.gate_run.specs.Calls.{OnReport}
-use Rattle.gate_run.specs.Endings.{code_of}
-use Rattle.gate_run.specs.Posts.{ServesByWords}
-use Rattle.gate_run.specs.Serving.{WaitsLater, LinkFaultsLater}
-use Rattle.gate_run.specs.Starting.{Starting, Halts, SaysLast}
-use Rattle.gate_run.specs.declared.start.Start.{Start}
-use Rattle.gate_run.specs.declared.status.Ending.{Ending}
-use Rattle.gate_run.specs.declared.status.Ending.TheVariants as endings
-use Rattle.gate_run.specs.declared.status.Status.{Status}
+use Rattle.gate_start.specs.Calls.{OnReport}
+use Rattle.gate_start.specs.Endings.{code_of}
+use Rattle.gate_serve.specs.Posts.{ServesByWords}
+use Rattle.gate_serve.specs.Serving.{WaitsLater, LinkFaultsLater}
+use Rattle.gate_start.specs.Starting.{Starting, Halts, SaysLast}
+use Rattle.gate_start.specs.declared.start.Start.{Start}
+use Rattle.gate_start.specs.declared.status.Ending.{Ending}
+use Rattle.gate_start.specs.declared.status.Ending.TheVariants as endings
+use Rattle.gate_start.specs.declared.status.Status.{Status}
 use Rattle.crew_exit.specs.declared.Exit.{Ghosts as Exit}
 use Rattle.crew_server.specs.Workers.{OnWorker, Leaves, leaver, EndsAs}
 use Rattle.crew_server.specs.declared.worker.Worker.{Worker}

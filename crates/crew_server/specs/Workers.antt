@@ -4,9 +4,9 @@ use Rattle.std.specs.Io.KnownBytes.{Appends}
 use Rattle.gate_base.specs.Causes.{Rose}
 use Rattle.gate_io.specs.Fronts.{AppendsFront}
 use Rattle.gate_io.specs.declared.byte_streams.Sink.{Ghosts as Sink}
-use Rattle.gate_run.specs.Outcome.{Streams, streams}
-use Rattle.gate_run.specs.declared.status.Ending.{Ending}
-use Rattle.gate_run.specs.declared.status.Ending.TheVariants as endings
+use Rattle.gate_start.specs.Streams.{Streams, streams}
+use Rattle.gate_start.specs.declared.status.Ending.{Ending}
+use Rattle.gate_start.specs.declared.status.Ending.TheVariants as endings
 use Rattle.crew_exit.specs.declared.Exit.{Ghosts as Exit}
 use Rattle.crew_server.specs.declared.worker.Worker.{Worker}
 

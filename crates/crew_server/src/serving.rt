@@ -4,7 +4,7 @@ ghost use Rattle.gate_words.specs.Commands.{IsInRange};
 ghost use Rattle.gate_words.specs.Peers.{is_http};
 ghost use Rattle.gate_words.specs.Serving.{part_of};
 ghost use Rattle.gate_words.specs.declared.command.Command.TheVariants.{Serve};
-ghost use Rattle.gate_run.specs.Serving.{CanServe, WaitsLater, LinkFaultsLater};
+ghost use Rattle.gate_serve.specs.Serving.{CanServe, WaitsLater, LinkFaultsLater};
 ghost use Rattle.crew_server.specs.Serving.{ServesPart, Works, WorkEach, CrewServes, StartsCrew, RunsCrew};
 
 use crate::telling::tell;
@@ -13,7 +13,8 @@ use crew_exit::Exit;
 use gate_base::OutOfMemory;
 use gate_hub::Hub;
 use gate_io::{Files, Sink};
-use gate_run::{Ending, Start, Status, end_with, halt, prepare, serve_all};
+use gate_serve::serve_all;
+use gate_start::{Ending, Start, Status, end_with, halt, prepare};
 use gate_words::{Declared, MOST_SESSIONS, Serving};
 use std::alloc::Global;
 use std::thread;

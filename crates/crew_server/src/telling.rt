@@ -4,7 +4,7 @@ ghost use Rattle.crew_server.specs.Workers.{leaver, EndsAs};
 
 use crate::worker::{Worker, is_done};
 use gate_io::{Sink, write_all};
-use gate_run::Ending;
+use gate_start::Ending;
 
 /// The ending of the first worker whose server ended before its time, with all that it has to report. Without one the crew is done.
 pub fn tell<E: Sink, H, O, X>(crew: &[Worker<H, O, X>], report: &mut E) -> Ending

@@ -4,7 +4,7 @@ ghost use Rattle.crew_server.specs.Workers.{is_done, Leaves};
 
 use crew_exit::Exit;
 use gate_base::OutOfMemory;
-use gate_run::{Ending, Page};
+use gate_start::{Ending, Page};
 use std::alloc::Global;
 
 /// The room for what a worker reports: the name of a target has at most 253 bytes, and a last line at most 16.

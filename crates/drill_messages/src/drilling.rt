@@ -16,7 +16,7 @@ use gate_io::{Out, Sink, Wrote, flush};
 use std::alloc::Global;
 
 /// What came of making messages.
-#[derive(Clone, Copy, Debug, PartialEq, Eq)]
+#[derive(Clone, Copy, PartialEq, Eq)]
 pub enum Drilled {
     /// All were written, and are so long.
     Done(Totals),

@@ -1,7 +1,7 @@
 //! How long the messages are.
 
 /// The lengths in bytes of all messages together, in the plain spelling of each protocol and without the lengths of frames.
-#[derive(Clone, Copy, Debug, PartialEq, Eq)]
+#[derive(Clone, Copy, PartialEq, Eq)]
 pub struct Totals {
     pub binary: u64,
     pub compact: u64,

@@ -4,7 +4,7 @@
 #![tactic(auto)]
 
 ghost use Rattle.gate_hub.specs.Meaning.{Meaning};
-ghost use Rattle.gate_run.specs.Undisturbed.{ServerRun, IsRunOf};
+ghost use Rattle.run_laws.specs.Undisturbed.{ServerRun, IsRunOf};
 ghost use Rattle.mio_edge.specs.Telling.{HubTells};
 ghost use Rattle.stream_laws.specs.Sessions.{IsCommanded, IsOverFrames, IsServed};
 ghost use Rattle.edge_laws.specs.Closed.{IsSentLater, HubsWind};

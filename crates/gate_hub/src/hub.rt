@@ -17,7 +17,7 @@ pub enum Side {
 
 /// What `start` answers: that it listens, that it failed, that for the name of the target at this place, counted from 0, no
 /// address is known, or that there was no memory.
-#[derive(Clone, Copy, Debug, PartialEq, Eq)]
+#[derive(Clone, Copy, PartialEq, Eq)]
 pub enum Began {
     Done,
     Failed,
@@ -27,7 +27,7 @@ pub enum Began {
 
 /// What `next` answers: a session was opened, a session may be read or written again, no event
 /// will follow, or it failed.
-#[derive(Clone, Copy, Debug, PartialEq, Eq)]
+#[derive(Clone, Copy, PartialEq, Eq)]
 pub enum HubNext {
     Opened(u64),
     Ready(u64),
@@ -37,7 +37,7 @@ pub enum HubNext {
 
 /// What a read of a side answers: so many bytes, that none came so far, that none will come, or
 /// that it failed.
-#[derive(Clone, Copy, Debug, PartialEq, Eq)]
+#[derive(Clone, Copy, PartialEq, Eq)]
 pub enum LinkGot {
     Bytes(usize),
     NotReady,
@@ -47,7 +47,7 @@ pub enum LinkGot {
 
 /// What a write to a side answers: so many bytes were taken, that none can be taken so far, or that
 /// it failed.
-#[derive(Clone, Copy, Debug, PartialEq, Eq)]
+#[derive(Clone, Copy, PartialEq, Eq)]
 pub enum LinkPut {
     Took(usize),
     NotReady,
@@ -56,7 +56,7 @@ pub enum LinkPut {
 
 /// How a server ended: no event followed, the hub failed, the output failed, the events that it was
 /// given were spent, or its memory was not found at the start.
-#[derive(Clone, Copy, Debug, PartialEq, Eq)]
+#[derive(Clone, Copy)]
 pub enum Served {
     Stopped,
     HubFault,

@@ -2,15 +2,15 @@
 use Rattle.std.proofs.Common.{◌≡◌, ℕ, ◌⊎◌, inl, inr, List, Option, Err, ◌∙◌, ap}
 use Rattle.type_tables.specs.Declarations.{Declarations}
 use Rattle.gate_words.specs.declared.options.Declared.{Declared}
-use Rattle.gate_run.specs.Checking.{Checks, Good, Bad}
-use Rattle.gate_run.specs.Endings.{code_of}
-use Rattle.gate_run.specs.Outcome.{Streams}
-use Rattle.gate_run.specs.Starting.{Holds, Starting, Goes, Stops, HasCause, Halts}
-use Rattle.gate_run.specs.declared.start.Start.{Start}
-use Rattle.gate_run.specs.declared.start.NoStart.{NoStart}
-use Rattle.gate_run.specs.declared.start.NoStart.TheVariants as stops
-use Rattle.gate_run.specs.declared.status.Ending.{Ending}
-use Rattle.gate_run.specs.declared.status.Ending.TheVariants.{FileFault}
+use Rattle.gate_start.specs.Endings.{code_of}
+use Rattle.gate_start.specs.Streams.{Streams}
+use Rattle.gate_start.specs.Starting.{Holds, Starting, Goes, Stops, HasCause, Halts}
+use Rattle.gate_start.specs.declared.start.Start.{Start}
+use Rattle.gate_start.specs.declared.start.NoStart.{NoStart}
+use Rattle.gate_start.specs.declared.start.NoStart.TheVariants as stops
+use Rattle.gate_start.specs.declared.status.Ending.{Ending}
+use Rattle.gate_start.specs.declared.status.Ending.TheVariants.{FileFault}
+use Rattle.gate_streams.specs.Checking.{Checks, Good, Bad}
 
 stopped : (X : Type 0) (stop : NoStart) (before now : ℕ) (a b : Streams) (ending : Ending) → HasCause {X = X} (Err stop) before now → Halts stop a b ending → (ending ≡ FileFault) ⊎ (now ≡ before)
 stopped X (stops.Refused r) before now a b ending cause halts = inr cause

@@ -1,39 +1,21 @@
 -- Why a command doesn't start.
-use Rattle.std.proofs.Common.{◌≡◌, ℕ, List, Bool, true, false, true≢false, Option, None, Some, Ok, Err, inl, inr, refl, sym, ap, ◌∙◌, subst}
+use Rattle.std.proofs.Common.{◌≡◌, ℕ, Bool, true, false, true≢false, Option, None, Some, inr, refl, sym, ap, ◌∙◌, subst}
 use Rattle.gate_hub.specs.declared.hub.Hub.{Ghosts as Hub}
 use Rattle.gate_words.specs.declared.command.Command.{Command}
 use Rattle.gate_words.specs.declared.command.Command.TheVariants as commands
 use Rattle.gate_words.specs.declared.options.Declared.{Declared}
 use Rattle.gate_words.specs.declared.serving.Serving.{Serving}
-use Rattle.type_tables.specs.Declarations.{Declarations}
-use Rattle.gate_run.specs.Checking.{Checks, Good, Bad, TellsDeclared}
-use Rattle.gate_run.specs.Drilling.{NoMemory}
-use Rattle.gate_run.specs.Outcome.{Streams}
-use Rattle.gate_run.specs.Running.{Outside, Runs, RunsServer}
-use Rattle.gate_run.specs.Starting.{Holds, IsRead, IsDeclared, IsStart, HasCause, Halts, Stops}
-use Rattle.gate_run.specs.declared.start.NoStart.{NoStart}
-use Rattle.gate_run.specs.declared.start.NoStart.TheVariants as stops
-use Rattle.gate_run.specs.declared.status.Ending.{Ending}
-
--- an IDL is read without a look at services
-not_of_services : (holds : Holds) (idl : Option (List ℕ)) → IsDeclared holds idl (Err stops.UnknownService) → ⊥
-not_of_services holds None h = h
-not_of_services holds (Some name) h = h
+use Rattle.gate_start.specs.Streams.{Streams}
+use Rattle.gate_start.specs.Outside.{Outside}
+use Rattle.gate_start.specs.Starting.{Holds, Halts, Stops}
+use Rattle.gate_start.specs.declared.start.NoStart.TheVariants as stops
+use Rattle.gate_start.specs.declared.status.Ending.{Ending}
+use Rattle.gate_streams.specs.Checking.{Bad}
+use Rattle.gate_streams.specs.Drilling.{NoMemory}
+use Rattle.gate_run.specs.Running.{Runs, RunsServer}
 
 abbrev pub at : Option Holds → ℕ → Streams → Outside
 at told faults a = record { holds = told; file_faults = faults; streams = a }
-
-pub stays : (holds : Holds) (words : Declared) (stop : NoStart) → IsDeclared holds words.idl (Err stop) → IsStart holds words (Err stop)
-stays holds words (stops.Refused refusal) h = h
-stays holds words stops.UnknownService h = absurd (not_of_services holds words.idl h)
-stays holds words stops.FileFault h = tt
-stays holds words stops.OutOfMemory h = tt
-
--- an IDL that is good is checked, and how much it declares was written or its memory not found
-pub checked_by : {told : Option Holds} {file : List ℕ} {before now : ℕ} {a b : Streams} {ending : Ending} (d : Declarations) → ((holds : Holds) → told ≡ Some holds → IsRead holds file (Ok d)) → HasCause {X = Declarations} (Ok d) before now
-    → TellsDeclared d a b ending → Checks told file before now a b ending
-checked_by d known cause (inl tells) = Good d known cause tells
-checked_by d known cause (inr says) = Bad stops.OutOfMemory (λ holds is. tt) cause says
 
 -- where there is no memory for the words, each command ends for want of it
 pub unread : (command : Option Command) (told : Option Holds) (faults : ℕ) (a b : Streams) (ending : Ending) →

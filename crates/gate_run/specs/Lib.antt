@@ -1,22 +1,4 @@
 -- What is read, written and reported at each command.
-pub mod Calls
-pub mod Checking
-pub mod Drilling
-pub mod Endings
-pub mod Findings
-pub mod Handling
 pub mod Lines
-pub mod Outcome
-pub mod Peers
-pub mod Posts
-pub mod Progress
-pub mod Rooms
 pub mod Routed
-pub mod Routes
 pub mod Running
-pub mod Serving
-pub mod Starting
-pub mod Terms
-pub mod Undisturbed
-pub mod Working
-pub mod Writing

@@ -1,45 +1,31 @@
 -- What the one call does, by the words of its command.
-use Rattle.std.specs.Prelude.{◌≡◌, ◌⊎◌, ℕ, List, Option, Some, None, Bool, true, false}
+use Rattle.std.specs.Prelude.{◌≡◌, ◌⊎◌, ℕ, List, Option, Some, None, Bool, true, false, is_some}
 use Rattle.gate_io.specs.declared.byte_streams.Sink.{Ghosts as Sink}
 use Rattle.gate_io.specs.declared.byte_streams.Source.{Ghosts as Source}
 use Rattle.gate_io.specs.declared.files.Files.{Ghosts as Files}
 use Rattle.gate_hub.specs.declared.hub.Hub.{Ghosts as Hub}
 use Rattle.gate_words.specs.Commands.{command}
+use Rattle.gate_words.specs.Peers.{is_http}
 use Rattle.gate_words.specs.declared.command.Command.{Command}
 use Rattle.gate_words.specs.declared.command.Command.TheVariants as commands
 use Rattle.gate_words.specs.declared.options.Declared.{Declared}
 use Rattle.gate_words.specs.declared.serving.Serving.{Serving}
-use Rattle.gate_run.specs.declared.commands.ServerJob.{ServerJob}
-use Rattle.gate_run.specs.declared.commands.StreamJob.{StreamJob}
-use Rattle.gate_run.specs.declared.start.NoStart.{NoStart}
-use Rattle.gate_run.specs.declared.start.Start.{Start}
-use Rattle.gate_run.specs.Calls.{streams_of}
-use Rattle.gate_run.specs.Checking.{Checks}
-use Rattle.gate_run.specs.Drilling.{Drills}
-use Rattle.gate_run.specs.Endings.{code_of}
-use Rattle.gate_run.specs.Lines.{usage_text, help_text}
-use Rattle.gate_run.specs.Outcome.{Streams, Streamed, streams}
-use Rattle.gate_run.specs.Posts.{ServesByWords}
-use Rattle.gate_run.specs.Starting.{Holds, Starting, Halts, Says, SaysLast}
-use Rattle.gate_run.specs.Terms.{Terms, terms, converting, showing, conforming}
-use Rattle.gate_run.specs.Writing.{Tells}
-use Rattle.gate_run.specs.declared.status.Ending.{Ending}
-use Rattle.gate_run.specs.declared.status.Ending.TheVariants as endings
-use Rattle.gate_run.specs.declared.status.Status.{Status}
-
--- what each command works on: what the files hold, where they tell it, and how often they failed; and the streams
-pub record Outside : Type 0 where
-  pub holds : Option Holds
-  pub file_faults : ℕ
-  pub streams : Streams
-
--- the command started from what these words declare, and did this; or it did not start, and this holds
-abbrev pub StartsWith : Outside → Outside → Declared → (Start → Type 0) → (NoStart → Type 0) → Type 0
-StartsWith x y words = Starting x.holds words x.file_faults y.file_faults
-
--- the command started from what these words declare, and went through the frames of the input on these terms; or it did not start
-abbrev pub GoesThrough : (Start → Terms) → Declared → Outside → Outside → Ending → Type 0
-GoesThrough k words x y ending = StartsWith x y words (λ start. Streamed (k start) x.streams y.streams ending) (λ stop. Halts stop x.streams y.streams ending)
+use Rattle.gate_start.specs.Outside.{Outside, StartsWith, outside}
+use Rattle.gate_start.specs.Endings.{code_of}
+use Rattle.gate_start.specs.Lines.{usage_text}
+use Rattle.gate_start.specs.Streams.{streams}
+use Rattle.gate_start.specs.Starting.{Halts, Says, SaysLast}
+use Rattle.gate_start.specs.Writing.{Tells}
+use Rattle.gate_start.specs.declared.status.Ending.{Ending}
+use Rattle.gate_start.specs.declared.status.Ending.TheVariants as endings
+use Rattle.gate_start.specs.declared.status.Status.{Status}
+use Rattle.gate_streams.specs.Streaming.{GoesThrough}
+use Rattle.gate_streams.specs.Checking.{Checks}
+use Rattle.gate_streams.specs.Drilling.{Drills}
+use Rattle.gate_streams.specs.Terms.{converting, showing, conforming}
+use Rattle.gate_serve.specs.Posts.{ServesByWords}
+use Rattle.gate_run.specs.declared.server.ServerJob.{ServerJob}
+use Rattle.gate_run.specs.Lines.{help_text}
 
 -- what each command does with the files and the streams
 abbrev pub Obeys : Command → Outside → Outside → Ending → Type 0
@@ -76,26 +62,37 @@ reads_input (Some (commands.Drill k)) = false
 reads_input (Some commands.Help) = false
 reads_input None = false
 
--- ---- the same by what files, sources, sinks and hubs tell of themselves
+-- a server whose clients send POSTs
+abbrev pub has_posts : Option Command → Bool
+has_posts (Some (commands.Serve s words)) = is_http s.front
+has_posts (Some (commands.Check file)) = false
+has_posts (Some (commands.Convert k words)) = false
+has_posts (Some (commands.Show k words)) = false
+has_posts (Some (commands.Conform k words)) = false
+has_posts (Some (commands.Route r words)) = false
+has_posts (Some (commands.Drill k)) = false
+has_posts (Some commands.Help) = false
+has_posts None = false
 
-abbrev pub outside : {F I O E : Type 0} → Files F → Source I → Sink O → Sink E → F → I → O → E → Outside
-outside drives sources outputs reports files input output report =
-    record { holds = drives.holds files; file_faults = drives.faults files; streams = streams_of sources outputs reports input output report }
+-- a server of whose peers some send no frames
+abbrev pub is_unframed : Option Command → Bool
+is_unframed (Some (commands.Serve s words)) = is_some s.unframed
+is_unframed (Some (commands.Check file)) = false
+is_unframed (Some (commands.Convert k words)) = false
+is_unframed (Some (commands.Show k words)) = false
+is_unframed (Some (commands.Conform k words)) = false
+is_unframed (Some (commands.Route r words)) = false
+is_unframed (Some (commands.Drill k)) = false
+is_unframed (Some commands.Help) = false
+is_unframed None = false
+
+-- ---- the same by what files, sources, sinks and hubs tell of themselves
 
 -- where the words of the command are read
 abbrev pub HasObeyed : {F I O E : Type 0} → Files F → Source I → Sink O → Sink E → Command → F → I → O → E → F → I → O → E → Ending → Type 0
 HasObeyed drives sources outputs reports command files input output report files' input' output' report' ending =
     let at = outside drives sources outputs reports in
     Obeys command (at files input output report) (at files' input' output' report') ending
-
--- by what the words say of the stream and what is declared
-abbrev pub terms_of : StreamJob → Start → Terms
-terms_of job start = terms start.schema start.service job.doing job.limit job.input job.output
-
-abbrev pub StartsStream : {F I O E : Type 0} → Files F → Source I → Sink O → Sink E → StreamJob → F → I → O → E → F → I → O → E → Ending → Type 0
-StartsStream drives sources outputs reports job files input output report files' input' output' report' ending =
-    let at = outside drives sources outputs reports in
-    GoesThrough (λ start. terms_of job start) job.declared.now (at files input output report) (at files' input' output' report') ending
 
 -- and with the words, ended with this exit code
 abbrev pub IsRun : {F I O E : Type 0} → Files F → Source I → Sink O → Sink E → List (List ℕ) → F → I → O → E → F → I → O → E → Status → Type 0

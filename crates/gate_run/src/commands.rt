@@ -1,37 +1,26 @@
 //! The one call: the words of a command, and what it works on.
-ghost use Rattle.std.specs.Prelude.{◌≡◌, ◌<◌, ◌≤◌, ◌⊎◌, Some, IfSome, is_some, false, length};
+ghost use Rattle.std.specs.Prelude.{◌≡◌, ◌≤◌, ◌⊎◌, Some, false};
 ghost use Rattle.gate_words.specs.Commands.{command, IsInRange};
-ghost use Rattle.gate_words.specs.Peers.{is_http};
 ghost use Rattle.gate_words.specs.declared.command.Command.TheVariants.{Serve, Route};
 ghost use Rattle.gate_words.specs.declared.options.Declared.{Declared};
 ghost use Rattle.gate_words.specs.declared.routing.Routing.{Routing};
 ghost use Rattle.gate_words.specs.declared.serving.Serving.{Serving};
 ghost use Rattle.gate_fan.specs.Fans.{Later};
-ghost use Rattle.gate_run.specs.Calls.{OnStreams};
-ghost use Rattle.gate_run.specs.Endings.{code_of};
-ghost use Rattle.gate_run.specs.Outcome.{Streamed};
+ghost use Rattle.gate_start.specs.Endings.{code_of};
+ghost use Rattle.gate_serve.specs.Serving.{WaitsLater, LinkFaultsLater};
 ghost use Rattle.gate_run.specs.Routed.{IsRouterRun, RoutesCommand};
-ghost use Rattle.gate_run.specs.Peers.{is_unframed};
-ghost use Rattle.gate_run.specs.Posts.{has_posts};
-ghost use Rattle.gate_run.specs.Running.{terms_of, HasObeyed, StartsStream, StartsServer, ServesCommand, IsRun, IsServerRun, reads_input};
-ghost use Rattle.gate_run.specs.Serving.{WaitsLater, LinkFaultsLater};
+ghost use Rattle.gate_run.specs.Running.{HasObeyed, ServesCommand, IsRun, IsServerRun, reads_input, has_posts, is_unframed};
 
-use crate::check::check;
-use crate::drill::drill_all;
 use crate::help::help;
-use crate::route::{RouterJob, start_router};
-use crate::serve::serve_all;
-use crate::start::{NoStart, Start, halt, prepare};
-use crate::status::{Ending, Status, usage};
-use crate::stream::stream;
-use crate::task::{Doing, Task};
+use crate::router::{RouterJob, start_router};
+use crate::server::{ServerJob, start_server};
 use gate_base::{OutOfMemory, Word};
 use gate_fan::Fan;
 use gate_hub::Hub;
 use gate_io::{Files, Sink, Source};
-use gate_words::{
-    Command, Declared, GREATEST_LIMIT, LEAST_LIMIT, MOST_CALLS, Serving, read_command,
-};
+use gate_start::{Ending, NoStart, Status, halt, usage};
+use gate_streams::{Doing, StreamJob, check_idl, drill_all, start_stream};
+use gate_words::{Command, read_command};
 use line_transport::Transport;
 use std::alloc::Global;
 
@@ -126,7 +115,7 @@ fn obey<I: Source, O: Sink, E: Sink, F: Files, H: Hub, G: Fan>(
     ensures report_later { E.faults report.old ≤ E.faults report.new }
 {
     match command {
-        Command::Check(file) => check(alloc, file.as_slice(), files, output, report),
+        Command::Check(file) => check_idl(alloc, file.as_slice(), files, output, report),
         Command::Convert(k, declared) => {
             let (from, to, limit) = (k.from, k.to, k.limit);
             let job = StreamJob {
@@ -168,101 +157,5 @@ fn obey<I: Source, O: Sink, E: Sink, F: Files, H: Hub, G: Fan>(
         }
         Command::Drill(drilling) => drill_all(alloc, *drilling, output, report),
         Command::Help => help(output),
-    }
-}
-
-/// What the words of a command say of a stream: what is declared for it, what is done with each frame, the most bytes of one, and how
-/// messages stand on the input and on the output.
-#[derive(Clone, Copy)]
-pub struct StreamJob<'w> {
-    declared: &'w Declared,
-    doing: Doing,
-    limit: usize,
-    input: Transport,
-    output: Transport,
-}
-
-/// What the words of a command say of a server, and what is declared for its messages.
-#[derive(Clone, Copy)]
-pub struct ServerJob<'w> {
-    serving: &'w Serving,
-    declared: &'w Declared,
-}
-
-// Goes through the input by what the words declare.
-fn start_stream<I: Source, O: Sink, E: Sink, F: Files>(
-    alloc: Global,
-    job: &StreamJob<'_>,
-    files: &mut F,
-    input: &mut I,
-    output: &mut O,
-    report: &mut E,
-) -> Ending
-    requires { job.now.limit ≤ GREATEST_LIMIT }
-    ensures does { StartsStream F.Files I.Source O.Sink E.Sink job.now files.old input.old output.old report.old files.new input.new output.new report.new result }
-    ensures holds { F.holds files.new ≡ F.holds files.old }
-    ensures files_later { F.faults files.old ≤ F.faults files.new }
-    ensures input_later { I.faults input.old ≤ I.faults input.new }
-    ensures output_later { O.faults output.old ≤ O.faults output.new }
-    ensures report_later { E.faults report.old ≤ E.faults report.new }
-{
-    match prepare(alloc, files, job.declared) {
-        Ok(start) => go_through(alloc, &start, job, input, output, report),
-        Err(stop) => halt(alloc, &stop, report),
-    }
-}
-
-// Goes through the input by what is declared.
-fn go_through<I: Source, O: Sink, E: Sink>(
-    alloc: Global,
-    start: &Start,
-    job: &StreamJob<'_>,
-    input: &mut I,
-    output: &mut O,
-    report: &mut E,
-) -> Ending
-    requires limit { job.now.limit ≤ GREATEST_LIMIT }
-    requires service { IfSome start.now.service (λ x. x.0 < length start.now.schema.services) }
-    ensures does { OnStreams I.Source O.Sink E.Sink (Streamed (terms_of job.now start.now)) input.old output.old report.old input.new output.new report.new result }
-    ensures input_later { I.faults input.old ≤ I.faults input.new }
-    ensures output_later { O.faults output.old ≤ O.faults output.new }
-    ensures report_later { E.faults report.old ≤ E.faults report.new }
-{
-    let task = Task::new(
-        &start.schema,
-        start.service,
-        job.doing,
-        job.limit,
-        job.input,
-        job.output,
-    );
-    stream(alloc, &task, input, output, report)
-}
-
-// Serves by what the words declare. Where it doesn't start, the hub isn't used.
-fn start_server<O: Sink, E: Sink, F: Files, H: Hub>(
-    alloc: Global,
-    job: &ServerJob<'_>,
-    files: &mut F,
-    output: &mut O,
-    report: &mut E,
-    hub: &mut H,
-) -> Ending
-    requires least { LEAST_LIMIT ≤ job.now.serving.now.limit }
-    requires limit { job.now.serving.now.limit ≤ GREATEST_LIMIT }
-    requires some { 1 ≤ job.now.serving.now.calls }
-    requires few { job.now.serving.now.calls ≤ MOST_CALLS }
-    ensures serves { StartsServer F.Files O.Sink E.Sink H.Hub job.now files.old output.old report.old hub.old files.new output.new report.new hub.new result }
-    ensures holds { F.holds files.new ≡ F.holds files.old }
-    ensures files_later { F.faults files.old ≤ F.faults files.new }
-    ensures output_later { O.faults output.old ≤ O.faults output.new }
-    ensures report_later { E.faults report.old ≤ E.faults report.new }
-    ensures hub_faults { (H.counts hub.old).faults ≤ (H.counts hub.new).faults }
-    ensures hub_waits { is_http job.now.serving.now.front ≡ false → WaitsLater H.Hub hub.old hub.new }
-    ensures hub_links { let s = job.now.serving.now in is_http s.front ≡ false → is_some s.unframed ≡ false → LinkFaultsLater H.Hub hub.old hub.new }
-{
-    match prepare(alloc, files, job.declared) {
-        Ok(start) => serve_all(alloc, job.serving, &start, output, report, hub),
-        Err(no_start) => halt(alloc, &no_start, report),
     }
 }

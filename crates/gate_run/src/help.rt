@@ -1,11 +1,11 @@
 //! The help text.
 ghost use Rattle.std.specs.Prelude.{◌≤◌};
-ghost use Rattle.gate_run.specs.Calls.{OnOutput};
+ghost use Rattle.gate_start.specs.Calls.{OnOutput};
 ghost use Rattle.gate_run.specs.Lines.{help_text};
-ghost use Rattle.gate_run.specs.Writing.{Tells};
+ghost use Rattle.gate_start.specs.Writing.{Tells};
 
-use crate::status::{Ending, say};
 use gate_io::Sink;
+use gate_start::{Ending, say};
 
 /// Each command with its words and options, a line each, below the line of the usage.
 const HELP: &[u8] = b"usage: thrift_gate check|convert|show|serve|drill|help

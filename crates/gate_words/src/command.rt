@@ -16,7 +16,7 @@ use protocol_traits::Proto;
 use std::alloc::Global;
 
 /// A conversion of a stream of messages, each of at most `limit` bytes, with how they stand on both sides.
-#[derive(Clone, Copy, Debug, PartialEq, Eq)]
+#[derive(Clone, Copy)]
 pub struct Conversion {
     pub from: Proto,
     pub to: Proto,
@@ -26,7 +26,7 @@ pub struct Conversion {
 }
 
 /// The showing of a stream of messages, each of at most `limit` bytes, with how they stand on it.
-#[derive(Clone, Copy, Debug, PartialEq, Eq)]
+#[derive(Clone, Copy)]
 pub struct Showing {
     pub from: Proto,
     pub limit: usize,
@@ -34,14 +34,14 @@ pub struct Showing {
 }
 
 /// The judging of a stream of frames, each of at most `limit` bytes, by what their messages are declared to be.
-#[derive(Clone, Copy, Debug, PartialEq, Eq)]
+#[derive(Clone, Copy)]
 pub struct Conforming {
     pub from: Proto,
     pub limit: usize,
 }
 
 /// The making of so many messages from a number.
-#[derive(Clone, Copy, Debug, PartialEq, Eq)]
+#[derive(Clone, Copy)]
 pub struct Drilling {
     pub seed: u64,
     pub count: u64,

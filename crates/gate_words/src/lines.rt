@@ -6,7 +6,7 @@ use line_transport::Transport;
 use protocol_traits::Proto;
 
 /// Sides on which a message is a line.
-#[derive(Clone, Copy, Debug, PartialEq, Eq)]
+#[derive(Clone, Copy)]
 pub enum LineSides {
     In,
     Out,

@@ -3,7 +3,7 @@ ghost use Rattle.std.specs.Prelude.{◌≡◌};
 ghost use Rattle.gate_words.specs.Peers.{sides_of, front_of, has_client, has_upstream};
 
 /// Sides of a server.
-#[derive(Clone, Copy, Debug, PartialEq, Eq)]
+#[derive(Clone, Copy)]
 pub enum Sides {
     Client,
     Upstream,
@@ -27,7 +27,7 @@ impl Sides {
 }
 
 /// What the clients of a server wrap each message in: a frame, or the body of an HTTP request.
-#[derive(Clone, Copy, Debug, PartialEq, Eq)]
+#[derive(Clone, Copy)]
 pub enum Front {
     Framed,
     Http,

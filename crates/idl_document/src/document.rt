@@ -72,7 +72,7 @@ pub struct Function {
 }
 
 /// A type that has a word of its own. `byte` is `I8`, `string` is `Text`, `binary` is `Blob`.
-#[derive(Clone, Copy, PartialEq, Eq)]
+#[derive(Clone, Copy)]
 pub enum BaseWord {
     Bool,
     I8,

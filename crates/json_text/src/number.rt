@@ -7,7 +7,7 @@ ghost use Rattle.json_text.specs.Number.{is_number_byte, first_is, digits_in, di
 use crate::scanned::Scan;
 
 /// What some bytes are in the grammar of numbers.
-#[derive(Clone, Copy, Debug, PartialEq, Eq)]
+#[derive(Clone, Copy)]
 pub enum Form {
     /// A number.
     Number,

@@ -63,6 +63,8 @@ impl<'f> FormKeep<CompactWrite> for CompactRead<'f> {
         Some((head, behind))
     }
 
+    // `next_field` reads the same, but looks the kind up first. With the question about the id between that and the arms of who calls, LLVM
+    // makes a table of numbers and a second jump of one; so here the kind is looked up last.
     #[inline(always)]
     fn keep_next(frame: &[u8], at: usize, opening: Opening, last: i16) -> Option<(Lead, i16, usize)>
         requires { at ≤ length frame.now }
@@ -88,6 +90,7 @@ impl<'f> FormKeep<CompactWrite> for CompactRead<'f> {
         Some((lead_of(byte), id, behind))
     }
 
+    // Asks about the id once more, since no clause tells what `keep_next` found.
     #[inline(always)]
     fn keep_flag(
         frame: &[u8],

@@ -25,10 +25,10 @@ use Rattle.type_tables.specs.declared.declared.Ty.{Ty}
 use Rattle.type_tables.specs.Declarations.{Declarations}
 use Rattle.type_walk.specs.declared.levels.Level.{Level}
 use Rattle.type_walk.specs.Positions.{Position, called_for, field_type, hint_of, in_struct, mark_of, passed, standing}
-use Rattle.translate_core.specs.Body.{Source, TargetRules}
-use Rattle.translate_core.specs.Quick.{IsFlat, Spot, Takes, TakesField, TakesRun, TakesValue, called, spot}
-use Rattle.translate_core.proofs.Taking.{calls_some, takes_item, takes_none, takes_then}
-use Rattle.translate_core.proofs.Levels.{takes_field}
+use Rattle.translate_verdicts.specs.Body.{Source, TargetRules}
+use Rattle.translate_known.specs.Quick.{IsFlat, Spot, Takes, TakesField, TakesRun, TakesValue, called, spot}
+use Rattle.translate_known.proofs.Taking.{calls_some, takes_item, takes_none, takes_then}
+use Rattle.translate_known.proofs.Levels.{takes_field}
 use Rattle.kept_forms.specs.Keeping.{KeepsRun, KeepsValue, SpellsLead}
 
 module _ {S T : Type 0} (source : Source S) (target : TargetRules T) (reader_at : S → List ℕ → ℕ → Opening → List Slot → Type 0) (writer_at : T → Opening → List Slot → Type 0) (frame : List ℕ)

@@ -8,8 +8,8 @@ use Rattle.protocol_traits.specs.declared.proto.Mark.{Mark}
 use Rattle.protocol_traits.specs.Forms.{Appends, Spells}
 use Rattle.protocol_traits.specs.declared.forms.Opening.{Opening}
 use Rattle.protocol_traits.specs.declared.nest.Slot.{Slot}
-use Rattle.translate_core.specs.Body.{Source, TargetRules}
-use Rattle.translate_core.specs.Quick.{Spot, Takes}
+use Rattle.translate_verdicts.specs.Body.{Source, TargetRules}
+use Rattle.translate_known.specs.Quick.{Spot, Takes}
 use Rattle.kept_messages.specs.Kept.{Mirrors}
 
 take_between : (xs : List ℕ) (at behind : ℕ) → at ≤ behind → take behind xs ≡ take at xs ++ take (behind - at) (drop at xs)

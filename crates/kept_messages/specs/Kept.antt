@@ -13,9 +13,9 @@ use Rattle.type_tables.specs.declared.declared.Ty.{Ty}
 use Rattle.type_tables.specs.Declarations.{Declarations}
 use Rattle.type_walk.specs.declared.levels.Level.{Level}
 use Rattle.type_walk.specs.Positions.{called_for}
-use Rattle.translate_core.specs.Body.{source_in, target_in}
+use Rattle.translate_verdicts.specs.Body.{source_in, target_in}
 use Rattle.kept_forms.specs.Keeping.{KeepsLead, KeepsValue}
-use Rattle.translate_core.specs.Quick.{IsFlat, TakesElements, TakesField, TakesFields, TakesPairs, TakesRun, TakesValue, Turns, turned}
+use Rattle.translate_known.specs.Quick.{IsFlat, TakesElements, TakesField, TakesFields, TakesPairs, TakesRun, TakesValue, Turns, turned}
 
 -- the cells are as many as the frame's bytes, and from this place on they are the frame's
 abbrev pub Mirrors : List ℕ → ℕ → List ℕ → Type 0

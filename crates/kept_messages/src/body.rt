@@ -13,7 +13,7 @@ use crate::leaves::{keep_leaf, keep_leaf_field, keep_leaf_run};
 use kept_forms::FormKeep;
 use protocol_traits::{Container, DEPTH, FormWrite, Lead, Mark, Opening, Pairs, Stand};
 use thrift_value::Kind;
-use translate_core::{Known, container_kind, mark_for, sequence_kind, sequence_of};
+use translate_known::{Known, container_kind, mark_for, sequence_kind, sequence_of};
 use type_tables::Schema;
 
 /// Keeps the fields of an open struct of which this is known, to its end: answers the place behind it.

@@ -2,17 +2,16 @@
 ghost use Rattle.std.specs.Prelude.{◌≡◌, ◌+◌, ◌≤◌, ◌<◌, ◌^◌, length, take, true, false, IfSome};
 ghost use Rattle.protocol_traits.specs.Heads.{header_of};
 ghost use Rattle.protocol_traits.specs.Room.{room_for};
-ghost use Rattle.translate_core.specs.Routes.{IsKnownRoute};
-ghost use Rattle.translate_core.specs.Judged.{judged_frame};
-ghost use Rattle.translate_core.specs.Quick.{PassedBody, PassedMessage, PassesMessage};
+ghost use Rattle.translate_verdicts.specs.Routes.{IsKnownRoute};
+ghost use Rattle.translate_verdicts.specs.Judged.{judged_frame};
+ghost use Rattle.translate_known.specs.Quick.{PassedBody, PassedMessage, PassesMessage};
 
 use crate::body::keep_fields;
 use gate_io::Out;
 use kept_forms::FormKeep;
 use protocol_traits::{FormWrite, Head, Opening};
-use translate_core::{
-    Declared, Habit, Known, Nothing, Outcome, Route, Undeclared, holds_name, told_of,
-};
+use translate_known::{Declared, Habit, Known, Nothing, Outcome, Undeclared, holds_name};
+use translate_verdicts::{Route, told_of};
 use type_tables::{Schema, StructId, Ty};
 
 /// Appends a message's translation to its own protocol, and tells of it what the caller asks for; or leaves the output as it

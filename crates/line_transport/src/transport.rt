@@ -1,7 +1,7 @@
 //! How messages stand on a stream, and what stands at its front.
 
 /// How messages stand on a stream.
-#[derive(Clone, Copy, Debug, PartialEq, Eq)]
+#[derive(Clone, Copy)]
 pub enum Transport {
     /// Each behind its length in four bytes.
     Frames,

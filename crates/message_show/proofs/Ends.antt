@@ -6,7 +6,7 @@ use Rattle.std.proofs.Math.Seq.{take-append_seam}
 use Rattle.std.specs.Io.KnownBytes.{Appends}
 use Rattle.protocol_traits.specs.Heads.{Header}
 use Rattle.type_walk.specs.Positions.{Position}
-use Rattle.translate_core.specs.Body.{Source, Going}
+use Rattle.translate_verdicts.specs.Body.{Source, Going}
 use Rattle.gate_io.specs.Fronts.{AppendsFront}
 use Rattle.message_show.specs.Line.{head_text, line_end}
 use Rattle.message_show.specs.Pieces.{Waiting, Output, Told, output}

@@ -4,7 +4,7 @@ use Rattle.protocol_traits.specs.declared.fault.Fault.{Fault}
 use Rattle.protocol_traits.specs.Heads.{Header}
 use Rattle.protocol_traits.specs.Steps.{Step, told}
 use Rattle.type_walk.specs.Positions.{Position}
-use Rattle.translate_core.specs.Body.{Source, Going, Ended}
+use Rattle.translate_verdicts.specs.Body.{Source, Going, Ended}
 use Rattle.message_show.specs.declared.checking.Checked.TheVariants as checked
 use Rattle.message_show.specs.Line.{line_end}
 use Rattle.message_show.specs.Shown.{Place, Line, closed, after_body, after_head, shown_by, IsChecked, HasLine}

@@ -16,9 +16,9 @@ use Rattle.type_tables.specs.Declarations.{Declarations}
 use Rattle.type_walk.specs.declared.levels.Level.{Level}
 use Rattle.type_walk.specs.Stack.{first_of as known_of}
 use Rattle.type_walk.specs.Positions.{Position, called_for, entered, hint_of, passed, after, standing as open_at}
-use Rattle.translate_core.specs.Positions.{typed}
-use Rattle.translate_core.specs.Body.{Source, going}
-use Rattle.translate_core.proofs.Whole.{whole_step, whole_fault}
+use Rattle.translate_verdicts.specs.Positions.{typed}
+use Rattle.translate_verdicts.specs.Body.{Source, going}
+use Rattle.translate_verdicts.proofs.Whole.{whole_step, whole_fault}
 use Rattle.message_show.specs.declared.open_level.OpenLevel.{OpenLevel}
 use Rattle.message_show.specs.declared.open_level.LevelStep.{LevelStep}
 use Rattle.message_show.specs.declared.open_level.LevelStep.TheVariants as turns

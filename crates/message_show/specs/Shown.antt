@@ -14,10 +14,10 @@ use Rattle.protocol_traits.specs.declared.proto.Proto.{Proto}
 use Rattle.protocol_traits.specs.declared.proto.Proto.TheVariants as protocols
 use Rattle.protocol_traits.specs.Heads.{Header}
 use Rattle.protocol_traits.specs.Steps.{Step}
-use Rattle.translate_core.specs.declared.route.Route.TheVariants.{ByName}
-use Rattle.translate_core.specs.Positions.{typed}
-use Rattle.translate_core.specs.Routes.{start_of}
-use Rattle.translate_core.specs.Body.{Source, TargetRules, Ended, going, whole, source_in}
+use Rattle.translate_verdicts.specs.declared.route.Route.TheVariants.{ByName}
+use Rattle.translate_verdicts.specs.Positions.{typed}
+use Rattle.translate_verdicts.specs.Routes.{start_of}
+use Rattle.translate_verdicts.specs.Body.{Source, TargetRules, Ended, going, whole, source_in}
 use Rattle.protocol_pairs.specs.Pairs.{binary_source, compact_source, json_source}
 use Rattle.message_show.specs.declared.showing.Shown.{Shown}
 use Rattle.message_show.specs.declared.showing.Shown.TheVariants as shown_as

@@ -7,8 +7,8 @@ use Rattle.type_walk.specs.declared.levels.Level.{Level}
 use Rattle.protocol_traits.specs.declared.fault.Fault.{Fault}
 use Rattle.protocol_traits.specs.declared.nest.Slot.{Slot}
 use Rattle.type_walk.specs.Positions.{Position, standing as open_at}
-use Rattle.translate_core.specs.Positions.{typed}
-use Rattle.translate_core.specs.Body.{Source, Ended, Going, going, whole, source_in}
+use Rattle.translate_verdicts.specs.Positions.{typed}
+use Rattle.translate_verdicts.specs.Body.{Source, Ended, Going, going, whole, source_in}
 use Rattle.message_show.specs.Pieces.{Waiting, Output, Told, Tells, output}
 use Rattle.message_show.specs.Inside.{at, behind, begins}
 use Rattle.message_show.specs.Shown.{Place, Showing, place, line_target, body_from, IsLine, IsWritten}

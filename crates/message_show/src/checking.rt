@@ -2,13 +2,13 @@
 ghost use Rattle.std.specs.Prelude.{refl, ◌≡◌, ◌≤◌, ◌<◌, ◌^◌, IfSome, length};
 ghost use Rattle.protocol_traits.specs.declared.proto.Hint.{Hint};
 ghost use Rattle.type_walk.specs.Positions.{Position, start};
-ghost use Rattle.translate_core.specs.declared.route.Route.TheVariants.{ByName};
+ghost use Rattle.translate_verdicts.specs.declared.route.Route.TheVariants.{ByName};
 ghost use Rattle.message_show.specs.Shown.{IsService, Finds, FindsBody};
 
 use binary_protocol::BinaryRead;
 use compact_protocol::CompactRead;
 use protocol_traits::{Fault, Hint, ReadRules, WireRead};
-use translate_core::{Route, body_struct};
+use translate_verdicts::{Route, body_struct};
 use type_tables::{Schema, ServiceId, StructId};
 use type_walk::{Undeclared, Walk, Walking};
 

@@ -8,7 +8,7 @@ ghost use Rattle.type_walk.specs.declared.levels.Level.{Level};
 ghost use Rattle.message_show.specs.declared.open_level.LevelStep.{LevelStep};
 ghost use Rattle.type_walk.specs.Known.{IsKnownLevel};
 ghost use Rattle.type_walk.specs.Positions.{start, struct_level};
-ghost use Rattle.translate_core.specs.declared.route.Route.TheVariants.{ByName};
+ghost use Rattle.translate_verdicts.specs.declared.route.Route.TheVariants.{ByName};
 ghost use Rattle.message_show.specs.Inside.{IsSound, IsSpent, at, behind, begins, depth_behind};
 ghost use Rattle.message_show.specs.Line.{type_text, sequence_text, head_text, line_end};
 ghost use Rattle.message_show.specs.Pieces.{TellsTo};
@@ -25,7 +25,7 @@ use crate::values::{push_list, push_map, tell_field, tell_string, tell_value};
 use gate_io::Sink;
 use protocol_traits::{Fault, Head, Slot, WireRead};
 use thrift_value::{Event, MessageType};
-use translate_core::{Route, body_struct};
+use translate_verdicts::{Route, body_struct};
 use type_tables::{Schema, ServiceId, StructId};
 use type_walk::{Level, hint_at, in_list, in_map, in_set, in_struct};
 

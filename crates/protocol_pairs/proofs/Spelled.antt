@@ -8,9 +8,9 @@ use Rattle.protocol_traits.specs.declared.fault.Reason.{Reason}
 use Rattle.protocol_traits.specs.declared.fault.Reason.TheVariants as reasons
 use Rattle.protocol_traits.specs.declared.fault.Bar.{Bar}
 use Rattle.protocol_traits.specs.declared.fault.Bar.TheVariants as bars
-use Rattle.translate_core.specs.declared.verdict.Cause.{Cause}
-use Rattle.translate_core.specs.declared.verdict.Cause.TheVariants.{Grammar, Barred, NoRoute}
-use Rattle.translate_core.specs.Texts.{reason_text, bar_text, no_route_text, cause_text}
+use Rattle.translate_verdicts.specs.declared.verdict.Cause.{Cause}
+use Rattle.translate_verdicts.specs.declared.verdict.Cause.TheVariants.{Grammar, Barred, NoRoute}
+use Rattle.translate_verdicts.specs.Texts.{reason_text, bar_text, no_route_text, cause_text}
 
 small : List ℕ → Bool
 small [] = true

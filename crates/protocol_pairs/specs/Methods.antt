@@ -3,12 +3,12 @@ use Rattle.std.specs.Prelude.{ℕ, List, Option}
 use Rattle.protocol_traits.specs.declared.proto.Proto.{Proto}
 use Rattle.protocol_traits.specs.declared.proto.Proto.TheVariants as protocols
 use Rattle.type_tables.specs.Declarations.{Declarations}
-use Rattle.translate_core.specs.declared.route.Route.{Route}
-use Rattle.translate_core.specs.Positions.{typed}
-use Rattle.translate_core.specs.Routes.{start_of, info_of}
-use Rattle.translate_core.specs.Body.{Source}
-use Rattle.translate_core.specs.Judged.{Judged}
-use Rattle.translate_core.specs.Methods.{judge_method, name_in}
+use Rattle.translate_verdicts.specs.declared.route.Route.{Route}
+use Rattle.translate_verdicts.specs.Positions.{typed}
+use Rattle.translate_verdicts.specs.Routes.{start_of, info_of}
+use Rattle.translate_verdicts.specs.Body.{Source}
+use Rattle.translate_verdicts.specs.Judged.{Judged}
+use Rattle.translate_methods.specs.Methods.{judge_method, name_in}
 use Rattle.protocol_pairs.specs.Pairs.{binary_source, compact_source, json_source, binary_target, compact_target, json_target}
 
 module _ {S : Type 0} (source : Source S) where

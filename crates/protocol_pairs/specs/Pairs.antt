@@ -4,12 +4,12 @@ use Rattle.protocol_traits.specs.declared.proto.Proto.{Proto}
 use Rattle.protocol_traits.specs.declared.proto.Proto.TheVariants as protocols
 use Rattle.protocol_traits.specs.Follow.{depth_after}
 use Rattle.type_tables.specs.Declarations.{Declarations}
-use Rattle.translate_core.specs.declared.route.Route.{Route}
-use Rattle.translate_core.specs.declared.verdict.Cause.{Cause}
-use Rattle.translate_core.specs.Positions.{typed}
-use Rattle.translate_core.specs.Routes.{start_of, info_of}
-use Rattle.translate_core.specs.Body.{Source, TargetRules, source_of, target_of}
-use Rattle.translate_core.specs.Judged.{Judged, judge}
+use Rattle.translate_verdicts.specs.declared.route.Route.{Route}
+use Rattle.translate_verdicts.specs.declared.verdict.Cause.{Cause}
+use Rattle.translate_verdicts.specs.Positions.{typed}
+use Rattle.translate_verdicts.specs.Routes.{start_of, info_of}
+use Rattle.translate_verdicts.specs.Body.{Source, TargetRules, source_of, target_of}
+use Rattle.translate_verdicts.specs.Judged.{Judged, judge}
 use Rattle.translate_core.specs.Answers.{answer_of}
 use Rattle.binary_protocol.specs.Reading as binary_reading
 use Rattle.binary_protocol.specs.Plain as binary_plain

@@ -1,7 +1,7 @@
 //! The answer to a frame that is refused.
 ghost use Rattle.std.specs.Prelude.{◌≡◌, ◌+◌, ◌≤◌, ◌^◌, ◌<◌, ◌++◌, length};
 ghost use Rattle.protocol_traits.specs.Room.{room_for};
-ghost use Rattle.translate_core.specs.Body.{source_in};
+ghost use Rattle.translate_verdicts.specs.Body.{source_in};
 ghost use Rattle.protocol_pairs.specs.Pairs.{answered, answered_to};
 
 use binary_protocol::{BinaryRead, BinaryWrite};
@@ -9,7 +9,7 @@ use compact_protocol::{CompactRead, CompactWrite};
 use gate_io::Out;
 use json_protocol::{JsonRead, JsonWrite};
 use protocol_traits::{Proto, WireRead};
-use translate_core::Cause;
+use translate_verdicts::Cause;
 
 /// Appends the answer to a frame that is refused for this cause, in the protocol `to`: an Exception message with the
 /// frame's sequence number. Nothing is appended where the frame's header isn't whole.

@@ -1,10 +1,10 @@
 //! One frame for one that serves a single service.
 ghost use Rattle.std.specs.Prelude.{◌≡◌, ◌+◌, ◌≤◌, ◌^◌, ◌<◌, length};
 ghost use Rattle.protocol_traits.specs.Room.{room_for};
-ghost use Rattle.translate_core.specs.Body.{source_in};
-ghost use Rattle.translate_core.specs.Judged.{IsJudged, IsLeft};
-ghost use Rattle.translate_core.specs.Methods.{target_of_name};
-ghost use Rattle.translate_core.specs.Routes.{IsKnownRoute};
+ghost use Rattle.translate_verdicts.specs.Body.{source_in};
+ghost use Rattle.translate_verdicts.specs.Judged.{IsJudged, IsLeft};
+ghost use Rattle.translate_methods.specs.Methods.{target_of_name};
+ghost use Rattle.translate_verdicts.specs.Routes.{IsKnownRoute};
 ghost use Rattle.protocol_pairs.specs.Methods.{name_of, method_judged, method_judged_to};
 
 use binary_protocol::{BinaryRead, BinaryWrite};
@@ -12,7 +12,8 @@ use compact_protocol::{CompactRead, CompactWrite};
 use gate_io::Out;
 use json_protocol::{JsonRead, JsonWrite};
 use protocol_traits::{FormRead, Proto, WireRead};
-use translate_core::{Route, Services, Verdict};
+use translate_methods::Services;
+use translate_verdicts::{Route, Verdict};
 use type_tables::Schema;
 
 /// The target that serves what a frame's name asks for. None: the frame's header isn't whole, no service stands before the
@@ -31,9 +32,9 @@ pub fn served<S: Services>(
     ensures { result ≡ target_of_name (S.serves services.now) (name_of from frame.now) }
 {
     match from {
-        Proto::Binary => translate_core::served::<BinaryRead, S>(services, frame, room),
-        Proto::Compact => translate_core::served::<CompactRead, S>(services, frame, room),
-        Proto::Json => translate_core::served::<JsonRead, S>(services, frame, room),
+        Proto::Binary => translate_methods::served::<BinaryRead, S>(services, frame, room),
+        Proto::Compact => translate_methods::served::<CompactRead, S>(services, frame, room),
+        Proto::Json => translate_methods::served::<JsonRead, S>(services, frame, room),
     }
 }
 
@@ -87,14 +88,14 @@ fn method_forms<'f, R: WireRead<'f> + FormRead>(
     ensures short { length out.new.bytes ≤ length out.old.bytes + room_for (length frame.now) }
 {
     match to {
-        Proto::Binary => translate_core::translate_method_quickly::<R, BinaryWrite>(
+        Proto::Binary => translate_methods::translate_method_quickly::<R, BinaryWrite>(
             schema, route, frame, room, out,
         ),
-        Proto::Compact => translate_core::translate_method_quickly::<R, CompactWrite>(
+        Proto::Compact => translate_methods::translate_method_quickly::<R, CompactWrite>(
             schema, route, frame, room, out,
         ),
         Proto::Json => {
-            translate_core::translate_method::<R, JsonWrite>(schema, route, frame, room, out)
+            translate_methods::translate_method::<R, JsonWrite>(schema, route, frame, room, out)
         }
     }
 }
@@ -120,13 +121,13 @@ fn method_to<'f, R: WireRead<'f>>(
 {
     match to {
         Proto::Binary => {
-            translate_core::translate_method::<R, BinaryWrite>(schema, route, frame, room, out)
+            translate_methods::translate_method::<R, BinaryWrite>(schema, route, frame, room, out)
         }
         Proto::Compact => {
-            translate_core::translate_method::<R, CompactWrite>(schema, route, frame, room, out)
+            translate_methods::translate_method::<R, CompactWrite>(schema, route, frame, room, out)
         }
         Proto::Json => {
-            translate_core::translate_method::<R, JsonWrite>(schema, route, frame, room, out)
+            translate_methods::translate_method::<R, JsonWrite>(schema, route, frame, room, out)
         }
     }
 }

@@ -1,9 +1,9 @@
 //! One frame from one protocol to another.
 ghost use Rattle.std.specs.Prelude.{◌≡◌, ◌+◌, ◌≤◌, ◌^◌, ◌<◌, true, false, length};
 ghost use Rattle.protocol_traits.specs.Room.{room_for};
-ghost use Rattle.translate_core.specs.Body.{source_in};
-ghost use Rattle.translate_core.specs.Judged.{IsJudged, IsLeft, judged_frame};
-ghost use Rattle.translate_core.specs.Routes.{IsKnownRoute};
+ghost use Rattle.translate_verdicts.specs.Body.{source_in};
+ghost use Rattle.translate_verdicts.specs.Judged.{IsJudged, IsLeft, judged_frame};
+ghost use Rattle.translate_verdicts.specs.Routes.{IsKnownRoute};
 ghost use Rattle.protocol_pairs.specs.Pairs.{binary_source, compact_source, json_source, judged, judged_to};
 
 use binary_protocol::{BinaryRead, BinaryWrite};
@@ -13,7 +13,9 @@ use json_protocol::{JsonRead, JsonWrite};
 use kept_forms::FormKeep;
 use kept_messages::pass_kept;
 use protocol_traits::{FormRead, FormWrite, Proto, WireRead};
-use translate_core::{Habit, HeadInfo, Outcome, Route, Verdict, pass_quickly};
+use translate_known::{Habit, Outcome};
+use translate_quick::pass_quickly;
+use translate_verdicts::{HeadInfo, Route, Verdict};
 use type_tables::Schema;
 
 /// Translates a frame to the end of `out`, or leaves `out` as it was.

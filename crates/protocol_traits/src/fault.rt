@@ -51,7 +51,7 @@ pub fn fault_at(place: usize, reason: Reason) -> Fault
 }
 
 /// Why a value that was read can't be written in the target's protocol.
-#[derive(Clone, Copy, Debug, PartialEq, Eq)]
+#[derive(Clone, Copy)]
 pub enum Bar {
     /// A double between JSON and another protocol, whose bytes would have to be computed.
     Double,

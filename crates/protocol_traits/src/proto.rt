@@ -2,7 +2,7 @@
 use thrift_value::{Kind, MessageType};
 
 /// The protocols of the gateway.
-#[derive(Clone, Copy, Debug, PartialEq, Eq)]
+#[derive(Clone, Copy)]
 pub enum Proto {
     /// Apache Thrift's Binary protocol.
     Binary,
@@ -13,7 +13,7 @@ pub enum Proto {
 }
 
 /// How a string is read where it stands: a JSON string is text or base64, and only its declared type says which.
-#[derive(Clone, Copy, Debug, PartialEq, Eq)]
+#[derive(Clone, Copy)]
 pub enum Hint {
     /// The position's type is `string`.
     Text,
@@ -25,7 +25,7 @@ pub enum Hint {
 
 /// What is known of the position of an event: how a string there is spelled, and the kinds that an empty map is
 /// written with.
-#[derive(Clone, Copy, Debug, PartialEq, Eq)]
+#[derive(Clone, Copy)]
 pub struct Mark {
     pub hint: Hint,
     pub key: Kind,

@@ -6,7 +6,7 @@ use decimal_words::push_number;
 use gate_hub::Side;
 use gate_io::Out;
 use session_core::{Halt, Outcome};
-use translate_core::Cause;
+use translate_verdicts::Cause;
 
 /// The room for a line.
 pub const LINE_ROOM: usize = 192;

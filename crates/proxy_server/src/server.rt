@@ -25,7 +25,7 @@ use session_core::{Judge, Outcome, Session};
 use std::alloc::Global;
 
 /// How much a server takes on.
-#[derive(Clone, Copy, Debug, PartialEq, Eq)]
+#[derive(Clone, Copy)]
 pub struct Limits {
     /// The most bytes of a frame, below 2^24.
     pub frame: usize,

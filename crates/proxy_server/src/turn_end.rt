@@ -2,7 +2,7 @@
 use session_core::Outcome;
 
 /// How a turn ended.
-#[derive(Clone, Copy, Debug, PartialEq, Eq)]
+#[derive(Clone, Copy)]
 pub enum Turn {
     /// Nothing can be moved before the hub names the session again.
     Settled,

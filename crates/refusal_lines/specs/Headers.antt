@@ -4,7 +4,7 @@ use Rattle.protocol_traits.specs.declared.proto.Proto.{Proto}
 use Rattle.protocol_traits.specs.declared.proto.Proto.TheVariants as protocols
 use Rattle.protocol_traits.specs.Heads.{Header}
 use Rattle.protocol_traits.specs.Steps.{Step}
-use Rattle.translate_core.specs.Body.{Source}
+use Rattle.translate_verdicts.specs.Body.{Source}
 use Rattle.protocol_pairs.specs.Pairs.{binary_source, compact_source, json_source}
 use Rattle.refusal_lines.specs.declared.header.TheConstants.{NAME_BYTES}
 

@@ -4,9 +4,9 @@ use Rattle.std.specs.Fmt.{signed_decimal}
 use Rattle.gate_hub.specs.declared.hub.Side.{Side}
 use Rattle.gate_hub.specs.declared.hub.Side.TheVariants as side
 use Rattle.protocol_traits.specs.declared.proto.Proto.{Proto}
-use Rattle.translate_core.specs.declared.verdict.Cause.{Cause}
-use Rattle.translate_core.specs.declared.verdict.Cause.TheVariants.{Grammar, Barred, NoRoute}
-use Rattle.translate_core.specs.Texts.{cause_text}
+use Rattle.translate_verdicts.specs.declared.verdict.Cause.{Cause}
+use Rattle.translate_verdicts.specs.declared.verdict.Cause.TheVariants.{Grammar, Barred, NoRoute}
+use Rattle.translate_verdicts.specs.Texts.{cause_text}
 use Rattle.message_show.specs.Texts.{quoted}
 use Rattle.session_core.specs.declared.notes.Refusal.{Refusal}
 use Rattle.refusal_lines.specs.Headers.{HeaderTold, header_in}

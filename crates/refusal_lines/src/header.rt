@@ -1,7 +1,7 @@
 //! What is told of a frame's header.
 ghost use Rattle.std.specs.Prelude.{◌≡◌, ◌≤◌, ◌<◌, ◌^◌, length, take};
 ghost use Rattle.protocol_traits.specs.Heads.{header_of};
-ghost use Rattle.translate_core.specs.Body.{source_in};
+ghost use Rattle.translate_verdicts.specs.Body.{source_in};
 ghost use Rattle.refusal_lines.specs.Headers.{headed_of, header_by, header_in};
 
 use binary_protocol::BinaryRead;

@@ -10,7 +10,7 @@ use gate_io::Out;
 use itoa::Buffer;
 use protocol_traits::Proto;
 use session_core::Refusal;
-use translate_core::Cause;
+use translate_verdicts::Cause;
 
 /// The room for a line: fewer bytes than that.
 pub const LINE_ROOM: usize = 512;

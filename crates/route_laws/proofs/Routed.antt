@@ -8,7 +8,7 @@ use Rattle.gate_fan.specs.Meaning.{Told, Meaning}
 use Rattle.gate_fan.specs.declared.fan.Target.{Target}
 use Rattle.gate_hub.specs.declared.hub.Served.{Served}
 use Rattle.session_core.specs.Notes.{Note}
-use Rattle.translate_core.specs.Methods.{target_for, target_of_name}
+use Rattle.translate_methods.specs.Methods.{target_for, target_of_name}
 use Rattle.session_core.specs.Stands.{sent_on}
 use Rattle.session_core.specs.declared.judge.ClientJudged.{ClientJudged}
 use Rattle.session_core.specs.declared.judge.ClientJudged.TheVariants as client

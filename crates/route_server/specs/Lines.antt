@@ -1,7 +1,7 @@
 -- The line of each session that has ended, or was left open.
 use Rattle.std.specs.Prelude.{ℕ, List, ◌++◌, ◌==◌, if◌then◌else◌, codes, decimal, Option, None, Some}
 use Rattle.std.specs.Fmt.{signed_decimal}
-use Rattle.translate_core.specs.Texts.{reason_text}
+use Rattle.translate_verdicts.specs.Texts.{reason_text}
 use Rattle.session_core.specs.declared.outcome.Halt.{Halt}
 use Rattle.session_core.specs.declared.outcome.Halt.TheVariants as halt
 use Rattle.service_router.specs.declared.outcome.RouteOutcome.{RouteOutcome}

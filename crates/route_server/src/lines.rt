@@ -6,7 +6,7 @@ use decimal_words::push_number;
 use gate_io::Out;
 use service_router::RouteOutcome;
 use session_core::Halt;
-use translate_core::Cause;
+use translate_verdicts::Cause;
 
 /// The room for a line.
 pub const LINE_ROOM: usize = 224;

@@ -2,7 +2,7 @@
 use service_router::RouteOutcome;
 
 /// How a turn of a routed connection ended.
-#[derive(Clone, Copy, Debug, PartialEq, Eq)]
+#[derive(Clone, Copy)]
 pub enum RouteTurn {
     /// Nothing can be moved before the fan names the session again.
     Settled,

@@ -257,7 +257,7 @@ fn serves(
         fan,
         output,
     );
-    served == Served::Stopped
+    matches!(served, Served::Stopped)
 }
 
 /// Whether the ports were sent what the row tells, and its line was written.

@@ -7,7 +7,7 @@ use Rattle.session_core.specs.Stands as session
 use Rattle.session_core.specs.Stands.{opened, sent_on, back, IsLawful, IsTaken}
 use Rattle.session_core.specs.Fits.{told}
 use Rattle.session_core.specs.declared.outcome.Halt.{Halt}
-use Rattle.translate_core.specs.declared.verdict.Cause.{Cause}
+use Rattle.translate_verdicts.specs.declared.verdict.Cause.{Cause}
 use Rattle.session_core.specs.declared.judge.ClientJudged.{ClientJudged}
 use Rattle.session_core.specs.declared.judge.ClientJudged.TheVariants as client
 use Rattle.session_core.proofs.Fitting.{lawful_client, lawful_upstream, taken_more}

@@ -9,7 +9,7 @@ use Rattle.session_core.specs.Stands as session_stands
 use Rattle.session_core.specs.Stands.{IsLawful, IsTaken}
 use Rattle.session_core.specs.Fits.{told}
 use Rattle.session_core.specs.Steps.{Waits, Halts, Takes, is_none, of_upstream, of_client, by_judged, ByUpstream, ByClient, outcome_of, by_both, by_upstream}
-use Rattle.translate_core.specs.declared.verdict.Cause.{Cause}
+use Rattle.translate_verdicts.specs.declared.verdict.Cause.{Cause}
 use Rattle.session_core.specs.declared.outcome.Halt.{Halt}
 use Rattle.session_core.specs.declared.outcome.Outcome.{Outcome}
 use Rattle.session_core.specs.declared.judge.ClientJudged.{ClientJudged}

@@ -6,7 +6,7 @@ use Rattle.session_core.specs.Notes.{Note}
 use Rattle.session_core.specs.Rules.{Rules}
 use Rattle.session_core.specs.Steps.{Move, Waits, Halts, of_upstream, of_client, upstream_front, client_front, by_judged, is_none}
 use Rattle.session_core.specs.Working.{Comes, ends_step, IsFound, judged_as}
-use Rattle.translate_core.specs.declared.verdict.Cause.{Cause}
+use Rattle.translate_verdicts.specs.declared.verdict.Cause.{Cause}
 use Rattle.session_core.specs.declared.state.SessionStep.{SessionStep}
 use Rattle.session_core.specs.declared.state.Waiting.{Waiting}
 use Rattle.session_core.specs.declared.state.Waiting.TheVariants as waiting

@@ -8,7 +8,7 @@ use Rattle.std.proofs.lemmas.List.Elements.{All-head}
 use Rattle.gate_io.specs.Buffer.{Buffer}
 use Rattle.framed_transport.specs.Frames.{IsCut, framed}
 use Rattle.framed_transport.specs.Front.{Front, Whole, front, behind}
-use Rattle.translate_core.specs.declared.verdict.Cause.{Cause}
+use Rattle.translate_verdicts.specs.declared.verdict.Cause.{Cause}
 use Rattle.session_core.specs.Notes.{reply_notes, reply_notes_by}
 use Rattle.session_core.specs.Rules.{Rules}
 use Rattle.session_core.specs.Fits.{told}

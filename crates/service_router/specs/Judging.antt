@@ -1,9 +1,9 @@
 -- How a router judges frames: as a session does, and a call that no target serves is refused.
 use Rattle.std.specs.Prelude.{ℕ, List, Option, Some, None, Bool, true, false}
-use Rattle.translate_core.specs.declared.route.Route.TheVariants.{ByName}
-use Rattle.translate_core.specs.declared.verdict.Cause.TheVariants.{NoRoute}
-use Rattle.translate_core.specs.Judged.{Judged}
-use Rattle.translate_core.specs.Methods.{target_of_name}
+use Rattle.translate_verdicts.specs.declared.route.Route.TheVariants.{ByName}
+use Rattle.translate_verdicts.specs.declared.verdict.Cause.TheVariants.{NoRoute}
+use Rattle.translate_verdicts.specs.Judged.{Judged}
+use Rattle.translate_methods.specs.Methods.{target_of_name}
 use Rattle.protocol_pairs.specs.Pairs.{answered}
 use Rattle.protocol_pairs.specs.Methods.{method_judged, name_of}
 use Rattle.session_core.specs.declared.judge.ClientJudged.{ClientJudged}

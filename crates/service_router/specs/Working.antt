@@ -14,7 +14,7 @@ use Rattle.session_core.specs.declared.state.SessionStep.{SessionStep}
 use Rattle.session_core.specs.declared.state.SessionStep.TheVariants as step
 use Rattle.session_core.specs.declared.state.Standstill.{Standstill}
 use Rattle.session_core.specs.declared.state.TheConstants.{MOST_CALLS}
-use Rattle.translate_core.specs.declared.verdict.Cause.{Cause}
+use Rattle.translate_verdicts.specs.declared.verdict.Cause.{Cause}
 use Rattle.session_core.specs.declared.judge.ClientJudged.{ClientJudged}
 use Rattle.session_core.specs.declared.judge.ClientJudged.TheVariants as client
 use Rattle.session_core.specs.declared.judge.UpstreamJudged.TheVariants as upstream

@@ -2,7 +2,7 @@
 use session_core::Call;
 
 /// An open call.
-#[derive(Clone, Copy, Debug, PartialEq, Eq)]
+#[derive(Clone, Copy)]
 pub struct OpenCall {
     /// What is kept of its method.
     pub call: Call,

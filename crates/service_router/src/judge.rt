@@ -18,7 +18,9 @@ use session_core::{Call, ClientJudged, UpstreamJudged};
 use session_judge::{Setup, judge_reply, of_client};
 use std::alloc::Global;
 use std::marker::Model;
-use translate_core::{Cause, Habit, Route, Services};
+use translate_known::Habit;
+use translate_methods::Services;
+use translate_verdicts::{Cause, Route};
 use type_tables::Schema;
 
 /// Whoever judges the frames of one routed connection. It takes no memory but in `open`.
@@ -136,7 +138,7 @@ impl<'s> RouteJudge<'s> {
         ensures within { length out.new.bytes ≤ out.new.room }
     {
         let (from, to) = (self.client, self.upstream);
-        self.room.clear();
+        self.room.cut(0);
         let room = self.room.tail(frame.len());
         let route = Route::ByName(None);
         of_client(&translate_method(self.schema, route, from, to, frame, room, out))
@@ -154,7 +156,7 @@ impl<'s> RouteJudge<'s> {
             targets: self.targets,
         };
         let from = self.client;
-        self.room.clear();
+        self.room.cut(0);
         let room = self.room.tail(frame.len());
         match served(&servers, from, frame, room) {
             Some(target) => Routed { judged, target },
@@ -179,7 +181,7 @@ impl<'s> RouteJudge<'s> {
     {
         let at = begin(out);
         let own = self.client;
-        self.room.clear();
+        self.room.cut(0);
         let room = self.room.tail(frame.len());
         answer(own, own, frame, room, &cause, out);
         close(out, at);
@@ -199,7 +201,7 @@ impl<'s> RouteJudge<'s> {
     {
         let at = begin(out);
         let (from, to) = (self.upstream, self.client);
-        self.room.clear();
+        self.room.cut(0);
         let room = self.room.tail(frame.len());
         let judged = judge_reply(
             self.schema,

@@ -6,7 +6,7 @@ ghost use Rattle.session_core.specs.Notes.{note_of, refused_call, reply_notes_by
 use crate::router::MOST_TARGETS;
 use gate_hub::Side;
 use session_core::{Notes, Refusal};
-use translate_core::Cause;
+use translate_verdicts::Cause;
 
 /// Tells that the client's frame behind so many others is refused.
 pub fn note_call<N: Notes>(notes: &mut N, taken: u64, cause: Cause, dropped: bool, frame: &[u8])

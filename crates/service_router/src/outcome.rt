@@ -3,7 +3,7 @@ use session_core::Halt;
 
 /// How a routed connection ends. Port 0 is the client's and port u that of the u-th target. Frames are counted from 1, and a
 /// number that does not fit stands at 2^64 - 1.
-#[derive(Clone, Copy, Debug, PartialEq, Eq)]
+#[derive(Clone, Copy)]
 pub enum RouteOutcome {
     /// The client ended at a frame's end, every call was answered, and no target said more.
     Clean,

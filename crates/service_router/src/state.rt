@@ -30,7 +30,7 @@ use session_core::{
     due_room,
 };
 use std::alloc::Global;
-use translate_core::Cause;
+use translate_verdicts::Cause;
 
 /// What a router holds, without its judge.
 #[derive(Drop)]

@@ -16,7 +16,7 @@ use Rattle.session_core.specs.Working.{Cuts, Took, ByUpstream, ByClient, call_fr
 use Rattle.session_core.specs.Notes.{Note, call_notes}
 use Rattle.session_core.specs.Telling.{Asked, Answered, asked_in, answered_in, answer_notes, notes_from, FitsTold}
 use Rattle.session_core.specs.declared.judge.Call.{Call}
-use Rattle.translate_core.specs.declared.verdict.Cause.{Cause}
+use Rattle.translate_verdicts.specs.declared.verdict.Cause.{Cause}
 use Rattle.session_core.specs.declared.outcome.Halt.{Halt}
 use Rattle.session_core.specs.declared.outcome.Halt.TheVariants as halt
 use Rattle.session_core.specs.declared.judge.ClientJudged.{ClientJudged}

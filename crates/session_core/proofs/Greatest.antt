@@ -12,7 +12,7 @@ use Rattle.session_core.specs.Fits.{Fits, told}
 use Rattle.session_core.specs.Steps.{Waits, Halts, Takes, is_none, of_upstream, of_client, by_judged, ByUpstream, ByClient, IsStill, outcome_of, by_both, by_upstream}
 use Rattle.session_core.specs.Ends.{IsAtRest}
 use Rattle.session_core.specs.declared.judge.Call.{Call}
-use Rattle.translate_core.specs.declared.verdict.Cause.{Cause}
+use Rattle.translate_verdicts.specs.declared.verdict.Cause.{Cause}
 use Rattle.session_core.specs.declared.outcome.Halt.{Halt}
 use Rattle.session_core.specs.declared.judge.ClientJudged.{ClientJudged}
 use Rattle.session_core.specs.declared.judge.ClientJudged.TheVariants as client

@@ -16,7 +16,7 @@ use Rattle.session_core.specs.declared.state.Waiting.{Waiting}
 use Rattle.session_core.specs.declared.state.Waiting.TheVariants as waiting
 use Rattle.session_core.specs.declared.outcome.Halt.{Halt}
 use Rattle.session_core.specs.declared.state.SessionStep.{SessionStep}
-use Rattle.translate_core.specs.declared.verdict.Cause.{Cause}
+use Rattle.translate_verdicts.specs.declared.verdict.Cause.{Cause}
 use Rattle.session_core.specs.declared.judge.ClientJudged.TheVariants as client
 use Rattle.session_core.specs.declared.judge.Call.{Call}
 use Rattle.session_core.specs.declared.judge.ClientJudged.{ClientJudged}

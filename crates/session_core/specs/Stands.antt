@@ -5,7 +5,7 @@ use Rattle.framed_transport.specs.Frames.{framed}
 use Rattle.framed_transport.specs.Front.{Whole, front}
 use Rattle.session_core.specs.Rules.{Rules}
 use Rattle.session_core.specs.declared.judge.Call.{Call}
-use Rattle.translate_core.specs.declared.verdict.Cause.{Cause}
+use Rattle.translate_verdicts.specs.declared.verdict.Cause.{Cause}
 use Rattle.session_core.specs.declared.outcome.Halt.{Halt}
 use Rattle.session_core.specs.declared.judge.ClientJudged.{ClientJudged}
 use Rattle.session_core.specs.declared.judge.ClientJudged.TheVariants as client

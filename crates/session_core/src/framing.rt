@@ -7,7 +7,7 @@ ghost use Rattle.session_core.specs.Rooms.{due_room};
 use crate::judge::{Call, CallLook, ClientJudged, Judge, UpstreamJudged};
 use framed_transport::{begin, close};
 use gate_io::Out;
-use translate_core::Cause;
+use translate_verdicts::Cause;
 
 /// Takes a quick look at a frame of the client, and leaves what goes to the upstream as a frame where it is passed.
 #[inline(always)]

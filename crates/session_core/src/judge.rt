@@ -6,18 +6,18 @@ ghost use Rattle.session_core.specs.Rules.{Rules};
 
 use crate::outcome::Halt;
 use gate_io::Out;
-use translate_core::Cause;
+use translate_verdicts::Cause;
 use type_tables::StructId;
 
 /// What an open call keeps of its method.
-#[derive(Clone, Copy, Debug, PartialEq, Eq)]
+#[derive(Clone, Copy)]
 pub struct Call {
     /// The struct of its reply, where the method is known.
     pub result: Option<StructId>,
 }
 
 /// The verdict on a frame of the client.
-#[derive(Clone, Copy, Debug, PartialEq, Eq)]
+#[derive(Clone, Copy)]
 pub enum ClientJudged {
     /// Its header can't be read, or it is no call.
     Halts(Halt),
@@ -32,7 +32,7 @@ pub enum ClientJudged {
 }
 
 /// The verdict on a frame of the upstream.
-#[derive(Clone, Copy, Debug, PartialEq, Eq)]
+#[derive(Clone, Copy)]
 pub enum UpstreamJudged {
     /// Its header can't be read, or it is a call.
     Halts(Halt),

@@ -3,10 +3,10 @@ ghost use Rattle.std.specs.Prelude.{◌≡◌, ℕ, List, [], ◌∷◌, ◌++�
 ghost use Rattle.session_core.specs.Notes.{Note, note_of, refused_call, reply_notes_by};
 
 use gate_hub::Side;
-use translate_core::Cause;
+use translate_verdicts::Cause;
 
 /// A frame that is refused.
-#[derive(Clone, Copy, Debug, PartialEq, Eq)]
+#[derive(Clone, Copy)]
 pub struct Refusal {
     /// Whose frame it is.
     pub side: Side,

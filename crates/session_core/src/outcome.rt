@@ -3,7 +3,7 @@ use gate_hub::Side;
 use protocol_traits::Fault;
 
 /// Why a side can be taken no further.
-#[derive(Clone, Copy, Debug, PartialEq, Eq)]
+#[derive(Clone, Copy, PartialEq, Eq)]
 pub enum Halt {
     /// A frame whose header can't be read, with what is wrong there.
     Unread(Fault),
@@ -16,7 +16,7 @@ pub enum Halt {
 }
 
 /// How a session ends. Frames are counted from 1, and a number that does not fit stands at 2^64 - 1.
-#[derive(Clone, Copy, Debug, PartialEq, Eq)]
+#[derive(Clone, Copy, PartialEq, Eq)]
 pub enum Outcome {
     /// The client ended at a frame's end, every call was answered, and the upstream said no more.
     Clean,

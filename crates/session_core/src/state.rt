@@ -43,7 +43,7 @@ use framed_transport::{Next, frame_stands_at_the_front};
 use gate_base::OutOfMemory;
 use gate_hub::Side;
 use std::alloc::Global;
-use translate_core::Cause;
+use translate_verdicts::Cause;
 
 /// So many calls may be open at the most.
 pub const MOST_CALLS: usize = 65_536;

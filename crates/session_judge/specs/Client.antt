@@ -3,15 +3,15 @@ use Rattle.std.specs.Prelude.{ℕ, List, [], Option, Some, None, Bool, true, not
 use Rattle.thrift_value.specs.declared.kind.MessageType.{MessageType}
 use Rattle.thrift_value.specs.declared.kind.MessageType.TheVariants as types
 use Rattle.type_tables.specs.declared.declared.MethodInfo.{MethodInfo}
-use Rattle.translate_core.specs.declared.verdict.Cause.{Cause}
-use Rattle.translate_core.specs.declared.verdict.Verdict.{Verdict}
-use Rattle.translate_core.specs.declared.verdict.Verdict.TheVariants as verdicts
+use Rattle.translate_verdicts.specs.declared.verdict.Cause.{Cause}
+use Rattle.translate_verdicts.specs.declared.verdict.Verdict.{Verdict}
+use Rattle.translate_verdicts.specs.declared.verdict.Verdict.TheVariants as verdicts
 use Rattle.type_tables.specs.declared.declared.ServiceId.{ServiceId}
 use Rattle.type_tables.specs.Declarations.{Declarations}
 use Rattle.protocol_traits.specs.declared.proto.Proto.{Proto}
-use Rattle.translate_core.specs.declared.route.Route.TheVariants.{ByName}
-use Rattle.translate_core.specs.Judged.{Judged}
-use Rattle.translate_core.specs.Routes.{result_of}
+use Rattle.translate_verdicts.specs.declared.route.Route.TheVariants.{ByName}
+use Rattle.translate_verdicts.specs.Judged.{Judged}
+use Rattle.translate_verdicts.specs.Routes.{result_of}
 use Rattle.protocol_pairs.specs.Pairs.{judged}
 use Rattle.session_core.specs.declared.judge.Call.{Call}
 use Rattle.session_core.specs.declared.judge.ClientJudged.{ClientJudged}

@@ -1,8 +1,8 @@
 -- What is seen of a frame that the quick way takes.
 use Rattle.std.specs.Prelude.{◌≡◌, ℕ, List, Option, Some, None, IfSome}
-use Rattle.translate_core.specs.declared.verdict.HeadInfo.{HeadInfo}
-use Rattle.translate_core.specs.declared.verdict.Verdict.TheVariants.{Passed}
-use Rattle.translate_core.specs.Judged.{IsJudged, Judged}
+use Rattle.translate_verdicts.specs.declared.verdict.HeadInfo.{HeadInfo}
+use Rattle.translate_verdicts.specs.declared.verdict.Verdict.TheVariants.{Passed}
+use Rattle.translate_verdicts.specs.Judged.{IsJudged, Judged}
 use Rattle.session_core.specs.declared.judge.ClientJudged.{ClientJudged}
 use Rattle.session_core.specs.declared.judge.ClientJudged.TheVariants as client
 use Rattle.session_core.specs.declared.judge.UpstreamJudged.{UpstreamJudged}

@@ -1,7 +1,7 @@
 -- How a session's frames are judged.
 use Rattle.std.specs.Prelude.{ℕ, List}
-use Rattle.translate_core.specs.declared.route.Route.TheVariants.{ByName, Answer}
-use Rattle.translate_core.specs.Judged.{Judged}
+use Rattle.translate_verdicts.specs.declared.route.Route.TheVariants.{ByName, Answer}
+use Rattle.translate_verdicts.specs.Judged.{Judged}
 use Rattle.protocol_pairs.specs.Pairs.{judged, answered}
 use Rattle.session_core.specs.declared.judge.Call.{Call}
 use Rattle.session_core.specs.Rules.{Rules}

@@ -5,12 +5,12 @@ use Rattle.thrift_value.specs.declared.kind.MessageType.TheVariants as types
 use Rattle.type_tables.specs.declared.declared.StructId.{StructId}
 use Rattle.type_tables.specs.Declarations.{Declarations}
 use Rattle.protocol_traits.specs.declared.proto.Proto.{Proto}
-use Rattle.translate_core.specs.Judged.{Judged}
-use Rattle.translate_core.specs.declared.route.Route.TheVariants.{Answer}
+use Rattle.translate_verdicts.specs.Judged.{Judged}
+use Rattle.translate_verdicts.specs.declared.route.Route.TheVariants.{Answer}
 use Rattle.protocol_pairs.specs.Pairs.{judged, answered}
-use Rattle.translate_core.specs.declared.verdict.Cause.{Cause}
-use Rattle.translate_core.specs.declared.verdict.Verdict.{Verdict}
-use Rattle.translate_core.specs.declared.verdict.Verdict.TheVariants.{Passed, Refused, Unread}
+use Rattle.translate_verdicts.specs.declared.verdict.Cause.{Cause}
+use Rattle.translate_verdicts.specs.declared.verdict.Verdict.{Verdict}
+use Rattle.translate_verdicts.specs.declared.verdict.Verdict.TheVariants.{Passed, Refused, Unread}
 use Rattle.session_core.specs.declared.judge.UpstreamJudged.{UpstreamJudged}
 use Rattle.session_core.specs.declared.judge.UpstreamJudged.TheVariants as upstream
 use Rattle.session_core.specs.declared.outcome.Halt.TheVariants as halt

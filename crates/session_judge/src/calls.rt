@@ -12,7 +12,8 @@ use protocol_pairs::{translate_by_events, translate_quickly};
 use protocol_traits::{Head, Proto};
 use session_core::{Call, CallLook, ClientJudged, Halt};
 use thrift_value::MessageType;
-use translate_core::{Cause, Habit, HeadInfo, Outcome, Route, Verdict, told_of};
+use translate_known::{Habit, Outcome};
+use translate_verdicts::{Cause, HeadInfo, Route, Verdict, told_of};
 use type_tables::{MethodInfo, Schema, ServiceId, StructId};
 
 /// What the quick way tells of a frame of the client: what a session asks of it and no more, so that it is handed on in
@@ -52,7 +53,7 @@ impl Outcome for CallSeen {
     }
 
     #[inline(always)]
-    #[tactic(auto, unfolding(translate_core::specs::Routes::info_of))]
+    #[tactic(auto, unfolding(translate_verdicts::specs::Routes::info_of))]
     fn passed_by(schema: &Schema, route: Route, head: &Head<'_>) -> Self {
         match head.mtype {
             MessageType::Call => call_seen(told_of(schema, route, head).info.method),

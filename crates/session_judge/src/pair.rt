@@ -12,7 +12,8 @@ use protocol_traits::Proto;
 use session_core::{Call, CallLook, ClientJudged, Judge, UpstreamJudged};
 use std::alloc::Global;
 use std::marker::Model;
-use translate_core::{Cause, Habit};
+use translate_known::Habit;
+use translate_verdicts::Cause;
 use type_tables::{Schema, ServiceId};
 
 /// Whoever judges the frames of one session: it reads and writes by two protocols and by what a schema declares.

@@ -1,6 +1,6 @@
 //! What becomes of a frame of the upstream.
 ghost use Rattle.std.specs.Prelude.{◌≡◌, ◌+◌, ◌^◌, ◌<◌, ◌≤◌, ◌++◌, Some, None, length, take, drop, true, false};
-ghost use Rattle.translate_core.specs.Routes.{IsKnownRoute};
+ghost use Rattle.translate_verdicts.specs.Routes.{IsKnownRoute};
 ghost use Rattle.protocol_pairs.specs.Pairs.{judged, answered};
 ghost use Rattle.protocol_traits.specs.Room.{room_for};
 ghost use Rattle.session_judge.specs.Upstream.{back, expected, of_type, of_upstream, reply_bytes, reply_verdict};
@@ -12,7 +12,8 @@ use protocol_pairs::{answer, translate_by_events, translate_quickly};
 use protocol_traits::{Head, Proto};
 use session_core::{Halt, UpstreamJudged};
 use thrift_value::MessageType;
-use translate_core::{Cause, Habit, HeadInfo, Outcome, Route, Verdict};
+use translate_known::{Habit, Outcome};
+use translate_verdicts::{Cause, HeadInfo, Route, Verdict};
 use type_tables::{Schema, StructId};
 
 /// What the quick way tells of a frame of the upstream: what a session asks of it and no more.
@@ -47,7 +48,7 @@ impl Outcome for ReplySeen {
     }
 
     #[inline(always)]
-    #[tactic(auto, unfolding(translate_core::specs::Routes::info_of))]
+    #[tactic(auto, unfolding(translate_verdicts::specs::Routes::info_of))]
     fn passed_by(_schema: &Schema, _route: Route, head: &Head<'_>) -> Self {
         seen_of(head.mtype)
     }

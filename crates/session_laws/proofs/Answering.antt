@@ -21,14 +21,14 @@ use Rattle.protocol_traits.specs.Heads.{Header}
 use Rattle.type_tables.specs.Known.{built_in}
 use Rattle.type_walk.specs.Positions.{start}
 use Rattle.multiplex_names.specs.Names.{split_of, parted, is_colon, find_in}
-use Rattle.translate_core.specs.declared.route.Route.{Route}
-use Rattle.translate_core.specs.declared.route.Route.TheVariants.{ByName, Answer}
-use Rattle.translate_core.specs.declared.verdict.Cause.{Cause}
-use Rattle.translate_core.specs.declared.verdict.Cause.TheVariants.{Grammar, Barred, NoRoute}
+use Rattle.translate_verdicts.specs.declared.route.Route.{Route}
+use Rattle.translate_verdicts.specs.declared.route.Route.TheVariants.{ByName, Answer}
+use Rattle.translate_verdicts.specs.declared.verdict.Cause.{Cause}
+use Rattle.translate_verdicts.specs.declared.verdict.Cause.TheVariants.{Grammar, Barred, NoRoute}
 use Rattle.translate_core.specs.Answers.{answer_of, failure_items, marked, method_name, spellable, spelled, TakesAll}
-use Rattle.translate_core.specs.Body.{Source}
-use Rattle.translate_core.specs.Routes.{body_by, result_of, start_of}
-use Rattle.translate_core.specs.Texts.{reason_text, bar_text, no_route_text, cause_text, failure_type}
+use Rattle.translate_verdicts.specs.Body.{Source}
+use Rattle.translate_verdicts.specs.Routes.{body_by, result_of, start_of}
+use Rattle.translate_verdicts.specs.Texts.{reason_text, bar_text, no_route_text, cause_text, failure_type}
 use Rattle.translate_core.proofs.Answered.{answer_ok}
 use Rattle.protocol_pairs.specs.Pairs.{binary_source, compact_source, json_source, binary_target, compact_target, json_target, answered, answered_to}
 use Rattle.binary_protocol.specs.Heads.{head_at}

@@ -9,12 +9,12 @@ use Rattle.protocol_traits.specs.declared.proto.Proto.{Proto}
 use Rattle.protocol_traits.specs.declared.proto.Proto.TheVariants as protocols
 use Rattle.protocol_traits.specs.Heads.{Header}
 use Rattle.type_tables.specs.Declarations.{Declarations}
-use Rattle.translate_core.specs.declared.route.Route.{Route}
-use Rattle.translate_core.specs.declared.verdict.Cause.{Cause}
-use Rattle.translate_core.specs.declared.verdict.Cause.TheVariants.{Grammar, Barred}
-use Rattle.translate_core.specs.declared.verdict.Verdict.TheVariants.{Passed, Refused, Unread}
-use Rattle.translate_core.specs.Routes.{info_of}
-use Rattle.translate_core.specs.Judged.{Judged, judged}
+use Rattle.translate_verdicts.specs.declared.route.Route.{Route}
+use Rattle.translate_verdicts.specs.declared.verdict.Cause.{Cause}
+use Rattle.translate_verdicts.specs.declared.verdict.Cause.TheVariants.{Grammar, Barred}
+use Rattle.translate_verdicts.specs.declared.verdict.Verdict.TheVariants.{Passed, Refused, Unread}
+use Rattle.translate_verdicts.specs.Routes.{info_of}
+use Rattle.translate_verdicts.specs.Judged.{Judged, judged}
 use Rattle.protocol_pairs.specs.Pairs as pairs
 use Rattle.protocol_pairs.specs.Pairs.{answered}
 use Rattle.session_core.specs.declared.judge.ClientJudged.{ClientJudged}

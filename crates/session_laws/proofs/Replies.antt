@@ -4,8 +4,8 @@ use Rattle.std.specs.Prelude.{if◌then◌else◌}
 use Rattle.thrift_value.specs.declared.kind.MessageType.{MessageType}
 use Rattle.thrift_value.specs.declared.kind.MessageType.TheVariants as types
 use Rattle.protocol_traits.specs.Heads.{Header}
-use Rattle.translate_core.specs.Routes.{info_of}
-use Rattle.translate_core.specs.declared.verdict.Cause.{Cause}
+use Rattle.translate_verdicts.specs.Routes.{info_of}
+use Rattle.translate_verdicts.specs.declared.verdict.Cause.{Cause}
 use Rattle.protocol_pairs.specs.Pairs.{answered}
 use Rattle.session_core.specs.declared.judge.Call.{Call}
 use Rattle.session_core.specs.declared.judge.UpstreamJudged.TheVariants as upstream

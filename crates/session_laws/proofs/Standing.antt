@@ -16,7 +16,7 @@ use Rattle.session_core.specs.declared.outcome.Halt.{Halt}
 use Rattle.session_core.proofs.Greatest.{StandsAtFront, Compared, compared, all_due}
 use Rattle.session_judge.specs.Setting.{Setting}
 use Rattle.session_judge.specs.Rules.{rules_of}
-use Rattle.translate_core.specs.declared.verdict.Cause.{Cause}
+use Rattle.translate_verdicts.specs.declared.verdict.Cause.{Cause}
 use Rattle.session_laws.specs.Saying.{Said}
 use Rattle.session_laws.specs.Exchange.{Waits, Tells, Ends, opened, done, calls, onward, back, EndsUpstream}
 use Rattle.session_laws.specs.Exchange as exchange

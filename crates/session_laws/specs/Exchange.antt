@@ -6,8 +6,8 @@ use Rattle.thrift_value.specs.declared.kind.MessageType.TheVariants as types
 use Rattle.protocol_traits.specs.Heads.{Header}
 use Rattle.type_tables.specs.declared.declared.MethodInfo.{MethodInfo}
 use Rattle.multiplex_names.specs.Names.{find_in}
-use Rattle.translate_core.specs.declared.route.Route.TheVariants.{ByName, Answer}
-use Rattle.translate_core.specs.Routes.{result_of}
+use Rattle.translate_verdicts.specs.declared.route.Route.TheVariants.{ByName, Answer}
+use Rattle.translate_verdicts.specs.Routes.{result_of}
 use Rattle.session_core.specs.declared.outcome.Halt.{Halt}
 use Rattle.session_core.specs.declared.outcome.Halt.TheVariants as halt
 use Rattle.session_judge.specs.Setting.{Setting}

@@ -10,11 +10,11 @@ use Rattle.protocol_traits.specs.declared.proto.Proto.TheVariants as protocols
 use Rattle.protocol_traits.specs.Heads.{Header}
 use Rattle.type_tables.specs.Declarations.{Declarations}
 use Rattle.type_tables.specs.Known.{built_in}
-use Rattle.translate_core.specs.declared.route.Route.{Route}
-use Rattle.translate_core.specs.declared.verdict.Cause.{Cause}
-use Rattle.translate_core.specs.declared.verdict.Cause.TheVariants.{Grammar, Barred, NoRoute}
+use Rattle.translate_verdicts.specs.declared.route.Route.{Route}
+use Rattle.translate_verdicts.specs.declared.verdict.Cause.{Cause}
+use Rattle.translate_verdicts.specs.declared.verdict.Cause.TheVariants.{Grammar, Barred, NoRoute}
 use Rattle.translate_core.specs.Answers.{method_name}
-use Rattle.translate_core.specs.Texts.{cause_text, failure_type}
+use Rattle.translate_verdicts.specs.Texts.{cause_text, failure_type}
 use Rattle.binary_laws.specs.Faults as binary_faults
 use Rattle.compact_laws.specs.Faults as compact_faults
 use Rattle.json_laws.specs.Fronts.{SpellsHeader as JsonHead}

@@ -5,7 +5,7 @@
 
 ghost use Rattle.std.specs.Prelude.{◌<◌, List, ℕ};
 ghost use Rattle.protocol_traits.specs.Heads.{Header};
-ghost use Rattle.translate_core.specs.declared.verdict.Cause.{Cause};
+ghost use Rattle.translate_verdicts.specs.declared.verdict.Cause.{Cause};
 ghost use Rattle.protocol_pairs.specs.Pairs.{answered};
 ghost use Rattle.gate_hub.specs.declared.hub.Served.{Served};
 ghost use Rattle.session_core.specs.declared.outcome.Outcome.{Outcome};

@@ -5,9 +5,9 @@ use Rattle.protocol_traits.specs.declared.fault.Fault.{Fault}
 use Rattle.protocol_traits.specs.Heads.{Header}
 use Rattle.type_walk.specs.Positions.{Position, hint_of, after}
 use Rattle.translate_core.specs.Answers.{TakesAll, marked, spelled}
-use Rattle.translate_core.specs.Body.{Source, going, whole}
-use Rattle.translate_core.specs.Positions.{typed}
-use Rattle.translate_core.proofs.Whole.{whole_end}
+use Rattle.translate_verdicts.specs.Body.{Source, going, whole}
+use Rattle.translate_verdicts.specs.Positions.{typed}
+use Rattle.translate_verdicts.proofs.Whole.{whole_end}
 use Rattle.message_show.specs.Line.{begun, head_text, line_end}
 use Rattle.message_show.specs.Shown.{Place, Line, Refused, Unread, place, line_target, shown_by, after_head}
 use Rattle.verdict_laws.specs.Following.{behind, Follows}

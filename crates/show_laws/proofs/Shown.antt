@@ -6,11 +6,11 @@ use Rattle.type_tables.specs.declared.declared.ServiceId.{ServiceId}
 use Rattle.type_tables.specs.Declarations.{Declarations}
 use Rattle.protocol_traits.specs.declared.fault.Fault.{Fault}
 use Rattle.protocol_traits.specs.Heads.{Header}
-use Rattle.translate_core.specs.declared.route.Route.TheVariants.{ByName}
+use Rattle.translate_verdicts.specs.declared.route.Route.TheVariants.{ByName}
 use Rattle.translate_core.specs.Answers.{marked, spelled}
-use Rattle.translate_core.specs.Routes.{body_of, start_of}
+use Rattle.translate_verdicts.specs.Routes.{body_of, start_of}
 use Rattle.protocol_traits.specs.declared.proto.Proto.TheVariants as protocols
-use Rattle.translate_core.specs.declared.route.Route.{Route}
+use Rattle.translate_verdicts.specs.declared.route.Route.{Route}
 use Rattle.protocol_pairs.specs.Pairs.{binary_source, compact_source, json_source}
 use Rattle.message_show.specs.Line.{begun, head_text, line_end}
 use Rattle.message_show.specs.Shown.{Line, Refused, place, line_target, shown_by}

@@ -6,9 +6,9 @@ use Rattle.type_tables.specs.Declarations.{Declarations}
 use Rattle.type_walk.specs.Positions.{Position}
 use Rattle.protocol_traits.specs.declared.fault.Fault.{Fault}
 use Rattle.protocol_traits.specs.Heads.{Header}
-use Rattle.translate_core.specs.declared.route.Route.TheVariants.{ByName}
+use Rattle.translate_verdicts.specs.declared.route.Route.TheVariants.{ByName}
 use Rattle.translate_core.specs.Answers.{marked, spelled}
-use Rattle.translate_core.specs.Routes.{start_of}
+use Rattle.translate_verdicts.specs.Routes.{start_of}
 use Rattle.message_show.specs.Line.{begun, head_text, line_end}
 use Rattle.message_show.specs.Shown.{Showing, Line, Refused, Unread, place, line_target, shown}
 use Rattle.protocol_traits.specs.declared.proto.Proto.TheVariants as protocols

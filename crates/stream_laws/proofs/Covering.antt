@@ -8,8 +8,8 @@ use Rattle.type_tables.specs.declared.declared.ServiceId.{ServiceId}
 use Rattle.type_tables.specs.Declarations.{Declarations}
 use Rattle.protocol_traits.specs.declared.proto.Proto.{Proto}
 use Rattle.protocol_traits.specs.declared.proto.Proto.TheVariants as protocols
-use Rattle.translate_core.specs.declared.route.Route.TheVariants.{ByName}
-use Rattle.translate_core.specs.declared.verdict.Cause.TheVariants.{Grammar}
+use Rattle.translate_verdicts.specs.declared.route.Route.TheVariants.{ByName}
+use Rattle.translate_verdicts.specs.declared.verdict.Cause.TheVariants.{Grammar}
 use Rattle.protocol_pairs.specs.Pairs.{answered}
 use Rattle.line_transport.specs.Cuts.{sent, IsPiece, is_counted, messages_of, Spans, CutsAll, at_end}
 use Rattle.line_transport.specs.Lines.{ended}
@@ -26,14 +26,15 @@ use Rattle.show_laws.specs.Showings.{IsShowing, ShowsMessage, TellsFault, TellsN
 use Rattle.conform_check.specs.Checking.{Finding}
 use Rattle.conform_laws.specs.Checkings.{IsChecking, MessageIsMet, MessageBreaks}
 use Rattle.conform_laws.specs.Checkings as checkings
-use Rattle.gate_run.specs.declared.task.Doing.TheVariants.{Convert, Show, Conform}
-use Rattle.gate_run.specs.Findings.{finding}
-use Rattle.gate_run.specs.Handling.{Treated, Passes, Fails, Meets, Breaks, translated, as_line, as_found, treated, treated_by, is_passed, bytes_for, line_for, output_of, outputs, line_of, lines, any_refused}
-use Rattle.gate_run.specs.Outcome.{Streams, Covers, StopsWith, Streamed}
-use Rattle.gate_run.specs.declared.stream.TheConstants.{MOST_BYTES}
-use Rattle.gate_run.specs.declared.status.Ending.{Ending}
-use Rattle.gate_run.specs.declared.status.Ending.TheVariants as endings
-use Rattle.gate_run.specs.Terms.{Terms, judged_by, shown_by, found_by}
+use Rattle.gate_streams.specs.declared.task.Doing.TheVariants.{Convert, Show, Conform}
+use Rattle.gate_streams.specs.Findings.{finding}
+use Rattle.gate_streams.specs.Handling.{Treated, Passes, Fails, Meets, Breaks, translated, as_line, as_found, treated, treated_by, is_passed, bytes_for, line_for, output_of, outputs, line_of, lines, any_refused}
+use Rattle.gate_start.specs.Streams.{Streams}
+use Rattle.gate_streams.specs.Outcome.{Covers, StopsWith, Streamed}
+use Rattle.gate_streams.specs.declared.stream.TheConstants.{MOST_BYTES}
+use Rattle.gate_start.specs.declared.status.Ending.{Ending}
+use Rattle.gate_start.specs.declared.status.Ending.TheVariants as endings
+use Rattle.gate_streams.specs.Terms.{Terms, judged_by, shown_by, found_by}
 use Rattle.stream_laws.specs.Covering.{passage_of, IsLow, IsConverted, IsWritten, IsReported, IsListed, HasLine, HasFault, IsConformed, IsMet, IsBroken, IsFaulty, GiveInOrder, CoversBy, GivesSome, GivesBy}
 
 -- what is read of a source that tells what is left of it consists of bytes

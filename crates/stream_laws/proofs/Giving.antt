@@ -5,10 +5,10 @@ use Rattle.protocol_traits.specs.declared.fault.Fault.{Fault}
 use Rattle.protocol_traits.specs.declared.proto.Proto.{Proto}
 use Rattle.protocol_traits.specs.declared.proto.Proto.TheVariants as protocols
 use Rattle.type_tables.specs.Declarations.{Declarations}
-use Rattle.translate_core.specs.declared.route.Route.{Route}
-use Rattle.translate_core.specs.declared.route.Route.TheVariants.{ByName}
+use Rattle.translate_verdicts.specs.declared.route.Route.{Route}
+use Rattle.translate_verdicts.specs.declared.route.Route.TheVariants.{ByName}
 use Rattle.protocol_traits.specs.Heads.{Header}
-use Rattle.translate_core.specs.Judged.{Judged}
+use Rattle.translate_verdicts.specs.Judged.{Judged}
 use Rattle.line_transport.specs.Cuts.{sent}
 use Rattle.line_transport.specs.declared.transport.Transport.{Transport}
 use Rattle.gate_base.specs.Bytes.{AreBytes}
@@ -19,9 +19,9 @@ use Rattle.verdict_laws.specs.Verdicts.{IsPlain, IsVerdict}
 use Rattle.verdict_laws.specs.Verdicts.IsVerdict.{Passes, IsBarred, IsFaulty, IsUnread}
 use Rattle.verdict_laws.proofs.Faulted.{binary_told, compact_told, json_told}
 use Rattle.verdict_laws.proofs.Round.{held_round}
-use Rattle.gate_run.specs.declared.task.Doing.TheVariants.{Convert}
-use Rattle.gate_run.specs.Handling.{translated, treated_by, is_passed, bytes_for, output_of, outputs}
-use Rattle.gate_run.specs.Terms.{Terms, judged_by}
+use Rattle.gate_streams.specs.declared.task.Doing.TheVariants.{Convert}
+use Rattle.gate_streams.specs.Handling.{translated, treated_by, is_passed, bytes_for, output_of, outputs}
+use Rattle.gate_streams.specs.Terms.{Terms, judged_by}
 use Rattle.stream_laws.specs.Streams.{Gives, GiveAll, AreFrames}
 
 -- what is written of a frame, by its verdict

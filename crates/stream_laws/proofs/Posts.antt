@@ -24,14 +24,14 @@ use Rattle.gate_words.specs.declared.peers.Front.TheVariants.{Http}
 use Rattle.gate_words.specs.declared.peers.Sides.{Sides}
 use Rattle.gate_words.specs.declared.peers.Sides.TheVariants as sides
 use Rattle.gate_words.specs.declared.serving.Serving.{Serving}
-use Rattle.gate_run.specs.Outcome.{Streams}
-use Rattle.gate_run.specs.Peers.{wrapping_by, unframed_tells, unframed_counts, ServesBySides}
-use Rattle.gate_run.specs.Posts.{Posting, posting, posting_tells, posting_counts, reading_by}
-use Rattle.gate_run.specs.Serving.{served_from}
-use Rattle.gate_run.specs.Undisturbed.{IsUntouched}
-use Rattle.gate_run.specs.declared.start.Start.{Start}
-use Rattle.gate_run.specs.declared.status.Ending.{Ending}
-use Rattle.gate_run.proofs.Posting.{tells_before}
+use Rattle.gate_start.specs.Streams.{Streams}
+use Rattle.gate_serve.specs.Peers.{wrapping_by, unframed_tells, unframed_counts, ServesBySides}
+use Rattle.gate_serve.specs.Posts.{Posting, posting, posting_tells, posting_counts, reading_by}
+use Rattle.gate_serve.specs.Serving.{served_from}
+use Rattle.run_laws.specs.Undisturbed.{IsUntouched}
+use Rattle.gate_start.specs.declared.start.Start.{Start}
+use Rattle.gate_start.specs.declared.status.Ending.{Ending}
+use Rattle.run_laws.proofs.Posting.{tells_before}
 use Rattle.stream_laws.specs.Posts.{upstream_wire, CarriesPosts}
 use Rattle.stream_laws.specs.Sessions.{CarriesMessages, CarriesMessagesOver}
 use Rattle.stream_laws.proofs.Sessions as sessions

@@ -11,17 +11,17 @@ use Rattle.proxy_server.specs.Steps.{Outside, Serves}
 use Rattle.gate_words.specs.declared.options.Declared.{Declared}
 use Rattle.gate_words.specs.declared.peers.Sides.{Sides}
 use Rattle.gate_words.specs.declared.serving.Serving.{Serving}
-use Rattle.gate_run.specs.Outcome.{Streams}
+use Rattle.gate_start.specs.Streams.{Streams}
 use Rattle.gate_words.specs.declared.peers.Front.{Front}
-use Rattle.gate_run.specs.Posts.{ServesByFront}
-use Rattle.gate_run.specs.Peers.{ServesBySides}
-use Rattle.gate_run.specs.Serving.{ServesAll, Began, NotBegun, Unfound, NoMemory, started_by, setting_by, settings, telling_by, served_from}
+use Rattle.gate_serve.specs.Posts.{ServesByFront}
+use Rattle.gate_serve.specs.Peers.{ServesBySides}
+use Rattle.gate_serve.specs.Serving.{ServesAll, Began, NotBegun, Unfound, NoMemory, started_by, setting_by, settings, telling_by, served_from}
 use Rattle.refusal_lines.specs.Told.{told_text}
-use Rattle.gate_run.specs.Undisturbed.{IsUntouched}
-use Rattle.gate_run.specs.declared.start.NoStart.{NoStart}
-use Rattle.gate_run.specs.declared.start.Start.{Start}
-use Rattle.gate_run.specs.declared.status.Ending.{Ending}
-use Rattle.gate_run.specs.Starting.{Holds, Starting, Goes, Stops}
+use Rattle.run_laws.specs.Undisturbed.{IsUntouched}
+use Rattle.gate_start.specs.declared.start.NoStart.{NoStart}
+use Rattle.gate_start.specs.declared.start.Start.{Start}
+use Rattle.gate_start.specs.declared.status.Ending.{Ending}
+use Rattle.gate_start.specs.Starting.{Holds, Starting, Goes, Stops}
 use Rattle.session_laws.specs.Serving.{CarriesAll}
 use Rattle.session_laws.proofs.Serving.{ReceivesBytes}
 use Rattle.stream_laws.specs.Sessions.{CarriesMessages}

@@ -33,10 +33,10 @@ use Rattle.json_protocol.specs.Writing.{Writer, begun, after, quoted, kind_name,
 use Rattle.json_protocol.specs.declared.opening.Opening.{Opening}
 use Rattle.json_protocol.specs.declared.opening.Opening.TheVariants as openings
 use Rattle.type_tables.specs.Declarations.{Declarations}
-use Rattle.translate_core.specs.declared.route.Route.{Route}
-use Rattle.translate_core.specs.declared.route.Route.TheVariants.{ByName}
+use Rattle.translate_verdicts.specs.declared.route.Route.{Route}
+use Rattle.translate_verdicts.specs.declared.route.Route.TheVariants.{ByName}
 use Rattle.translate_core.specs.Answers.{marked, spelled}
-use Rattle.translate_core.specs.Routes.{start_of}
+use Rattle.translate_verdicts.specs.Routes.{start_of}
 use Rattle.binary_laws.specs.Reads.{header_of_message}
 use Rattle.protocol_pairs.specs.Pairs.{json_target}
 use Rattle.verdict_laws.specs.Spellings.{plain_of}
@@ -46,7 +46,7 @@ use Rattle.line_transport.specs.Lines.{is_inner, line_length, is_blank, ended}
 use Rattle.line_transport.specs.declared.transport.Transport.TheVariants.{Lines}
 use Rattle.line_transport.proofs.Searching.{behind_line}
 use Rattle.line_transport.proofs.Spanning.{cut_back}
-use Rattle.gate_run.specs.Terms.{Terms}
+use Rattle.gate_streams.specs.Terms.{Terms}
 use Rattle.stream_laws.specs.Streams.{Gives, GiveAll, AreCarried, IsCutBack}
 
 -- no LF stands in these bytes

@@ -11,13 +11,13 @@ use Rattle.stream_messages.specs.Telling.{Tells, TellsOver}
 use Rattle.unframed_laws.specs.Wrapped.{IsLimited, AreSidesTold}
 use Rattle.proxy_server.specs.Serving.{KeepsFrom}
 use Rattle.gate_words.specs.declared.serving.Serving.{Serving}
-use Rattle.gate_run.specs.Outcome.{Streams}
-use Rattle.gate_run.specs.Peers.{Unframed, unframed, unframed_tells, unframed_counts}
-use Rattle.gate_run.specs.Serving.{ServesAll, Began, NotBegun, Unfound, NoMemory, served_from}
-use Rattle.gate_run.specs.Undisturbed.{IsUntouched}
-use Rattle.gate_run.specs.declared.start.Start.{Start}
-use Rattle.gate_run.specs.declared.status.Ending.{Ending}
-use Rattle.gate_run.proofs.Wrapped.{tells_before}
+use Rattle.gate_start.specs.Streams.{Streams}
+use Rattle.gate_serve.specs.Peers.{Unframed, unframed, unframed_tells, unframed_counts}
+use Rattle.gate_serve.specs.Serving.{ServesAll, Began, NotBegun, Unfound, NoMemory, served_from}
+use Rattle.run_laws.specs.Undisturbed.{IsUntouched}
+use Rattle.gate_start.specs.declared.start.Start.{Start}
+use Rattle.gate_start.specs.declared.status.Ending.{Ending}
+use Rattle.run_laws.proofs.Wrapped.{tells_before}
 use Rattle.stream_laws.specs.Sessions.{CarriesMessagesOver}
 use Rattle.stream_laws.proofs.Sessions.{IsServer, fresh}
 

@@ -6,9 +6,9 @@ use Rattle.thrift_value.specs.Trees.{Message}
 use Rattle.protocol_traits.specs.declared.fault.Fault.{Fault}
 use Rattle.protocol_traits.specs.declared.proto.Proto.{Proto}
 use Rattle.protocol_traits.specs.declared.proto.Proto.TheVariants as protocols
-use Rattle.translate_core.specs.declared.route.Route.TheVariants.{ByName}
-use Rattle.translate_core.specs.declared.verdict.Cause.{Cause}
-use Rattle.translate_core.specs.Texts.{cause_text, place_of, reason_text}
+use Rattle.translate_verdicts.specs.declared.route.Route.TheVariants.{ByName}
+use Rattle.translate_verdicts.specs.declared.verdict.Cause.{Cause}
+use Rattle.translate_verdicts.specs.Texts.{cause_text, place_of, reason_text}
 use Rattle.line_transport.specs.Cuts.{sent, Cuts, CutsAll}
 use Rattle.line_transport.specs.declared.transport.Transport.{Transport}
 use Rattle.session_laws.specs.Saying.{Passage, Spells, SpellsPlainly, IsShallow, StandsIn, FaultIn}
@@ -16,13 +16,14 @@ use Rattle.verdict_laws.specs.Bars.{HoldsAll}
 use Rattle.show_laws.specs.Showings.{message_line}
 use Rattle.conform_check.specs.Checking.{Broken}
 use Rattle.conform_laws.specs.Checkings.{MessageMeets, first_breach}
-use Rattle.gate_run.specs.Lines.{refusal_text, meets_text, breach_line}
-use Rattle.gate_run.specs.Outcome.{Streams, IsTooLargeOrAtEnd}
-use Rattle.gate_run.specs.Progress.{IsStreamLine}
-use Rattle.gate_run.specs.Terms.{Terms}
-use Rattle.gate_run.specs.declared.status.Ending.{Ending}
-use Rattle.gate_run.specs.declared.status.Ending.TheVariants as endings
-use Rattle.gate_run.specs.declared.task.Doing.TheVariants.{Convert, Show, Conform}
+use Rattle.gate_streams.specs.Lines.{refusal_text, meets_text, breach_line}
+use Rattle.gate_start.specs.Streams.{Streams}
+use Rattle.gate_streams.specs.Outcome.{IsTooLargeOrAtEnd}
+use Rattle.gate_streams.specs.Progress.{IsStreamLine}
+use Rattle.gate_streams.specs.Terms.{Terms}
+use Rattle.gate_start.specs.declared.status.Ending.{Ending}
+use Rattle.gate_start.specs.declared.status.Ending.TheVariants as endings
+use Rattle.gate_streams.specs.declared.task.Doing.TheVariants.{Convert, Show, Conform}
 
 -- a frame goes from one protocol to the other by the method that its message's name means
 abbrev pub passage_of : Terms → Proto → Proto → Passage

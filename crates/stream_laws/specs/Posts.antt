@@ -12,13 +12,13 @@ use Rattle.proxy_server.specs.Steps.{LinesEnd}
 use Rattle.gate_words.specs.declared.peers.Front.TheVariants.{Http}
 use Rattle.gate_words.specs.declared.peers.Sides.{Sides}
 use Rattle.gate_words.specs.declared.serving.Serving.{Serving}
-use Rattle.gate_run.specs.Outcome.{Streams}
-use Rattle.gate_run.specs.Peers.{wrapping_by}
-use Rattle.gate_run.specs.Posts.{reading_by}
-use Rattle.gate_run.specs.Serving.{setting_by, telling_by}
+use Rattle.gate_start.specs.Streams.{Streams}
+use Rattle.gate_serve.specs.Peers.{wrapping_by}
+use Rattle.gate_serve.specs.Posts.{reading_by}
+use Rattle.gate_serve.specs.Serving.{setting_by, telling_by}
 use Rattle.refusal_lines.specs.Told.{told_text}
-use Rattle.gate_run.specs.Undisturbed.{ServerRun}
-use Rattle.gate_run.specs.declared.start.Start.{Start}
+use Rattle.run_laws.specs.Undisturbed.{ServerRun}
+use Rattle.gate_start.specs.declared.start.Start.{Start}
 use Rattle.session_laws.specs.Serving.{HasCourse}
 use Rattle.stream_laws.specs.Sessions.{HasCarriedBy, HasNotServedOver, IsServedBy}
 

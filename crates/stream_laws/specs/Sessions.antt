@@ -16,14 +16,14 @@ use Rattle.gate_words.specs.declared.command.Command.TheVariants.{Serve}
 use Rattle.gate_words.specs.declared.peers.Front.TheVariants.{Framed}
 use Rattle.gate_words.specs.declared.peers.Sides.{Sides}
 use Rattle.gate_words.specs.declared.serving.Serving.{Serving}
-use Rattle.gate_run.specs.Outcome.{Streams}
-use Rattle.gate_run.specs.Peers.{wrapping_by}
-use Rattle.gate_run.specs.Running.{StartsWith}
-use Rattle.gate_run.specs.Serving.{setting_by, telling_by}
+use Rattle.gate_start.specs.Streams.{Streams}
+use Rattle.gate_serve.specs.Peers.{wrapping_by}
+use Rattle.gate_start.specs.Outside.{StartsWith}
+use Rattle.gate_serve.specs.Serving.{setting_by, telling_by}
 use Rattle.refusal_lines.specs.Told.{told_text}
-use Rattle.gate_run.specs.Starting.{Halts}
-use Rattle.gate_run.specs.Undisturbed.{ServerRun, IsUntouched}
-use Rattle.gate_run.specs.declared.start.Start.{Start}
+use Rattle.gate_start.specs.Starting.{Halts}
+use Rattle.run_laws.specs.Undisturbed.{ServerRun, IsUntouched}
+use Rattle.gate_start.specs.declared.start.Start.{Start}
 use Rattle.session_laws.specs.Serving.{HasCourse}
 
 -- the hub didn't start: it tells what it told, and nothing was written

@@ -4,15 +4,15 @@ use Rattle.std.specs.List.{All}
 use Rattle.thrift_value.specs.Trees.{Message, depth_of_members}
 use Rattle.protocol_traits.specs.declared.proto.Proto.{Proto}
 use Rattle.protocol_traits.specs.declared.proto.Proto.TheVariants as protocols
-use Rattle.translate_core.specs.declared.route.Route.TheVariants.{ByName}
+use Rattle.translate_verdicts.specs.declared.route.Route.TheVariants.{ByName}
 use Rattle.line_transport.specs.Cuts.{sent, CutsAll}
 use Rattle.line_transport.specs.declared.transport.Transport.TheVariants.{Lines}
 use Rattle.gate_base.specs.Bytes.{AreBytes}
 use Rattle.verdict_laws.specs.Bars.{HoldsAll}
 use Rattle.verdict_laws.specs.Rounds.{plain_in}
 use Rattle.verdict_laws.specs.Spellings.{SpellsBy, IsShort}
-use Rattle.gate_run.specs.Terms.{Terms}
-use Rattle.gate_run.specs.declared.task.Doing.TheVariants.{Convert}
+use Rattle.gate_streams.specs.Terms.{Terms}
+use Rattle.gate_streams.specs.declared.task.Doing.TheVariants.{Convert}
 
 -- the frame spells this message of depth at most 256, of which its body is one level, and the other protocol holds all of it
 pub record Carries (k : Terms) (from to : Proto) (frame : List ℕ) (m : Message) : Type 0 where

@@ -28,7 +28,7 @@ const LEAST_READ: usize = 4096;
 const LENGTH: usize = 4;
 
 /// What comes behind the bytes that are to be handed out.
-#[derive(Clone, Copy, PartialEq, Eq)]
+#[derive(Clone, Copy)]
 pub enum Behind {
     /// Messages, of which none is known to be whole.
     Messages,

@@ -12,14 +12,14 @@ use std::marker::Model;
 use thrift_value::Kind;
 
 /// The protocols whose messages tell their own end.
-#[derive(Clone, Copy, Debug, PartialEq, Eq)]
+#[derive(Clone, Copy)]
 pub enum Wire {
     Binary,
     Compact,
 }
 
 /// What came of a piece of a stream.
-#[derive(Clone, Copy, Debug, PartialEq, Eq)]
+#[derive(Clone, Copy)]
 pub enum Cut {
     /// The whole piece belongs to a message that doesn't end with it.
     More,

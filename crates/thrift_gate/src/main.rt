@@ -4,10 +4,13 @@
 
 mod threads;
 
+ghost use Rattle.gate_words.specs.Commands.{IsInRange};
+
 use crate::threads::{route_in_threads, serve_in_threads};
 use gate_base::{OutOfMemory, Word};
 use gate_io::{DiskFiles, Sink, StdSink, StdSource};
-use gate_run::{Status, run};
+use gate_run::run;
+use gate_start::Status;
 use gate_words::{Command, read_command};
 use mio_edge::{MioFan, MioHub};
 use std::alloc::Global;
@@ -40,17 +43,46 @@ fn main(rt: HostRuntime) -> ExitCode {
 // Does what the words say, in as many threads as they give. `starter` makes them.
 fn run_words<R: Threads + Sync>(rt: &HostRuntime, starter: &R) -> Result<u8, OutOfMemory> {
     let _held = hold_streams(rt);
-    let alloc = rt.alloc();
-    let words = read_words(rt, alloc)?;
-    let command = read_command(alloc, &words)?;
-    let status = match &command {
-        Some(Command::Serve(serving, declared)) if serving.threads > 1 => {
+    let words = read_words(rt, rt.alloc())?;
+    run_read(rt, starter, &words)
+}
+
+// The same for words that were read.
+fn run_read<R: Threads + Sync>(
+    rt: &HostRuntime,
+    starter: &R,
+    words: &[Word],
+) -> Result<u8, OutOfMemory> {
+    match read_command(rt.alloc(), words)? {
+        Some(command) => {
+            let code = run_command(rt, starter, words, &command);
+            give_up(command);
+            code
+        }
+        None => Ok(run_alone(rt, rt.alloc(), words).code),
+    }
+}
+
+// Gives a command up, with its names, in one place.
+fn give_up(_command: Command) {}
+
+// The same for a command that the words are.
+fn run_command<R: Threads + Sync>(
+    rt: &HostRuntime,
+    starter: &R,
+    words: &[Word],
+    command: &Command,
+) -> Result<u8, OutOfMemory>
+    requires { IsInRange command.now }
+{
+    let status = match command {
+        Command::Serve(serving, declared) if serving.threads > 1 => {
             serve_in_threads(rt, starter, serving, declared)?
         }
-        Some(Command::Route(routing, declared)) if routing.threads > 1 => {
+        Command::Route(routing, declared) if routing.threads > 1 => {
             route_in_threads(rt, starter, routing, declared)?
         }
-        _ => run_alone(rt, alloc, &words),
+        _ => run_alone(rt, rt.alloc(), words),
     };
     Ok(status.code)
 }

@@ -5,9 +5,9 @@ ghost use Rattle.gate_words.specs.declared.command.Command.TheVariants.{Route, S
 use crew_server::{Worker, route_crew, serve_crew};
 use gate_base::{OutOfMemory, Text};
 use gate_io::{DiskFiles, StdSink};
-use gate_run::{Ending, Status, end_with};
+use gate_start::{Ending, Status, end_with};
 use gate_words::{Declared, Routing, Serving};
-use mio_crew::open_crew;
+use mio_crew::{Member, open_crew};
 use mio_edge::{MioFan, MioHub};
 use std::alloc::Global;
 use std::thread::Threads;
@@ -24,11 +24,24 @@ pub fn serve_in_threads<R: Threads + Sync>(
     requires { IsInRange (Serve serving.now declared.now) }
 {
     let alloc = rt.alloc();
-    let mut report = StdSink::new(rt.stderr());
     let targets = [Text::new(alloc, serving.target.as_slice())?];
-    let Some(members) = open_crew(rt, alloc, serving.threads as usize, &targets)? else {
-        return Ok(end_with(&mut report, Ending::HubFault).status());
-    };
+    match open_crew(rt, alloc, serving.threads as usize, &targets)? {
+        Some(members) => serve_over(rt, starter, serving, declared, members),
+        None => Ok(refused(rt)),
+    }
+}
+
+// Serves over these networks, each in a thread.
+fn serve_over<R: Threads + Sync>(
+    rt: &HostRuntime,
+    starter: &R,
+    serving: &Serving,
+    declared: &Declared,
+    members: Vec<Member<'_, HostRuntime>>,
+) -> Result<Status, OutOfMemory>
+    requires { IsInRange (Serve serving.now declared.now) }
+{
+    let alloc = rt.alloc();
     let mut crew = Vec::with_capacity(alloc, members.len())?;
     for member in members {
         let hub = MioHub::over(member.network);
@@ -36,6 +49,7 @@ pub fn serve_in_threads<R: Threads + Sync>(
         crew.push(Worker::new(alloc, hub, output, member.exit)?)?;
     }
     let mut files = DiskFiles::new(rt);
+    let mut report = StdSink::new(rt.stderr());
     Ok(serve_crew(
         starter,
         alloc,
@@ -59,11 +73,24 @@ pub fn route_in_threads<R: Threads + Sync>(
     requires { IsInRange (Route routing.now declared.now) }
 {
     let alloc = rt.alloc();
-    let mut report = StdSink::new(rt.stderr());
     let targets = addresses_of(alloc, routing)?;
-    let Some(members) = open_crew(rt, alloc, routing.threads as usize, &targets)? else {
-        return Ok(end_with(&mut report, Ending::HubFault).status());
-    };
+    match open_crew(rt, alloc, routing.threads as usize, &targets)? {
+        Some(members) => route_over(rt, starter, routing, declared, members),
+        None => Ok(refused(rt)),
+    }
+}
+
+// Routes over these networks, each in a thread.
+fn route_over<R: Threads + Sync>(
+    rt: &HostRuntime,
+    starter: &R,
+    routing: &Routing,
+    declared: &Declared,
+    members: Vec<Member<'_, HostRuntime>>,
+) -> Result<Status, OutOfMemory>
+    requires { IsInRange (Route routing.now declared.now) }
+{
+    let alloc = rt.alloc();
     let mut crew = Vec::with_capacity(alloc, members.len())?;
     for member in members {
         let fan = MioFan::over(member.network);
@@ -71,6 +98,7 @@ pub fn route_in_threads<R: Threads + Sync>(
         crew.push(Worker::new(alloc, fan, output, member.exit)?)?;
     }
     let mut files = DiskFiles::new(rt);
+    let mut report = StdSink::new(rt.stderr());
     Ok(route_crew(
         starter,
         alloc,
@@ -80,6 +108,12 @@ pub fn route_in_threads<R: Threads + Sync>(
         &mut report,
         &mut crew,
     ))
+}
+
+// What a server or router ends with to which the system refuses what its threads need.
+fn refused(rt: &HostRuntime) -> Status {
+    let mut report = StdSink::new(rt.stderr());
+    end_with(&mut report, Ending::HubFault).status()
 }
 
 // The address of each target.

@@ -3,7 +3,7 @@
 /// The kind of a value, as the Binary and Compact protocol specifications of Apache Thrift know it.
 ///
 /// An enum of the IDL travels as `I32`, a union or an exception as `Struct`, `string` and `binary` both as `Str`.
-#[derive(Clone, Copy, Debug, PartialEq, Eq)]
+#[derive(Clone, Copy)]
 pub enum Kind {
     Bool,
     I8,

@@ -2,9 +2,9 @@
 use Rattle.std.proofs.Common.{◌≡◌, ℕ, List, [], Ok, Err, refl}
 use Rattle.protocol_traits.specs.declared.fault.Fault.{Fault}
 use Rattle.protocol_traits.specs.Heads.{Header}
-use Rattle.translate_core.specs.declared.verdict.Cause.{Cause}
-use Rattle.translate_core.specs.Body.{Source, TargetRules}
-use Rattle.translate_core.specs.Texts.{cause_text, failure_type}
+use Rattle.translate_verdicts.specs.declared.verdict.Cause.{Cause}
+use Rattle.translate_verdicts.specs.Body.{Source, TargetRules}
+use Rattle.translate_verdicts.specs.Texts.{cause_text, failure_type}
 use Rattle.translate_core.specs.Answers.{answer_of, answer_to}
 
 module _ {S T : Type 0} (source : Source S) (target : TargetRules T) (frame : List ℕ) (cause : Cause) where

@@ -5,7 +5,7 @@ use Rattle.type_tables.specs.declared.tables.StructDecl.{StructDecl}
 use Rattle.type_tables.specs.Declarations.{Declarations}
 use Rattle.type_tables.specs.Known.{IsBuilt, failure_struct}
 use Rattle.type_walk.specs.Positions.{start}
-use Rattle.translate_core.specs.Routes.{failure}
+use Rattle.translate_verdicts.specs.Routes.{failure}
 use Rattle.translate_core.specs.Answers.{failure_items, marked, plain_items}
 
 first_of_one : (structs : List StructDecl) → take 1 structs ≡ failure_struct ∷ [] → slice_get structs 0 ≡ Some failure_struct

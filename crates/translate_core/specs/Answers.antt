@@ -13,13 +13,13 @@ use Rattle.protocol_traits.specs.Heads.{Header}
 use Rattle.protocol_traits.specs.Steps.{Step}
 use Rattle.type_walk.specs.Positions.{Position, mark_of, after, start}
 use Rattle.multiplex_names.specs.Names.{split_of}
-use Rattle.translate_core.specs.declared.verdict.Cause.{Cause}
 use Rattle.protocol_traits.specs.declared.traits.ReadRules.{Ghosts as ReadRules}
 use Rattle.protocol_traits.specs.declared.traits.WireWrite.{Ghosts as WriteRules}
 use Rattle.type_tables.specs.Declarations.{Declarations}
-use Rattle.translate_core.specs.Routes.{failure}
-use Rattle.translate_core.specs.Body.{Source, TargetRules, source_in, target_in}
-use Rattle.translate_core.specs.Texts.{cause_text, failure_type}
+use Rattle.translate_verdicts.specs.declared.verdict.Cause.{Cause}
+use Rattle.translate_verdicts.specs.Routes.{failure}
+use Rattle.translate_verdicts.specs.Body.{Source, TargetRules, source_in, target_in}
+use Rattle.translate_verdicts.specs.Texts.{cause_text, failure_type}
 
 abbrev pub mark : Hint → Mark
 mark hint = record { hint = hint; key = kinds.I8; value = kinds.I8 }

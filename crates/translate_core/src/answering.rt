@@ -5,14 +5,14 @@ ghost use Rattle.protocol_traits.specs.declared.nest.TheConstants.{DEPTH};
 ghost use Rattle.protocol_traits.specs.Follow.{depth_after};
 ghost use Rattle.protocol_traits.specs.Heads.{header_of};
 ghost use Rattle.protocol_traits.specs.Room.{head_weight, room_for, weight, IsSized};
-ghost use Rattle.translate_core.specs.Texts.{cause_text, failure_type};
+ghost use Rattle.translate_verdicts.specs.Texts.{cause_text, failure_type};
 ghost use Rattle.translate_core.specs.Answers.{mark, failure_items, TakesAll, method_name, spellable, spelled, answer_header, answer_in};
 
-use crate::verdict::Cause;
 use gate_io::Out;
 use multiplex_names::split;
 use protocol_traits::{Head, Hint, Mark, WireRead, WireWrite};
 use thrift_value::{Event, Kind, MessageType};
+use translate_verdicts::Cause;
 
 /// The type of a failure that lies in the method's name, UNKNOWN_METHOD of a TApplicationException.
 const UNKNOWN_METHOD: i32 = 1;
@@ -74,7 +74,7 @@ fn method_name<'a>(head: &Head<'a>) -> &'a [u8]
 }
 
 /// This name, or the empty one where it can't be written.
-pub(crate) fn spellable<W: WireWrite>(name: &[u8]) -> &[u8]
+pub fn spellable<W: WireWrite>(name: &[u8]) -> &[u8]
     requires nameless { W.name_bar [] ≡ None }
     ensures name { result.now ≡ spellable W.name_bar name.now }
     ensures taken { W.name_bar result.now ≡ None }

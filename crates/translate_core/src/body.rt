@@ -4,12 +4,12 @@ ghost use Rattle.thrift_value.specs.Items.{item_of};
 ghost use Rattle.protocol_traits.specs.declared.nest.TheConstants.{DEPTH};
 ghost use Rattle.protocol_traits.specs.Follow.{depth_after};
 ghost use Rattle.protocol_traits.specs.Room.{weight, IsSized};
-ghost use Rattle.translate_core.specs.Body.{EndsBody, first_cause, goes_out, tried, with_item};
+ghost use Rattle.translate_verdicts.specs.Body.{EndsBody, first_cause, goes_out, tried, with_item};
 
-use crate::verdict::Cause;
 use gate_io::Out;
 use protocol_traits::{Bar, Fault, Mark, WireRead, WireWrite};
 use thrift_value::Event;
+use translate_verdicts::Cause;
 use type_walk::Walking;
 
 /// Takes the body from the reader to the writer, and answers the first bar.

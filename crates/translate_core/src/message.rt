@@ -3,15 +3,14 @@ ghost use Rattle.std.specs.Prelude.{◌≡◌, ◌+◌, ◌≤◌, ◌^◌, ◌<
 ghost use Rattle.protocol_traits.specs.Heads.{header_of};
 ghost use Rattle.protocol_traits.specs.Room.{head_weight, room_for};
 ghost use Rattle.type_walk.specs.Positions.{start};
-ghost use Rattle.translate_core.specs.Routes.{IsKnownRoute};
-ghost use Rattle.translate_core.specs.Body.{first_cause};
-ghost use Rattle.translate_core.specs.Judged.{IsJudged, IsLeft, Grows, bytes_from, judged_frame, kept, verdict_from, with_head};
+ghost use Rattle.translate_verdicts.specs.Routes.{IsKnownRoute};
+ghost use Rattle.translate_verdicts.specs.Body.{first_cause};
+ghost use Rattle.translate_verdicts.specs.Judged.{IsJudged, IsLeft, Grows, bytes_from, judged_frame, kept, verdict_from, with_head};
 
 use crate::body::{body, first_cause};
-use crate::route::{Route, Told, told_of};
-use crate::verdict::{Cause, HeadInfo, Verdict};
 use gate_io::Out;
 use protocol_traits::{Bar, Head, WireRead, WireWrite};
+use translate_verdicts::{Cause, HeadInfo, Route, Told, Verdict, told_of};
 use type_tables::Schema;
 use type_walk::{Undeclared, Walk, Walking};
 
@@ -74,7 +73,7 @@ fn pass_head<W: WireWrite>(writer: &mut W, head: Head<'_>, out: &mut Out) -> Opt
 }
 
 /// Takes the body and the end, and answers the verdict, by what the header tells.
-pub(crate) fn verdict_by<'f, R: WireRead<'f>, W: WireWrite>(
+pub fn verdict_by<'f, R: WireRead<'f>, W: WireWrite>(
     schema: &Schema,
     told: Told,
     reader: &mut R,
@@ -152,7 +151,7 @@ fn verdict_on<'f, R: WireRead<'f>, W: WireWrite, K: Walking>(
 }
 
 /// Keeps what was written behind `start` only where the message passed.
-pub(crate) fn keep(verdict: &Verdict, start: usize, out: &mut Out)
+pub fn keep(verdict: &Verdict, start: usize, out: &mut Out)
     requires { start ≤ length out.old.bytes }
     ensures { out.new ≡ record out.old { bytes = take start out.old.bytes ++ kept verdict.now (drop start out.old.bytes) } }
 {

@@ -10,7 +10,7 @@ use thrift_value::Kind;
 pub struct EnumId(pub u32);
 
 /// The number of a struct. Number 0 is the built-in TApplicationException.
-#[derive(Clone, Copy, Debug, PartialEq, Eq)]
+#[derive(Clone, Copy)]
 pub struct StructId(pub u32);
 
 /// The number of a type that is a part of another.
@@ -18,7 +18,7 @@ pub struct StructId(pub u32);
 pub struct TyId(pub u32);
 
 /// The number of a service.
-#[derive(Clone, Copy, Debug, PartialEq, Eq)]
+#[derive(Clone, Copy)]
 pub struct ServiceId(pub u32);
 
 /// A declared type. A typedef stands for its target; `string` is `Text` and `binary` is `Blob`.
@@ -95,7 +95,7 @@ pub struct FieldInfo {
 }
 
 /// A method of a service: the structs that its arguments and its results travel as, and whether it is answered at all.
-#[derive(Clone, Copy, Debug, PartialEq, Eq)]
+#[derive(Clone, Copy)]
 pub struct MethodInfo {
     pub args: StructId,
     pub result: StructId,

@@ -11,16 +11,16 @@ use Rattle.protocol_traits.specs.Follow.{depth_after}
 use Rattle.protocol_traits.specs.Heads.{Header}
 use Rattle.protocol_traits.specs.Room.{weight}
 use Rattle.type_walk.specs.Positions.{Position, hint_of, mark_of, after}
-use Rattle.translate_core.specs.declared.verdict.Cause.{Cause}
-use Rattle.translate_core.specs.declared.verdict.Cause.TheVariants.{Grammar, Barred}
-use Rattle.translate_core.specs.declared.verdict.HeadInfo.{HeadInfo}
-use Rattle.translate_core.specs.declared.verdict.Verdict.TheVariants.{Passed, Refused}
-use Rattle.translate_core.specs.Positions.{typed}
-use Rattle.translate_core.specs.Body.{Going, Source, TargetRules, going, moved, whole, first_cause, tried}
-use Rattle.translate_core.specs.Judged.{judge, judged, head_cause}
+use Rattle.translate_verdicts.specs.declared.verdict.Cause.{Cause}
+use Rattle.translate_verdicts.specs.declared.verdict.Cause.TheVariants.{Grammar, Barred}
+use Rattle.translate_verdicts.specs.declared.verdict.HeadInfo.{HeadInfo}
+use Rattle.translate_verdicts.specs.declared.verdict.Verdict.TheVariants.{Passed, Refused}
+use Rattle.translate_verdicts.specs.Positions.{typed}
+use Rattle.translate_verdicts.specs.Body.{Going, Source, TargetRules, going, moved, whole, first_cause, tried}
+use Rattle.translate_verdicts.specs.Judged.{judge, judged, head_cause}
 use Rattle.translate_core.specs.Answers.{TakesAll, marked, spelled}
-use Rattle.translate_core.proofs.Whole.{whole_step, whole_fault, whole_end}
-use Rattle.translate_core.proofs.Judging.{judge_ok}
+use Rattle.translate_verdicts.proofs.Whole.{whole_step, whole_fault, whole_end}
+use Rattle.translate_verdicts.proofs.Judging.{judge_ok}
 use Rattle.verdict_laws.specs.Following.{behind, Follows}
 
 -- the writer behind these items

@@ -12,14 +12,14 @@ use Rattle.protocol_traits.specs.Heads.{Header}
 use Rattle.protocol_traits.specs.Stack.{first_of}
 use Rattle.type_tables.specs.Declarations.{Declarations}
 use Rattle.type_walk.specs.Positions.{Position, mark_of, after}
-use Rattle.translate_core.specs.declared.route.Route.{Route}
-use Rattle.translate_core.specs.declared.verdict.Verdict.TheVariants.{Passed}
-use Rattle.translate_core.specs.Positions.{typed}
-use Rattle.translate_core.specs.Routes.{start_of, info_of}
-use Rattle.translate_core.specs.Body.{TargetRules}
-use Rattle.translate_core.specs.Judged.{judge, judged}
+use Rattle.translate_verdicts.specs.declared.route.Route.{Route}
+use Rattle.translate_verdicts.specs.declared.verdict.Verdict.TheVariants.{Passed}
+use Rattle.translate_verdicts.specs.Positions.{typed}
+use Rattle.translate_verdicts.specs.Routes.{start_of, info_of}
+use Rattle.translate_verdicts.specs.Body.{TargetRules}
+use Rattle.translate_verdicts.specs.Judged.{judge, judged}
 use Rattle.translate_core.specs.Answers.{TakesAll, marked}
-use Rattle.translate_core.proofs.Judging.{judge_err}
+use Rattle.translate_verdicts.proofs.Judging.{judge_err}
 use Rattle.protocol_pairs.specs.Pairs.{compact_source, json_target, binary_target, compact_target}
 use Rattle.protocol_pairs.specs.Pairs as pairs
 use Rattle.compact_protocol.specs.Grammar.{CompactSpells}
@@ -60,7 +60,7 @@ use Rattle.verdict_laws.proofs.Sizes.{members_sized, short}
 use Rattle.protocol_traits.specs.Steps.{Step}
 use Rattle.std.proofs.lemmas.Bool.Decides.{nat_tests}
 use Rattle.std.specs.Prelude.{◌==◌, if◌then◌else◌, ◌*◌, FitsSigned}
-use Rattle.translate_core.specs.Judged.{Judged}
+use Rattle.translate_verdicts.specs.Judged.{Judged}
 
 pub some_levels : (nest : List Slot) → (nest ≡ [] → ⊥) → 0 < length nest
 some_levels [] some = absurd (some refl)

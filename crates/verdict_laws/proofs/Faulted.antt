@@ -6,9 +6,9 @@ use Rattle.protocol_traits.specs.declared.proto.Proto.{Proto}
 use Rattle.protocol_traits.specs.declared.proto.Proto.TheVariants as protocols
 use Rattle.protocol_traits.specs.Heads.{Header}
 use Rattle.type_tables.specs.Declarations.{Declarations}
-use Rattle.translate_core.specs.declared.route.Route.{Route}
-use Rattle.translate_core.specs.Body.{Source}
-use Rattle.translate_core.specs.Judged.{Judged}
+use Rattle.translate_verdicts.specs.declared.route.Route.{Route}
+use Rattle.translate_verdicts.specs.Body.{Source}
+use Rattle.translate_verdicts.specs.Judged.{Judged}
 use Rattle.protocol_pairs.specs.Pairs as pairs
 use Rattle.protocol_pairs.specs.Pairs.{binary_source, compact_source, json_source}
 use Rattle.binary_protocol.specs.Grammar.{BinarySpells}

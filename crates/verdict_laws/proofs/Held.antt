@@ -13,8 +13,8 @@ use Rattle.protocol_traits.specs.declared.proto.Proto.TheVariants as protocols
 use Rattle.protocol_traits.specs.Follow.{after as levels_after}
 use Rattle.type_tables.specs.Declarations.{Declarations}
 use Rattle.type_walk.specs.Positions.{Position, mark_of, after, hint_of, start}
-use Rattle.translate_core.specs.declared.route.Route.{Route}
-use Rattle.translate_core.specs.Routes.{body_of, start_of}
+use Rattle.translate_verdicts.specs.declared.route.Route.{Route}
+use Rattle.translate_verdicts.specs.Routes.{body_of, start_of}
 use Rattle.translate_core.specs.Answers.{TakesAll, marked, spelled}
 use Rattle.protocol_pairs.specs.Pairs.{json_target}
 use Rattle.json_protocol.specs.declared.opening.Opening.{Opening}

@@ -17,14 +17,14 @@ use Rattle.protocol_traits.specs.Stack.{first_of}
 use Rattle.protocol_traits.specs.Steps.{Step}
 use Rattle.type_tables.specs.Declarations.{Declarations}
 use Rattle.type_walk.specs.Positions.{Position, hint_of, mark_of, after, start}
-use Rattle.translate_core.specs.declared.route.Route.{Route}
-use Rattle.translate_core.specs.declared.verdict.Verdict.TheVariants.{Passed}
-use Rattle.translate_core.specs.Positions.{typed}
-use Rattle.translate_core.specs.Routes.{body_of, start_of, info_of}
-use Rattle.translate_core.specs.Body.{TargetRules}
-use Rattle.translate_core.specs.Judged.{Judged, judge, judged}
+use Rattle.translate_verdicts.specs.declared.route.Route.{Route}
+use Rattle.translate_verdicts.specs.declared.verdict.Verdict.TheVariants.{Passed}
+use Rattle.translate_verdicts.specs.Positions.{typed}
+use Rattle.translate_verdicts.specs.Routes.{body_of, start_of, info_of}
+use Rattle.translate_verdicts.specs.Body.{TargetRules}
+use Rattle.translate_verdicts.specs.Judged.{Judged, judge, judged}
 use Rattle.translate_core.specs.Answers.{TakesAll, marked}
-use Rattle.translate_core.proofs.Judging.{judge_err}
+use Rattle.translate_verdicts.proofs.Judging.{judge_err}
 use Rattle.protocol_pairs.specs.Pairs.{json_source, binary_target, compact_target, json_target}
 use Rattle.protocol_pairs.specs.Pairs as pairs
 use Rattle.json_protocol.specs.Laws.{reads_pays, reads_nests, reads_none, reads_head_pays, begins}

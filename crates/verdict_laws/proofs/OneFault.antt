@@ -3,7 +3,7 @@ use Rattle.std.proofs.Common.{◌≡◌, ℕ, List, ap, ◌∙◌, sym, subst, i
 use Rattle.protocol_traits.specs.declared.fault.Fault.{Fault}
 use Rattle.protocol_traits.specs.Heads.{Header}
 use Rattle.type_tables.specs.Declarations.{Declarations}
-use Rattle.translate_core.specs.declared.route.Route.{Route}
+use Rattle.translate_verdicts.specs.declared.route.Route.{Route}
 use Rattle.json_laws.specs.Stated.{Known, IsRefused}
 use Rattle.json_laws.specs.Firsts.{FirstFault}
 use Rattle.json_laws.proofs.Either.{same_blame}

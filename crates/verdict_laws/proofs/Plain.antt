@@ -5,8 +5,8 @@ use Rattle.thrift_value.specs.Trees.{Message, items_of_members}
 use Rattle.protocol_traits.specs.declared.proto.Mark.{Mark}
 use Rattle.type_tables.specs.Declarations.{Declarations}
 use Rattle.type_walk.specs.Positions.{Position, after}
-use Rattle.translate_core.specs.declared.route.Route.{Route}
-use Rattle.translate_core.specs.Routes.{start_of}
+use Rattle.translate_verdicts.specs.declared.route.Route.{Route}
+use Rattle.translate_verdicts.specs.Routes.{start_of}
 use Rattle.translate_core.specs.Answers.{TakesAll, marked, spelled}
 use Rattle.protocol_pairs.specs.Pairs.{binary_target, compact_target}
 use Rattle.binary_protocol.specs.declared.writer.BinaryWrite.{BinaryWrite}

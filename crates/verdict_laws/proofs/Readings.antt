@@ -6,12 +6,12 @@ use Rattle.protocol_traits.specs.declared.fault.Fault.{Fault}
 use Rattle.protocol_traits.specs.declared.proto.Proto.{Proto}
 use Rattle.protocol_traits.specs.Heads.{Header}
 use Rattle.type_tables.specs.Declarations.{Declarations}
-use Rattle.translate_core.specs.declared.route.Route.{Route}
-use Rattle.translate_core.specs.declared.verdict.Cause.TheVariants.{Grammar, Barred}
-use Rattle.translate_core.specs.declared.verdict.Verdict.TheVariants.{Passed, Refused, Unread}
-use Rattle.translate_core.specs.Routes.{info_of}
-use Rattle.translate_core.specs.Body.{Source}
-use Rattle.translate_core.specs.Judged.{Judged, judged}
+use Rattle.translate_verdicts.specs.declared.route.Route.{Route}
+use Rattle.translate_verdicts.specs.declared.verdict.Cause.TheVariants.{Grammar, Barred}
+use Rattle.translate_verdicts.specs.declared.verdict.Verdict.TheVariants.{Passed, Refused, Unread}
+use Rattle.translate_verdicts.specs.Routes.{info_of}
+use Rattle.translate_verdicts.specs.Body.{Source}
+use Rattle.translate_verdicts.specs.Judged.{Judged, judged}
 use Rattle.binary_laws.specs.Reads.{header_of_message}
 use Rattle.verdict_laws.specs.Bars.{Spot, HoldsAll, IsFirstBar}
 use Rattle.verdict_laws.specs.Verdicts.{IsPlain}

@@ -4,7 +4,7 @@ use Rattle.thrift_value.specs.Trees.{Message, items_of_members, depth_of_members
 use Rattle.protocol_traits.specs.declared.proto.Proto.{Proto}
 use Rattle.protocol_traits.specs.declared.proto.Proto.TheVariants as protocols
 use Rattle.type_tables.specs.Declarations.{Declarations}
-use Rattle.translate_core.specs.declared.route.Route.{Route}
+use Rattle.translate_verdicts.specs.declared.route.Route.{Route}
 use Rattle.translate_core.specs.Answers.{TakesAll, marked}
 use Rattle.protocol_pairs.specs.Pairs.{binary_target, compact_target, json_target}
 use Rattle.protocol_pairs.specs.Pairs as pairs

@@ -9,7 +9,7 @@ use Rattle.protocol_traits.specs.Heads.{Header}
 use Rattle.protocol_traits.specs.Room.{weight, head_weight, IsSized}
 use Rattle.protocol_traits.specs.declared.proto.Mark.{Mark}
 use Rattle.type_walk.specs.Positions.{Position, hint_of, mark_of, after}
-use Rattle.translate_core.specs.Body.{Source, TargetRules}
+use Rattle.translate_verdicts.specs.Body.{Source, TargetRules}
 use Rattle.translate_core.specs.Answers.{marked, spelled}
 use Rattle.verdict_laws.specs.Following.{Follows}
 use Rattle.verdict_laws.proofs.Bodies.{IsNested}

@@ -12,8 +12,8 @@ use Rattle.protocol_traits.specs.declared.proto.Proto.{Proto}
 use Rattle.protocol_traits.specs.declared.proto.Proto.TheVariants as protocols
 use Rattle.type_tables.specs.Declarations.{Declarations}
 use Rattle.type_walk.specs.Positions.{Position, mark_of}
-use Rattle.translate_core.specs.declared.route.Route.{Route}
-use Rattle.translate_core.specs.Routes.{start_of}
+use Rattle.translate_verdicts.specs.declared.route.Route.{Route}
+use Rattle.translate_verdicts.specs.Routes.{start_of}
 use Rattle.translate_core.specs.Answers.{TakesAll, marked}
 use Rattle.binary_protocol.specs.Grammar.{SpellsStrictHeader, SpellsOldHeader}
 use Rattle.binary_protocol.specs.Plain as binary

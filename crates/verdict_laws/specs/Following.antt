@@ -1,7 +1,7 @@
 -- A body that is read item by item, each where the ones before it have led.
 use Rattle.std.specs.Prelude.{◌≡◌, List, [], ◌∷◌, Ok}
 use Rattle.thrift_value.specs.Items.{Item}
-use Rattle.translate_core.specs.Body.{Source}
+use Rattle.translate_verdicts.specs.Body.{Source}
 use Rattle.type_walk.specs.Positions.{Position, hint_of, after}
 
 -- the position behind these items

@@ -5,10 +5,10 @@ use Rattle.protocol_traits.specs.declared.nest.TheConstants.{DEPTH}
 use Rattle.protocol_traits.specs.declared.proto.Proto.{Proto}
 use Rattle.protocol_traits.specs.declared.proto.Proto.TheVariants as protocols
 use Rattle.type_tables.specs.Declarations.{Declarations}
-use Rattle.translate_core.specs.declared.route.Route.{Route}
-use Rattle.translate_core.specs.declared.verdict.Verdict.TheVariants.{Passed}
-use Rattle.translate_core.specs.Routes.{info_of}
-use Rattle.translate_core.specs.Judged.{judged}
+use Rattle.translate_verdicts.specs.declared.route.Route.{Route}
+use Rattle.translate_verdicts.specs.declared.verdict.Verdict.TheVariants.{Passed}
+use Rattle.translate_verdicts.specs.Routes.{info_of}
+use Rattle.translate_verdicts.specs.Judged.{judged}
 use Rattle.protocol_pairs.specs.Pairs.{binary_target, compact_target, json_target}
 use Rattle.protocol_pairs.specs.Pairs as pairs
 use Rattle.gate_base.specs.Bytes.{AreBytes}

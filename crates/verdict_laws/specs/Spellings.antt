@@ -5,9 +5,9 @@ use Rattle.protocol_traits.specs.declared.proto.Proto.{Proto}
 use Rattle.protocol_traits.specs.declared.proto.Proto.TheVariants as protocols
 use Rattle.protocol_traits.specs.Heads.{Header}
 use Rattle.type_tables.specs.Declarations.{Declarations}
-use Rattle.translate_core.specs.declared.route.Route.{Route}
-use Rattle.translate_core.specs.Routes.{body_of, start_of}
-use Rattle.translate_core.specs.Body.{TargetRules}
+use Rattle.translate_verdicts.specs.declared.route.Route.{Route}
+use Rattle.translate_verdicts.specs.Routes.{body_of, start_of}
+use Rattle.translate_verdicts.specs.Body.{TargetRules}
 use Rattle.translate_core.specs.Answers.{marked, spelled}
 use Rattle.binary_protocol.specs.Grammar.{BinarySpells}
 use Rattle.compact_protocol.specs.Grammar.{CompactSpells}

@@ -7,7 +7,7 @@ ghost use Rattle.std.specs.Prelude.{◌≡◌, ◌<◌, ◌^◌, List, length, �
 ghost use Rattle.protocol_traits.specs.declared.fault.Fault.{Fault};
 ghost use Rattle.protocol_traits.specs.declared.proto.Proto.{Proto};
 ghost use Rattle.type_tables.specs.Declarations.{Declarations};
-ghost use Rattle.translate_core.specs.declared.route.Route.{Route};
+ghost use Rattle.translate_verdicts.specs.declared.route.Route.{Route};
 ghost use Rattle.gate_base.specs.Bytes.{AreBytes};
 ghost use Rattle.verdict_laws.specs.Rounds.{IsOfBytes, Spelling, IsShortOfBytes, IsHeldBy, GoesRound};
 ghost use Rattle.verdict_laws.specs.Verdicts.{IsBinaryVerdict, IsCompactVerdict, JsonFault, IsJsonVerdict};

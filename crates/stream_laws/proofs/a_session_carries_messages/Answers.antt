@@ -1,6 +1,6 @@
 use Rattle.std.proofs.Common.{None}
 use Rattle.gate_words.specs.declared.peers.Front.TheVariants as fronts
-use Rattle.gate_run.specs.Serving.{setting_by, telling_by}
+use Rattle.gate_serve.specs.Serving.{setting_by, telling_by}
 use Rattle.refusal_lines.specs.Told.{told_text}
 use Rattle.stream_laws.proofs.Sessions.{carried, of_front, of_sides, then}
 use Rattle.stream_laws.proofs.Words.{small_server}

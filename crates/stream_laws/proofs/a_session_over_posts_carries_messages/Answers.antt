@@ -1,6 +1,6 @@
 use Rattle.std.proofs.Common.{subst}
 use Rattle.gate_words.specs.declared.peers.Front.TheVariants as fronts
-use Rattle.gate_run.specs.Serving.{setting_by}
+use Rattle.gate_serve.specs.Serving.{setting_by}
 use Rattle.session_laws.proofs.Serving.{carries_all}
 use Rattle.stream_laws.specs.Posts.{CarriesPosts}
 use Rattle.stream_laws.proofs.Posts.{carried_posts}

@@ -1,7 +1,7 @@
 use Rattle.std.proofs.Common.{Some, subst}
 use Rattle.gate_words.specs.declared.peers.Front.TheVariants as fronts
-use Rattle.gate_run.specs.Peers.{wrapping_by}
-use Rattle.gate_run.specs.Serving.{setting_by}
+use Rattle.gate_serve.specs.Peers.{wrapping_by}
+use Rattle.gate_serve.specs.Serving.{setting_by}
 use Rattle.session_laws.proofs.Serving.{carries_all}
 use Rattle.stream_messages.specs.Laws.{bytes_over}
 use Rattle.stream_laws.specs.Sessions.{CarriesMessagesOver}

@@ -1,5 +1,5 @@
 use Rattle.protocol_traits.specs.declared.proto.Proto.TheVariants as protocols
-use Rattle.gate_run.specs.Findings.{finding}
+use Rattle.gate_streams.specs.Findings.{finding}
 use Rattle.stream_laws.specs.Covering.{passage_of, IsConformed}
 use Rattle.stream_laws.proofs.Covering.{IsCheckLaw, conformed, short_frame, by_ending, are_read}
 use Rattle.stream_laws.proofs.a_stream_is_checked_by_its_grammar.Goals as goal

@@ -1,5 +1,5 @@
 use Rattle.std.proofs.Common.{refl}
-use Rattle.translate_core.specs.Body.{source_of}
+use Rattle.translate_verdicts.specs.Body.{source_of}
 use Rattle.conform_check.specs.Checking.{body_from, begun}
 use Rattle.conform_check.proofs.Frames.{closed_fault, closed_found}
 use Rattle.conform_check.proofs.check.check_body.Goals as goal

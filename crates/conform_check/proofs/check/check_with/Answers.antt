@@ -1,7 +1,7 @@
 use Rattle.std.proofs.Common.{refl, subst}
 use Rattle.protocol_traits.specs.Heads.{header_of}
 use Rattle.protocol_traits.specs.Steps.{step_ok, step_err}
-use Rattle.translate_core.specs.Body.{source_of}
+use Rattle.translate_verdicts.specs.Body.{source_of}
 use Rattle.conform_check.specs.Checking.{IsChecked, after_body, begun, body_from}
 use Rattle.conform_check.proofs.Frames.{checked_err, checked_ok}
 use Rattle.conform_check.proofs.check.check_with.Goals as goal

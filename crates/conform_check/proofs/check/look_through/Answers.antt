@@ -3,9 +3,9 @@ use Rattle.std.specs.Prelude.{IfOk}
 use Rattle.thrift_value.specs.Items.{Item, item_of}
 use Rattle.protocol_traits.specs.Follow.{depth_after}
 use Rattle.protocol_traits.specs.Steps.{Step, step_ok, step_err}
-use Rattle.translate_core.specs.Positions.{typed}
-use Rattle.translate_core.specs.Body.{source_of, going}
-use Rattle.translate_core.proofs.Whole.{whole_step, whole_fault, whole_end}
+use Rattle.translate_verdicts.specs.Positions.{typed}
+use Rattle.translate_verdicts.specs.Body.{source_of, going}
+use Rattle.translate_verdicts.proofs.Whole.{whole_step, whole_fault, whole_end}
 use Rattle.conform_check.specs.Inside.{in_fields, inside_after}
 use Rattle.conform_check.specs.Checking.{begun, check_target, checking, kept_broken}
 use Rattle.protocol_traits.specs.Room.{weight}

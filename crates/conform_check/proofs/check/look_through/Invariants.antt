@@ -1,7 +1,7 @@
 use Rattle.std.proofs.Common.{◌≡◌, ◌≤◌, List, [], length, None}
 use Rattle.std.specs.Vec.{vec_capacity}
-use Rattle.translate_core.specs.Positions.{typed}
-use Rattle.translate_core.specs.Body.{whole, source_of, going}
+use Rattle.translate_verdicts.specs.Positions.{typed}
+use Rattle.translate_verdicts.specs.Body.{whole, source_of, going}
 use Rattle.conform_check.specs.Inside.{Inside}
 use Rattle.conform_check.specs.Checking.{begun, body_from, check_target, checking, kept_broken}
 use Rattle.conform_check.specs.Fitting.{AreFitting}

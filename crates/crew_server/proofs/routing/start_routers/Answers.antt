@@ -1,5 +1,5 @@
 use Rattle.std.proofs.Common.{refl}
-use Rattle.gate_run.specs.Starting.{Goes, Stops}
+use Rattle.gate_start.specs.Starting.{Goes, Stops}
 use Rattle.crew_server.proofs.routing.start_routers.Goals as goal
 
 pub returns-in-Ok-clause-routes : goal.returns-in-Ok-clause-routes

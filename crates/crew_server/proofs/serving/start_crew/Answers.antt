@@ -1,5 +1,5 @@
 use Rattle.std.proofs.Common.{refl}
-use Rattle.gate_run.specs.Starting.{Goes, Stops}
+use Rattle.gate_start.specs.Starting.{Goes, Stops}
 use Rattle.crew_server.proofs.serving.start_crew.Goals as goal
 
 pub returns-in-Ok-clause-serves : goal.returns-in-Ok-clause-serves

@@ -8,12 +8,12 @@ use Rattle.gate_run.proofs.commands.obey.Goals as goal
 
 pub returns-in-Check-clause-does : goal.returns-in-Check-clause-does
 returns-in-Check-clause-does g c =
-    let made = c.check.ensures.checks (g.I.Source.left c.args.input.now) (g.I.Source.faults c.args.input.now) in
+    let made = c.check_idl.ensures.checks (g.I.Source.left c.args.input.now) (g.I.Source.faults c.args.input.now) in
     let here : c.as_slice.result.now ≡ c.in-Check.file = c.as_slice.ensures in
     rw c.in-Check.is (rw here at made)
 
 pub returns-in-Check-clause-no_file_fault : goal.returns-in-Check-clause-no_file_fault
-returns-in-Check-clause-no_file_fault g c = checked_faults (c.check.ensures.checks (g.I.Source.left c.args.input.now) (g.I.Source.faults c.args.input.now))
+returns-in-Check-clause-no_file_fault g c = checked_faults (c.check_idl.ensures.checks (g.I.Source.left c.args.input.now) (g.I.Source.faults c.args.input.now))
 
 pub start_stream-requires : goal.start_stream-requires
 start_stream-requires g c = rw c.in-Convert.is at c.requires

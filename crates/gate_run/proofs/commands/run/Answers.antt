@@ -1,9 +1,7 @@
 use Rattle.std.proofs.Common.{◌≡◌, Option, None, Some, false, inl, refl, sym, ◌∙◌, ap, subst}
 use Rattle.gate_words.specs.Commands.{command}
 use Rattle.gate_words.specs.declared.command.Command.{Command}
-use Rattle.gate_run.specs.Peers.{is_unframed}
-use Rattle.gate_run.specs.Posts.{has_posts}
-use Rattle.gate_run.specs.Running.{reads_input}
+use Rattle.gate_run.specs.Running.{reads_input, has_posts, is_unframed}
 use Rattle.gate_run.proofs.Faults.{by_code}
 use Rattle.gate_run.proofs.Routed.{unread_router}
 use Rattle.gate_run.proofs.Starts.{unread, unread_server}

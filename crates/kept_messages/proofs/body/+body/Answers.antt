@@ -8,11 +8,11 @@ use Rattle.protocol_traits.specs.declared.nest.Slot.TheVariants as slots
 use Rattle.protocol_traits.specs.Follow.{spent}
 use Rattle.protocol_traits.specs.Forms.{container_kind, elements_item}
 use Rattle.type_walk.specs.Positions.{Position, called_for, field_type, hint_of, in_map, in_struct, mark_of, passed, standing}
-use Rattle.translate_core.specs.Body.{source_in, target_in}
+use Rattle.translate_verdicts.specs.Body.{source_in, target_in}
 use Rattle.kept_messages.specs.Kept.{Mirrors}
-use Rattle.translate_core.specs.Quick.{Spot, Takes, TakesValue, called, in_elements, spot, turned}
-use Rattle.translate_core.proofs.Taking.{calls_some, takes_item, takes_none, takes_then}
-use Rattle.translate_core.proofs.Levels.{elements_after, elements_done, elements_nest, elements_opening, flat_elements, if_some, key_opening, pairs_some, takes_field, takes_level, turns_map}
+use Rattle.translate_known.specs.Quick.{Spot, Takes, TakesValue, called, in_elements, spot, turned}
+use Rattle.translate_known.proofs.Taking.{calls_some, takes_item, takes_none, takes_then}
+use Rattle.translate_known.proofs.Levels.{elements_after, elements_done, elements_nest, elements_opening, flat_elements, if_some, key_opening, pairs_some, takes_field, takes_level, turns_map}
 use Rattle.kept_messages.proofs.Keeping.{lead_spells, takes_leaf}
 use Rattle.kept_messages.proofs.Mirroring.{if_both, mirrors_on, spells_mirrored, takes_mirrored}
 use Rattle.kept_messages.proofs.body.+body.Goals as goal

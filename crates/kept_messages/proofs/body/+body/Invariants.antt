@@ -7,9 +7,9 @@ use Rattle.protocol_traits.specs.Forms.{Calls}
 use Rattle.type_tables.specs.declared.declared.Ty.{Ty}
 use Rattle.type_walk.specs.declared.levels.Level.{Level}
 use Rattle.type_walk.specs.Positions.{called_for, in_struct, standing}
-use Rattle.translate_core.specs.Body.{source_in, target_in}
-use Rattle.translate_core.specs.Quick.{IsFlat, Takes, Turns, spot, turned}
-use Rattle.translate_core.proofs.Levels.{key_opening}
+use Rattle.translate_verdicts.specs.Body.{source_in, target_in}
+use Rattle.translate_known.specs.Quick.{IsFlat, Takes, Turns, spot, turned}
+use Rattle.translate_known.proofs.Levels.{key_opening}
 use Rattle.kept_messages.specs.Kept.{Mirrors}
 use Rattle.kept_messages.proofs.body.+body.Given as goal
 

@@ -1,8 +1,8 @@
 use Rattle.std.proofs.Common.{w16}
 use Rattle.std.proofs.lemmas.Int.{to_z-of_z}
 use Rattle.thrift_value.specs.declared.kind.Kind.TheVariants as kinds
-use Rattle.translate_core.specs.Body.{source_in, target_in}
-use Rattle.translate_core.proofs.Levels.{takes_flag}
+use Rattle.translate_verdicts.specs.Body.{source_in, target_in}
+use Rattle.translate_known.proofs.Levels.{takes_flag}
 use Rattle.kept_messages.proofs.Keeping.{takes_leaf_field}
 use Rattle.kept_messages.proofs.leaves.keep_leaf_field.Goals as goal
 

@@ -3,9 +3,9 @@ use Rattle.protocol_traits.specs.declared.forms.Opening.TheVariants as openings
 use Rattle.protocol_traits.specs.declared.forms.Stand.TheVariants as stands
 use Rattle.protocol_traits.specs.declared.nest.Slot.TheVariants as slots
 use Rattle.type_walk.specs.Positions.{Position, called_for, passed, standing}
-use Rattle.translate_core.specs.Body.{source_in, target_in}
-use Rattle.translate_core.specs.Quick.{Spot, Takes, spot}
-use Rattle.translate_core.proofs.Taking.{takes_none, takes_then}
+use Rattle.translate_verdicts.specs.Body.{source_in, target_in}
+use Rattle.translate_known.specs.Quick.{Spot, Takes, spot}
+use Rattle.translate_known.proofs.Taking.{takes_none, takes_then}
 use Rattle.kept_messages.proofs.Keeping.{takes_leaf, takes_run}
 use Rattle.kept_messages.proofs.leaves.keep_leaves.Goals as goal
 

@@ -5,8 +5,8 @@ use Rattle.protocol_traits.specs.declared.nest.Slot.TheVariants as slots
 use Rattle.type_tables.specs.Declarations.{Declarations}
 use Rattle.type_walk.specs.declared.levels.Level.{Level}
 use Rattle.type_walk.specs.Positions.{standing}
-use Rattle.translate_core.specs.Body.{source_in, target_in}
-use Rattle.translate_core.specs.Quick.{IsFlat, Takes, spot}
+use Rattle.translate_verdicts.specs.Body.{source_in, target_in}
+use Rattle.translate_known.specs.Quick.{IsFlat, Takes, spot}
 use Rattle.kept_messages.proofs.leaves.keep_leaves.Given as goal
 
 abbrev pub invariant-elements : goal.invariant-elements

@@ -2,11 +2,11 @@ use Rattle.std.proofs.Common.{◌≡◌, ℕ, List, [], ◌∷◌, ◌++◌, len
 use Rattle.type_walk.specs.declared.levels.Level.{Level}
 use Rattle.protocol_traits.specs.declared.forms.Opening.TheVariants as openings
 use Rattle.type_walk.specs.Positions.{standing}
-use Rattle.translate_core.specs.Positions.{typed}
-use Rattle.translate_core.specs.Body.{going, source_in, target_in, whole}
-use Rattle.translate_core.specs.Quick.{body_type}
-use Rattle.translate_core.proofs.Whole.{whole_end}
-use Rattle.translate_core.proofs.Levels.{body_level}
+use Rattle.translate_verdicts.specs.Positions.{typed}
+use Rattle.translate_verdicts.specs.Body.{going, source_in, target_in, whole}
+use Rattle.translate_known.specs.Quick.{body_type}
+use Rattle.translate_verdicts.proofs.Whole.{whole_end}
+use Rattle.translate_known.proofs.Levels.{body_level}
 use Rattle.std.proofs.lemmas.List.{take_all}
 use Rattle.std.specs.Prelude.{take}
 use Rattle.kept_messages.proofs.message.keep_message.Goals as goal

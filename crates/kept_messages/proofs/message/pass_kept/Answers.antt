@@ -2,11 +2,11 @@ use Rattle.std.proofs.Common.{◌≡◌, ◌++◌, refl, ap, ◌∙◌}
 use Rattle.gate_io.specs.Buffer.{Buffer}
 use Rattle.protocol_traits.specs.Heads.{header_of}
 use Rattle.type_walk.specs.Positions.{start}
-use Rattle.translate_core.specs.Positions.{typed}
-use Rattle.translate_core.specs.Routes.{body_of, info_of, start_of}
-use Rattle.translate_core.specs.Body.{source_in, target_in}
-use Rattle.translate_core.specs.Judged.{judged_frame}
-use Rattle.translate_core.proofs.Judging.{passed_whole}
+use Rattle.translate_verdicts.specs.Positions.{typed}
+use Rattle.translate_verdicts.specs.Routes.{body_of, info_of, start_of}
+use Rattle.translate_verdicts.specs.Body.{source_in, target_in}
+use Rattle.translate_verdicts.specs.Judged.{judged_frame}
+use Rattle.translate_verdicts.proofs.Judging.{passed_whole}
 use Rattle.kept_messages.proofs.message.pass_kept.Goals.{then-begins_untyped+else-append_message+else-not-is_marked, else-begins_untyped}
 use Rattle.kept_messages.proofs.message.pass_kept.Goals as goal
 

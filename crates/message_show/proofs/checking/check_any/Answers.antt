@@ -4,9 +4,9 @@ use Rattle.thrift_value.specs.Items.{Item, item_of}
 use Rattle.protocol_traits.specs.declared.proto.Hint.TheVariants as hints
 use Rattle.protocol_traits.specs.Follow.{depth_after}
 use Rattle.protocol_traits.specs.Steps.{Step, step_ok, step_err}
-use Rattle.translate_core.specs.Positions.{typed}
-use Rattle.translate_core.specs.Body.{moved, source_in, going}
-use Rattle.translate_core.proofs.Whole.{whole_step, whole_fault, whole_end}
+use Rattle.translate_verdicts.specs.Positions.{typed}
+use Rattle.translate_verdicts.specs.Body.{moved, source_in, going}
+use Rattle.translate_verdicts.proofs.Whole.{whole_step, whole_fault, whole_end}
 use Rattle.message_show.specs.Line.{begun, after}
 use Rattle.type_walk.specs.Positions as positions
 use Rattle.message_show.specs.Shown.{place, line_target}

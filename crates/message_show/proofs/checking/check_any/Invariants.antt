@@ -1,7 +1,7 @@
 use Rattle.std.proofs.Common.{◌≡◌, ◌≤◌, List, ℕ, length, None}
 use Rattle.type_walk.specs.Positions.{Position}
-use Rattle.translate_core.specs.Positions.{typed}
-use Rattle.translate_core.specs.Body.{whole, source_in, going}
+use Rattle.translate_verdicts.specs.Positions.{typed}
+use Rattle.translate_verdicts.specs.Body.{whole, source_in, going}
 use Rattle.message_show.specs.Line.{Levels, begun}
 use Rattle.message_show.specs.Shown.{place, line_target, body_from}
 use Rattle.message_show.proofs.checking.check_any.Given as goal

@@ -3,9 +3,9 @@ use Rattle.std.specs.Prelude.{IfOk}
 use Rattle.thrift_value.specs.Items.{Item, item_of}
 use Rattle.protocol_traits.specs.Follow.{depth_after}
 use Rattle.protocol_traits.specs.Steps.{Step, step_ok, step_err}
-use Rattle.translate_core.specs.Positions.{typed}
-use Rattle.translate_core.specs.Body.{moved, source_in, going}
-use Rattle.translate_core.proofs.Whole.{whole_step, whole_fault, whole_end}
+use Rattle.translate_verdicts.specs.Positions.{typed}
+use Rattle.translate_verdicts.specs.Body.{moved, source_in, going}
+use Rattle.translate_verdicts.proofs.Whole.{whole_step, whole_fault, whole_end}
 use Rattle.message_show.specs.Line.{begun, after}
 use Rattle.message_show.specs.Shown.{place, line_target}
 use Rattle.message_show.proofs.Frames.{closed_whole, closed_fault}

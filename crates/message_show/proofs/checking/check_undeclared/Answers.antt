@@ -1,9 +1,9 @@
 use Rattle.std.proofs.Common.{refl}
 use Rattle.protocol_traits.specs.Heads.{header_of}
 use Rattle.protocol_traits.specs.Steps.{step_ok, step_err}
-use Rattle.translate_core.specs.Body.{source_in}
-use Rattle.translate_core.specs.Routes.{start_of}
-use Rattle.translate_core.specs.declared.route.Route.TheVariants.{ByName}
+use Rattle.translate_verdicts.specs.Body.{source_in}
+use Rattle.translate_verdicts.specs.Routes.{start_of}
+use Rattle.translate_verdicts.specs.declared.route.Route.TheVariants.{ByName}
 use Rattle.message_show.specs.Line.{head_text}
 use Rattle.message_show.proofs.Frames.{shown_ok, shown_err}
 use Rattle.message_show.proofs.checking.check_undeclared.Goals as goal

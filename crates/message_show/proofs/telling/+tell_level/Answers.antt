@@ -1,6 +1,6 @@
 use Rattle.std.proofs.Common.{◌≡◌, suc, [], ◌∷◌, ◌++◌, length, true, false, arith, refl, ◌∙◌}
 use Rattle.type_walk.specs.Positions.{standing as open_at}
-use Rattle.translate_core.specs.Body.{source_in}
+use Rattle.translate_verdicts.specs.Body.{source_in}
 use Rattle.message_show.specs.Inside.{at}
 use Rattle.message_show.specs.Pieces.{output}
 use Rattle.message_show.specs.Turns.{standing}

@@ -1,7 +1,7 @@
 use Rattle.std.proofs.Common.{◌≡◌, ◌≤◌, List, ℕ, suc, length, ◌∷◌, true}
 use Rattle.type_walk.specs.declared.levels.Level.{Level}
 use Rattle.type_walk.specs.Positions.{standing as open_at}
-use Rattle.translate_core.specs.Body.{source_in}
+use Rattle.translate_verdicts.specs.Body.{source_in}
 use Rattle.message_show.specs.Inside.{IsSound, at}
 use Rattle.message_show.specs.Pieces.{Tells, output}
 use Rattle.message_show.specs.Turns.{standing, Leads}

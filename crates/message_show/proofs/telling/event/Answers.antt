@@ -9,7 +9,7 @@ use Rattle.protocol_traits.specs.Follow.{depth_after}
 use Rattle.protocol_traits.specs.Room.{weight}
 use Rattle.protocol_traits.specs.Steps.{Step, step_ok, step_err}
 use Rattle.type_walk.specs.Positions.{declared_in, entered, hint_of}
-use Rattle.translate_core.specs.Body.{source_of}
+use Rattle.translate_verdicts.specs.Body.{source_of}
 use Rattle.message_show.specs.Inside.{at}
 use Rattle.message_show.specs.Pieces.{output}
 use Rattle.message_show.specs.declared.open_level.LevelStep.TheVariants as turns

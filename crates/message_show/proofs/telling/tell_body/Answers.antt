@@ -1,8 +1,8 @@
 use Rattle.std.proofs.Common.{◌≡◌, ◌++◌, [], length, false, refl, ap, subst, ◌∙◌, None}
 use Rattle.type_walk.specs.Positions.{start, standing as open_at}
-use Rattle.translate_core.specs.Positions.{typed}
-use Rattle.translate_core.specs.Body.{Going, source_in, going}
-use Rattle.translate_core.proofs.Whole.{whole_end}
+use Rattle.translate_verdicts.specs.Positions.{typed}
+use Rattle.translate_verdicts.specs.Body.{Going, source_in, going}
+use Rattle.translate_verdicts.proofs.Whole.{whole_end}
 use Rattle.message_show.specs.Line.{Levels, begun}
 use Rattle.message_show.specs.Pieces.{Told, output}
 use Rattle.message_show.specs.Shown.{place, line_target}

@@ -2,7 +2,7 @@ use Rattle.std.proofs.Common.{ℕ, List, sym, ap, append_assoc}
 use Rattle.std.proofs.lemmas.List.{append-nil}
 use Rattle.protocol_traits.specs.Heads.{header_of}
 use Rattle.protocol_traits.specs.Steps.{step_ok, step_err}
-use Rattle.translate_core.specs.Body.{source_in, target_in}
+use Rattle.translate_verdicts.specs.Body.{source_in, target_in}
 use Rattle.translate_core.proofs.Answered.{answer_err, answer_ok}
 use Rattle.translate_core.proofs.answering.answer.Goals as goal
 

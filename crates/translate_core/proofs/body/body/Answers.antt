@@ -5,9 +5,9 @@ use Rattle.thrift_value.specs.Items.{Item, item_of}
 use Rattle.protocol_traits.specs.Room.{weight}
 use Rattle.protocol_traits.specs.Follow.{depth_after}
 use Rattle.protocol_traits.specs.Steps.{Step, step_ok, step_err}
-use Rattle.translate_core.specs.Positions.{typed}
-use Rattle.translate_core.specs.Body.{moved, source_in, target_in, going}
-use Rattle.translate_core.proofs.Whole.{fits_after, grows, keeps_deep, whole_step, whole_fault, whole_end}
+use Rattle.translate_verdicts.specs.Positions.{typed}
+use Rattle.translate_verdicts.specs.Body.{moved, source_in, target_in, going}
+use Rattle.translate_verdicts.proofs.Whole.{fits_after, grows, keeps_deep, whole_step, whole_fault, whole_end}
 use Rattle.translate_core.proofs.body.body.Goals as goal
 
 pub events-init : goal.events-init

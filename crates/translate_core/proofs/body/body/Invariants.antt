@@ -1,7 +1,7 @@
 use Rattle.std.proofs.Common.{◌≡◌, ◌+◌, ◌≤◌, ◌++◌, List, [], ℕ, length, false}
 use Rattle.std.specs.Prelude.{is_some}
-use Rattle.translate_core.specs.Positions.{typed}
-use Rattle.translate_core.specs.Body.{whole, source_in, target_in, going}
+use Rattle.translate_verdicts.specs.Positions.{typed}
+use Rattle.translate_verdicts.specs.Body.{whole, source_in, target_in, going}
 use Rattle.translate_core.proofs.body.body.Given as goal
 
 abbrev pub invariant-events : goal.invariant-events

@@ -4,13 +4,13 @@ use Rattle.std.specs.Prelude.{if◌then◌else◌, is_some}
 use Rattle.gate_io.specs.Buffer.{Buffer}
 use Rattle.protocol_traits.specs.Heads.{header_of}
 use Rattle.protocol_traits.specs.Steps.{step_ok, step_err}
-use Rattle.translate_core.specs.declared.verdict.HeadInfo.{HeadInfo}
 use Rattle.type_walk.specs.Positions.{start}
-use Rattle.translate_core.specs.Positions.{typed}
-use Rattle.translate_core.specs.Routes.{info_of, start_of}
-use Rattle.translate_core.specs.Body.{source_in, target_in, going, whole}
-use Rattle.translate_core.specs.Judged.{head_cause, body_of, after_body, body_bytes, kept}
-use Rattle.translate_core.proofs.Judging.{judge_err, judge_ok, out_kept, out_left}
+use Rattle.translate_verdicts.specs.declared.verdict.HeadInfo.{HeadInfo}
+use Rattle.translate_verdicts.specs.Positions.{typed}
+use Rattle.translate_verdicts.specs.Routes.{info_of, start_of}
+use Rattle.translate_verdicts.specs.Body.{source_in, target_in, going, whole}
+use Rattle.translate_verdicts.specs.Judged.{head_cause, body_of, after_body, body_bytes, kept}
+use Rattle.translate_verdicts.proofs.Judging.{judge_err, judge_ok, out_kept, out_left}
 use Rattle.translate_core.proofs.message.translate.Goals as goal
 
 pub returns-in-Err-clause-exact : goal.returns-in-Err-clause-exact

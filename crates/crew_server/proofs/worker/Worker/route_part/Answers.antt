@@ -1,7 +1,7 @@
 use Rattle.std.proofs.Common.{Some, inl, subst}
 use Rattle.gate_words.specs.declared.routing.Routing.{Routing}
-use Rattle.gate_run.specs.Outcome.{streams}
-use Rattle.gate_run.specs.Routes.{RoutesAll}
+use Rattle.gate_start.specs.Streams.{streams}
+use Rattle.gate_route.specs.Routes.{RoutesAll}
 use Rattle.crew_server.proofs.worker.Worker.route_part.Goals as goal
 
 pub returns-in-Ok-clause-routes : goal.returns-in-Ok-clause-routes

@@ -1,7 +1,7 @@
 use Rattle.std.proofs.Common.{None, refl}
 use Rattle.protocol_traits.specs.Heads.{Header, header_of}
 use Rattle.type_tables.specs.Declarations.{Declarations}
-use Rattle.translate_core.specs.Routes.{info_of, method_by}
+use Rattle.translate_verdicts.specs.Routes.{info_of, method_by}
 use Rattle.session_judge.proofs.calls.CallSeenOutcome.passed_by.Goals as goal
 
 pub returns-in_default-clause-taken : goal.returns-in_default-clause-taken

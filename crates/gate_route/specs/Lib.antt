@@ -1,0 +1,2 @@
+-- What a router does.
+pub mod Routes

@@ -1,5 +1,0 @@
-use Rattle.gate_run.proofs.Started.{idl_checked}
-use Rattle.gate_run.proofs.laws.a_good_idl_is_checked.Goals as goal
-
-pub returns : goal.returns
-returns c = idl_checked c.files_give_one_answer.ensures

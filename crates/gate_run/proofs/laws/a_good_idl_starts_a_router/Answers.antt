@@ -1,5 +1,0 @@
-use Rattle.gate_run.proofs.Started.{router_starts}
-use Rattle.gate_run.proofs.laws.a_good_idl_starts_a_router.Goals as goal
-
-pub returns : goal.returns
-returns g c = router_starts c.files_give_one_answer.ensures g.G.Fan

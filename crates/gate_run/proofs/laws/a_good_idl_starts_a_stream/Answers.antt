@@ -1,5 +1,0 @@
-use Rattle.gate_run.proofs.Started.{stream_starts}
-use Rattle.gate_run.proofs.laws.a_good_idl_starts_a_stream.Goals as goal
-
-pub returns : goal.returns
-returns c = stream_starts c.files_give_one_answer.ensures

@@ -1,5 +1,0 @@
-use Rattle.gate_run.proofs.Complete.{good_stream}
-use Rattle.gate_run.proofs.laws.a_good_stream_is_done.Goals as goal
-
-pub returns : goal.returns
-returns c = λ k a b ending streamed good worked. good_stream k a b ending good.bytes good.frames good.small streamed good.told good.few good.cuts good.passed worked.0 worked.1

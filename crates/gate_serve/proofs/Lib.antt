@@ -1,0 +1,3 @@
+-- Lemmas.
+pub mod Posting
+pub mod Wrapped

@@ -1,0 +1,4 @@
+-- What a server does.
+pub mod Peers
+pub mod Posts
+pub mod Serving

@@ -1,0 +1,4 @@
+-- Lemmas.
+pub mod Rising
+pub mod Starts
+pub mod Unfound

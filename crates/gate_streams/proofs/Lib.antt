@@ -1,0 +1,9 @@
+-- Lemmas.
+pub mod Checked
+pub mod Draining
+pub mod Finishing
+pub mod Gathering
+pub mod Outcome
+pub mod Progress
+pub mod Sending
+pub mod Treating

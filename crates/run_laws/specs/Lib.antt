@@ -1,0 +1,3 @@
+-- What the laws of commands speak of.
+pub mod Routed
+pub mod Undisturbed

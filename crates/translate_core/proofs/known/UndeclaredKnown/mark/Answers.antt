@@ -1,5 +1,0 @@
-use Rattle.std.proofs.Common.{sym}
-use Rattle.translate_core.proofs.known.UndeclaredKnown.mark.Goals as goal
-
-pub returns : goal.returns
-returns c ty unknown = rw unknown (sym (c.unknown_mark.ensures c.args._schema.now))

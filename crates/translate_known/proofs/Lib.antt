@@ -1,0 +1,3 @@
+-- Lemmas.
+pub mod Levels
+pub mod Taking

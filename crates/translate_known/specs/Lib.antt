@@ -1,0 +1,2 @@
+-- What the ways through a message by forms take.
+pub mod Quick

@@ -1,0 +1,3 @@
+-- Lemmas.
+pub mod Judging
+pub mod Whole
