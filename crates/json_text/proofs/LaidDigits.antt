@@ -6,44 +6,27 @@ use Rattle.std.proofs.lemmas.List.{take-take, take-append-le, take_all}
 use Rattle.std.proofs.lemmas.Nat.{pow-add}
 use Rattle.std.proofs.Math.Nat.{mul-lt-mul_of_pos_right, one-le-pow, le-mul_of_pos_right, pow-succ', mul_left_comm}
 use lib.Ieee.Fits.{and_l, and_r}
-use Rattle.json_text.specs.declared.lay.TheConstants.{PAIRS, POWERS}
+use Rattle.json_text.specs.declared.lay.TheConstants.{FACTORS}
 use Rattle.json_text.specs.Digits.{last_digits}
 
--- ---- the tables
+-- ---- the table
 
-abbrev are_pairs : ℕ → Bool
-are_pairs zero = true
-are_pairs (suc p) = (eqb (get_or PAIRS (p * 2) 0) (48 + p / 10) && eqb (get_or PAIRS (p * 2 + 1) 0) (48 + p % 10)) && are_pairs p
+abbrev are_factors : ℕ → Bool
+are_factors zero = true
+are_factors (suc k) = eqb (get_or FACTORS k 0) (10 ^ (15 - k)) && are_factors k
 
-pairs_below : (n p : ℕ) → T (are_pairs n) → p < n → (get_or PAIRS (p * 2) 0 ≡ 48 + p / 10) × (get_or PAIRS (p * 2 + 1) 0 ≡ 48 + p % 10)
-pairs_below zero p t h = absurd (omega arith)
-pairs_below (suc n) p t h =
-    elim (eq-zero-or-pos (n - p)) [
-      | inl z ↦ let e : p ≡ n = omega arith in let a = and_l _ (are_pairs n) t in rw e (eqb→eq _ _ (and_l _ _ a), eqb→eq _ _ (and_r _ _ a))
-      | inr g ↦ pairs_below n p (and_r _ (are_pairs n) t) (omega arith)
-    ]
-
-pub pair_at : (p : ℕ) → p < 100 → get_or PAIRS (p * 2) 0 ∷ get_or PAIRS (p * 2 + 1) 0 ∷ [] ≡ last_digits 2 p
-unfolding last_digits
-pair_at p h =
-    let both = pairs_below 100 p tt h in
-    let high : 48 + p / 10 ≡ 48 + p / 10 % 10 = omega arith in
-    ap₂ (λ a b. a ∷ b ∷ []) (both.0 ∙ high) both.1
-
-abbrev are_powers : ℕ → Bool
-are_powers zero = true
-are_powers (suc k) = eqb (get_or POWERS k 0) (10 ^ k) && are_powers k
-
-powers_below : (n k : ℕ) → T (are_powers n) → k < n → get_or POWERS k 0 ≡ 10 ^ k
-powers_below zero k t h = absurd (omega arith)
-powers_below (suc n) k t h =
+factors_below : (n k : ℕ) → T (are_factors n) → k < n → get_or FACTORS k 0 ≡ 10 ^ (15 - k)
+factors_below zero k t h = absurd (omega arith)
+factors_below (suc n) k t h =
     elim (eq-zero-or-pos (n - k)) [
-      | inl z ↦ let e : k ≡ n = omega arith in rw e (eqb→eq _ _ (and_l _ (are_powers n) t))
-      | inr g ↦ powers_below n k (and_r _ (are_powers n) t) (omega arith)
+      | inl z ↦ let e : k ≡ n = omega arith in rw e (eqb→eq _ _ (and_l _ (are_factors n) t))
+      | inr g ↦ factors_below n k (and_r _ (are_factors n) t) (omega arith)
     ]
 
-pub power_at : (k : ℕ) → k < 16 → get_or POWERS k 0 ≡ 10 ^ k
-power_at k h = powers_below 16 k tt h
+pub factor_at : (count : ℕ) → 0 < count → count ≤ 16 → get_or FACTORS (count - 1) 0 ≡ 10 ^ (16 - count)
+factor_at count some few =
+    let left : 15 - (count - 1) ≡ 16 - count = omega arith in
+    factors_below 16 (count - 1) tt (omega arith) ∙ ap (λ k. 10 ^ k) left
 
 -- ---- the last digits of a number
 
@@ -98,15 +81,6 @@ cut_off (suc b) high low some small fits =
     ∙ append_assoc (decimal high) (last_digits b (low / 10)) ((48 + low % 10) ∷ [])
 
 -- ---- in cells
-
--- one half behind the other
-pub halves : (old mid new : List ℕ) (to middle result value b : ℕ) → 0 < 10 ^ b → take middle mid ≡ take to old ++ last_digits b (value / 10 ^ b) → take result new ≡ take middle mid ++ last_digits b (value % 10 ^ b)
-    → take result new ≡ take to old ++ last_digits (b + b) value
-halves old mid new to middle result value b some first second =
-    let whole : value / 10 ^ b * 10 ^ b + value % 10 ^ b ≡ value = omega arith in
-    second ∙ ap (λ xs. xs ++ last_digits b (value % 10 ^ b)) first
-    ∙ append_assoc (take to old) (last_digits b (value / 10 ^ b)) (last_digits b (value % 10 ^ b))
-    ∙ ap (λ xs. take to old ++ xs) (sym (joined b b (value / 10 ^ b) (value % 10 ^ b) (omega arith)) ∙ ap (last_digits (b + b)) whole)
 
 -- the front of what was laid
 take_behind : (a b : List ℕ) (n : ℕ) → take (length a + n) (a ++ b) ≡ a ++ take n b

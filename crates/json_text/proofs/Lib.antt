@@ -14,3 +14,4 @@ pub mod DigitCounts
 pub mod LaidBlob
 pub mod LaidDigits
 pub mod LaidText
+pub mod DigitLanes

@@ -1,8 +1,9 @@
 //! The plain spelling laid into cells from a place on.
-ghost use Rattle.std.specs.Prelude.{◌≡◌, ◌+◌, ◌-◌, ◌^◌, ◌≤◌, ◌<◌, ◌∷◌, [], ◌++◌, length, take, drop, true, IfSome, if◌then◌else◌};
+ghost use Rattle.std.specs.Prelude.{◌≡◌, ◌+◌, ◌-◌, ◌^◌, ◌≤◌, ◌<◌, ◌∷◌, [], ◌++◌, length, map, take, drop, true, IfSome, if◌then◌else◌};
 ghost use Rattle.std.specs.Fmt.{decimal, signed_decimal};
 ghost use Rattle.std.specs.Str.{is_utf8};
-ghost use Rattle.json_text.specs.Digits.{last_digits};
+ghost use Rattle.std.specs.Simd.Lanes.{Each1};
+ghost use Rattle.json_text.specs.Digits.{last_digits, parted};
 ghost use Rattle.json_text.specs.Places.{IsAsciiRun, StopsAt};
 ghost use Rattle.json_text.specs.Plain.{byte_spelling, text_spelling};
 
@@ -13,28 +14,24 @@ use cell_writes::{SLACK, lay};
 use simdutf8::is_utf8;
 use std::simd::prelude::*;
 
-/// The numbers below 100 with two digits each.
-static PAIRS: [u8; 200] =
-    *b"00010203040506070809101112131415161718192021222324252627282930313233343536373839404142434445464748495051525354555657585960616263646566676869707172737475767778798081828384858687888990919293949596979899";
-
-/// The powers of ten below 10^16, each at the place that its exponent tells.
-static POWERS: [u64; 16] = [
-    1,
-    10,
-    100,
-    1_000,
-    10_000,
-    100_000,
-    1_000_000,
-    10_000_000,
-    100_000_000,
-    1_000_000_000,
-    10_000_000_000,
-    100_000_000_000,
-    1_000_000_000_000,
-    10_000_000_000_000,
-    100_000_000_000_000,
+/// What moves a number to the front of sixteen digits, at the place that the count of its digits less one tells.
+static FACTORS: [u64; 16] = [
     1_000_000_000_000_000,
+    100_000_000_000_000,
+    10_000_000_000_000,
+    1_000_000_000_000,
+    100_000_000_000,
+    10_000_000_000,
+    1_000_000_000,
+    100_000_000,
+    10_000_000,
+    1_000_000,
+    100_000,
+    10_000,
+    1_000,
+    100,
+    10,
+    1,
 ];
 
 /// How many digits are laid at once.
@@ -42,6 +39,15 @@ const DIGITS: usize = 16;
 
 /// The least number that has more digits than those.
 const LARGE: u64 = 10_000_000_000_000_000;
+
+/// A number below 100_000_000 times this, divided by 2^45, is the number divided by 10_000.
+const TEN_THOUSANDTH: u64 = 3_518_437_209;
+
+/// A number below 10_000 times this, divided by 2^19, is the number divided by 100.
+const HUNDREDTH: u32 = 5_243;
+
+/// A number below 100 times this, divided by 2^10, is the number divided by 10.
+const TENTH: u16 = 103;
 
 /// Lays an integer, at most twenty bytes, into the cells from a place on, and gives the place behind it. All twenty may be
 /// written over. A sign is laid where none may be needed, since a jump by the sign of each number is often foreseen wrongly.
@@ -108,7 +114,7 @@ fn lay_short(cells: &mut [u8], to: usize, value: u64) -> usize
     ensures place { result ≡ to + length (decimal value) }
 {
     let count = digit_count(value);
-    lay_sixteen(cells, to, value * POWERS[DIGITS - count]);
+    lay_sixteen(cells, to, value * FACTORS[count - 1]);
     to + count
 }
 
@@ -121,7 +127,10 @@ fn digit_count(value: u64) -> usize
     value.ilog10() as usize + 1
 }
 
-/// Lays sixteen digits.
+/// Lays sixteen digits, which are told from each other at once: two numbers of eight digits are parted into four of four
+/// digits, eight of two, and the digits. A quotient is told by a product, and its remainder goes into the lane behind it:
+/// for `n - quotient * divisor` is the remainder, `n * lane - quotient * (divisor * lane - 1)` holds both. After Wojciech
+/// Muła, *SSE: conversion integers to decimal representation*.
 #[inline(always)]
 fn lay_sixteen(cells: &mut [u8], to: usize, value: u64) -> usize
     requires room { to + DIGITS ≤ length cells.old }
@@ -129,44 +138,43 @@ fn lay_sixteen(cells: &mut [u8], to: usize, value: u64) -> usize
     ensures laid { take result cells.new ≡ take to cells.old ++ last_digits DIGITS value }
     ensures place { result ≡ to + DIGITS }
 {
-    let middle = lay_eight(cells, to, value / 100_000_000);
-    lay_eight(cells, middle, value % 100_000_000)
+    lay(cells, to, &digits(pairs(fours(value))))
 }
 
-/// Lays eight digits.
+/// Four numbers of four digits. The cast to `u32` loses nothing: by it the compiler knows that it multiplies 32 bits by 32.
 #[inline(always)]
-fn lay_eight(cells: &mut [u8], to: usize, value: u64) -> usize
-    requires room { to + 8 ≤ length cells.old }
-    requires few { value < 100_000_000 }
-    ensures laid { take result cells.new ≡ take to cells.old ++ last_digits 8 value }
-    ensures place { result ≡ to + 8 }
+fn fours(value: u64) -> u32x4
+    requires { value < LARGE }
+    ensures { result ≡ parted 10_000 (parted 100_000_000 (value ∷ [])) }
 {
-    let middle = lay_four(cells, to, value / 10_000);
-    lay_four(cells, middle, value % 10_000)
+    let high = (value / 100_000_000) as u32;
+    let eights = u64x2::from_array([high as u64, value % 100_000_000]);
+    let quotients = (eights * u64x2::splat(TEN_THOUSANDTH)) >> u64x2::splat(45);
+    let remainders = eights - quotients * u64x2::splat(10_000);
+    let lanes = (remainders << u64x2::splat(32)) + quotients;
+    u32x4::from_le_bytes(lanes.to_le_bytes())
 }
 
-/// Lays four digits.
+/// Eight numbers of two digits, of four numbers of four.
 #[inline(always)]
-fn lay_four(cells: &mut [u8], to: usize, value: u64) -> usize
-    requires room { to + 4 ≤ length cells.old }
-    requires few { value < 10_000 }
-    ensures laid { take result cells.new ≡ take to cells.old ++ last_digits 4 value }
-    ensures place { result ≡ to + 4 }
+fn pairs(fours: u32x4) -> u16x8
+    requires { Each1 (λ n. n < 10_000) fours }
+    ensures { result ≡ parted 100 fours }
 {
-    let middle = lay_pair(cells, to, value / 100);
-    lay_pair(cells, middle, value % 100)
+    let quotients = (fours * u32x4::splat(HUNDREDTH)) >> u32x4::splat(19);
+    let lanes = (fours << u32x4::splat(16)) - quotients * u32x4::splat(100 * (1 << 16) - 1);
+    u16x8::from_le_bytes(lanes.to_le_bytes())
 }
 
-/// Lays two digits.
+/// Sixteen digits, of eight numbers of two.
 #[inline(always)]
-fn lay_pair(cells: &mut [u8], to: usize, value: u64) -> usize
-    requires room { to + 2 ≤ length cells.old }
-    requires few { value < 100 }
-    ensures laid { take result cells.new ≡ take to cells.old ++ last_digits 2 value }
-    ensures place { result ≡ to + 2 }
+fn digits(pairs: u16x8) -> [u8; 16]
+    requires { Each1 (λ n. n < 100) pairs }
+    ensures { result ≡ map (λ n. 48 + n) (parted 10 pairs) }
 {
-    let from = value as usize * 2;
-    lay(cells, to, &[PAIRS[from], PAIRS[from + 1]])
+    let quotients = (pairs * u16x8::splat(TENTH)) >> u16x8::splat(10);
+    let lanes = (pairs << u16x8::splat(8)) - quotients * u16x8::splat(10 * (1 << 8) - 1);
+    (lanes.to_le_bytes() + u8x16::splat(b'0')).to_array()
 }
 
 /// Lays one byte of a text.
