@@ -1,12 +1,12 @@
 -- What is told of cycles, definition by definition and file by file.
-use Rattle.std.proofs.Common.{◌≡◌, ◌⊎◌, inl, inr, ℕ, zero, suc, ◌+◌, ◌<◌, ◌≤◌, List, [], ◌∷◌, ◌++◌, length, refl, ap, sym, ◌∙◌, arith, subst, true, false, slice_get, Option, Some, None, option_and_then}
+use Rattle.std.proofs.Common.{◌≡◌, ◌⊎◌, inl, inr, ℕ, zero, suc, ◌+◌, ◌<◌, ◌≤◌, List, [], ◌∷◌, ◌++◌, length, refl, ap, sym, ◌∙◌, arith, subst, Bool, true, false, slice_get, Option, Some, None, option_and_then}
 use Rattle.std.specs.Prelude.{unwrap_or}
 use Rattle.std.proofs.lemmas.Bool.{cases_eq}
 use Rattle.std.proofs.lemmas.List.{length_push}
 use Rattle.idl_names.specs.declared.cycles.Cycle.{Cycle}
 use Rattle.idl_names.specs.declared.cycles.Cycle.TheVariants as cycles
 use Rattle.idl_names.specs.declared.documents.Spot.{Spot}
-use Rattle.idl_names.specs.Cycles.{AreAmong, IsOnCycle, IsReached, IsTold, LeadsIntoCycle, LeadsTo, RowTells, TellsAny, TellsCycles, at_once, onward, cycle_at, next_spots, spots_by}
+use Rattle.idl_names.specs.Cycles.{AreAmong, IsOnCycle, IsReached, IsTold, LeadsIntoCycle, LeadsTo, RowTells, TellsAny, TellsCycles, TellsRound, at_once, onward, cycle_at, next_spots, spots_by}
 use Rattle.idl_names.specs.Files.{FileTree}
 use Rattle.idl_names.specs.Meaning.{spot_at}
 use Rattle.idl_names.specs.Sets.{Has, is_among}
@@ -22,6 +22,10 @@ module _ (files : List FileTree) where
       let there : is_among spot set ≡ true = has_among spot set ((r spot).1 l) in
       let no : ⊥ = cc in
       no
+
+  pub tells_round : (spot : Spot) (set : List Spot) (round : Bool) → IsReached files spot set → is_among spot set ≡ round → TellsRound files spot round
+  tells_round spot set true r e = round_on spot set r e
+  tells_round spot set false r e = not_round spot set r e
 
   pub round_ahead : (spot : Spot) (set : List Spot) → IsReached files spot set → TellsAny files set true → LeadsIntoCycle files spot
   round_ahead spot set r t = (t.0, ((r t.0).0 (t.1).0, (t.1).1))

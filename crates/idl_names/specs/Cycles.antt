@@ -79,6 +79,11 @@ abbrev pub TellsAny : List FileTree → List Spot → Bool → Type 0
 TellsAny files spots true = (spot : Spot) × (Has spots spot × IsOnCycle files spot)
 TellsAny files spots false = (spot : Spot) → Has spots spot → IsOnCycle files spot → ⊥
 
+-- whether this one leads to itself
+abbrev pub TellsRound : List FileTree → Spot → Bool → Type 0
+TellsRound files spot true = IsOnCycle files spot
+TellsRound files spot false = IsOnCycle files spot → ⊥
+
 abbrev pub TellsCycles : List FileTree → List (List Cycle) → Type 0
 TellsCycles files told = (spot : Spot) → IsTold files spot (cycle_at told spot)
 

@@ -1,12 +1,12 @@
 //! Typedefs and services that lead round.
-ghost use Rattle.std.specs.Prelude.{◌≡◌, ◌<◌, ◌^◌, IfOk, length, slice_get, unwrap_or};
-ghost use Rattle.idl_names.specs.Cycles.{IsTold, RowTells, TellsAny, TellsCycles, cycle_at, is_absent, is_on};
+ghost use Rattle.std.specs.Prelude.{◌≡◌, [], ◌<◌, ◌^◌, IfOk, length, slice_get, unwrap_or};
+ghost use Rattle.idl_names.specs.Cycles.{IsTold, RowTells, TellsAny, TellsCycles, TellsRound, cycle_at, is_absent, is_on};
 ghost use Rattle.idl_names.specs.Files.{file_trees};
-ghost use Rattle.idl_names.specs.Marks.{AreMarked};
+ghost use Rattle.idl_names.specs.Marks.{AreMarked, no_marks};
 
 use crate::documents::Spot;
-use crate::leading::reached;
-use crate::marking::marked;
+use crate::leading::reach;
+use crate::marking::mark_all;
 use crate::marks::Marks;
 use crate::names::Names;
 use crate::spot_set::SpotSet;
@@ -63,15 +63,18 @@ impl Cycles {
     pub fn find(alloc: Global, names: &Names<'_>) -> Result<Cycles, OutOfMemory>
         ensures { IfOk result (λ cycles. TellsCycles (file_trees names.now.files.now) cycles) }
     {
-        let marks = marked(alloc, names)?;
-        Cycles::by_marks(alloc, names, &marks)
+        let mut marks = Marks::new(alloc);
+        let cycles = Cycles::by_marks(alloc, names, &mut marks);
+        marks.let_go();
+        cycles
     }
 
-    // The same, where so much is known.
-    fn by_marks(alloc: Global, names: &Names<'_>, marks: &Marks) -> Result<Cycles, OutOfMemory>
-        requires { AreMarked (file_trees names.now.files.now) marks.now }
+    // The same, with no marks to begin with.
+    fn by_marks(alloc: Global, names: &Names<'_>, marks: &mut Marks) -> Result<Cycles, OutOfMemory>
+        requires { marks.old ≡ no_marks }
         ensures { IfOk result (λ cycles. TellsCycles (file_trees names.now.files.now) cycles) }
     {
+        mark_all(alloc, names, marks)?;
         let mut rows = Vec::new(alloc);
         for (place, file) in names.files.iter().enumerate() {
             let count = file.document.definitions.as_slice().len();
@@ -173,11 +176,27 @@ fn cycle_of(
 fn walked(alloc: Global, names: &Names<'_>, spot: Spot) -> Result<Cycle, OutOfMemory>
     ensures { IfOk result (λ cycle. IsTold (file_trees names.now.files.now) spot cycle) }
 {
-    let set = reached(alloc, names, spot)?;
+    let mut set = SpotSet::new(alloc);
+    let cycle = walked_with(alloc, names, spot, &mut set);
+    set.let_go();
+    cycle
+}
+
+// The same, where the walk has an empty set to begin with.
+fn walked_with(
+    alloc: Global,
+    names: &Names<'_>,
+    spot: Spot,
+    set: &mut SpotSet,
+) -> Result<Cycle, OutOfMemory>
+    requires { set.old ≡ [] }
+    ensures { IfOk result (λ cycle. IsTold (file_trees names.now.files.now) spot cycle) }
+{
+    reach(alloc, names, spot, set)?;
     if set.contains(spot) {
         return Ok(Cycle::On);
     }
-    if any_round(alloc, names, &set)? {
+    if any_round(alloc, names, set)? {
         return Ok(Cycle::Ahead);
     }
     Ok(Cycle::Absent)
@@ -189,11 +208,22 @@ fn any_round(alloc: Global, names: &Names<'_>, set: &SpotSet) -> Result<bool, Ou
 {
     let mut i = 0;
     'spots: while let Some(spot) = set.get(i) {
-        let further = reached(alloc, names, spot)?;
-        if further.contains(spot) {
+        if is_round(alloc, names, spot)? {
             return Ok(true);
         }
         i += 1;
     }
     Ok(false)
+}
+
+// Whether a definition leads to itself.
+fn is_round(alloc: Global, names: &Names<'_>, spot: Spot) -> Result<bool, OutOfMemory>
+    ensures { IfOk result (λ round. TellsRound (file_trees names.now.files.now) spot round) }
+{
+    let mut set = SpotSet::new(alloc);
+    let reached = reach(alloc, names, spot, &mut set);
+    let round = set.contains(spot);
+    set.let_go();
+    reached?;
+    Ok(round)
 }

@@ -16,31 +16,39 @@ use idl_document::{Definition, Name, TypeExpr, TypeForm};
 use idl_rules::Scope;
 use std::alloc::Global;
 
-/// The spots that a definition leads to, in one step or more.
-pub(crate) fn reached(alloc: Global, names: &Names<'_>, from: Spot) -> Result<SpotSet, OutOfMemory>
-    ensures { IfOk result (λ set. IsReached (file_trees names.now.files.now) from set) }
+/// Puts the spots that a definition leads to, in one step or more, into an empty set.
+pub(crate) fn reach(
+    alloc: Global,
+    names: &Names<'_>,
+    from: Spot,
+    set: &mut SpotSet,
+) -> Result<(), OutOfMemory>
+    requires { set.old ≡ [] }
+    ensures { OnOk result (IsReached (file_trees names.now.files.now) from set.new) }
 {
     let marks = Marks::new(alloc);
-    beyond(alloc, names, &marks, from)
+    let reached = reach_fresh(names, &marks, from, set);
+    marks.let_go();
+    reached
 }
 
-/// The spots that a definition leads to, in one step or more, but for those behind known ones.
-pub(crate) fn beyond(
-    alloc: Global,
+/// Puts the spots that a definition leads to, in one step or more, but for those behind known ones, into an empty set.
+pub(crate) fn reach_fresh(
     names: &Names<'_>,
     marks: &Marks,
     from: Spot,
-) -> Result<SpotSet, OutOfMemory>
-    ensures { IfOk result (λ set. IsBeyond (file_trees names.now.files.now) marks.now from set) }
+    set: &mut SpotSet,
+) -> Result<(), OutOfMemory>
+    requires { set.old ≡ [] }
+    ensures { OnOk result (IsBeyond (file_trees names.now.files.now) marks.now from set.new) }
 {
-    let mut set = SpotSet::new(alloc);
-    add_next(names, from, &mut set)?;
+    add_next(names, from, set)?;
     let mut i = 0;
     'spots: while let Some(spot) = set.get(i) {
-        add_fresh(names, marks, spot, &mut set)?;
+        add_fresh(names, marks, spot, set)?;
         i += 1;
     }
-    Ok(set)
+    Ok(())
 }
 
 /// Whether a definition leads to another at once.
@@ -53,8 +61,11 @@ pub(crate) fn leads_at_once(
     ensures { IfOk result (λ leads. leads ≡ is_among to (with_all [] (next_spots (file_trees names.now.files.now) from))) }
 {
     let mut next = SpotSet::new(alloc);
-    add_next(names, from, &mut next)?;
-    Ok(next.contains(to))
+    let added = add_next(names, from, &mut next);
+    let leads = next.contains(to);
+    next.let_go();
+    added?;
+    Ok(leads)
 }
 
 // Adds the spots that a definition leads to at once, unless it is known.

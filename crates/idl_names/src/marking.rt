@@ -3,43 +3,51 @@
 //! Each definition is asked after those that it leads to, but for those on a cycle with it. Then a walk from it meets known
 //! definitions and its own cycles alone, and all that it passed is marked at once. The answers rest on no order: where
 //! another one left a definition without a mark, a walk of its own would tell.
-ghost use Rattle.std.specs.Prelude.{◌≡◌, List, false, IfOk, OnOk};
+ghost use Rattle.std.specs.Prelude.{◌≡◌, List, [], false, OnOk};
 ghost use Rattle.idl_names.specs.Cycles.{AreAmong};
 ghost use Rattle.idl_names.specs.Files.{FileTree, file_trees};
-ghost use Rattle.idl_names.specs.Marks.{AreCovered, AreMarked, Gains, IsBeyond, IsRound, is_covered, knows};
+ghost use Rattle.idl_names.specs.Marks.{AreCovered, AreMarked, Gains, IsBeyond, IsRound, is_covered, knows, no_marks};
 ghost use Rattle.idl_names.specs.Sets.{Has, is_among};
 
 use crate::documents::Spot;
-use crate::leading::{beyond, leads_at_once};
+use crate::leading::{leads_at_once, reach_fresh};
 use crate::marks::Marks;
 use crate::names::Names;
-use crate::sources::{Sources, order};
+use crate::sources::{Sources, find_order};
 use crate::spot_set::SpotSet;
 use gate_base::OutOfMemory;
 use std::alloc::Global;
 
-/// Marks the definitions of all files.
-pub(crate) fn marked(alloc: Global, names: &Names<'_>) -> Result<Marks, OutOfMemory>
-    ensures { IfOk result (λ marks. AreMarked (file_trees names.now.files.now) marks) }
-{
-    let sources = Sources::find(alloc, names)?;
-    let order = order(alloc, names, &sources)?;
-    marked_in_order(alloc, names, &sources, order.as_slice())
-}
-
-fn marked_in_order(
+/// Marks the definitions of all files, where none is marked yet.
+pub(crate) fn mark_all(
     alloc: Global,
     names: &Names<'_>,
-    sources: &Sources,
-    order: &[Spot],
-) -> Result<Marks, OutOfMemory>
-    ensures { IfOk result (λ marks. AreMarked (file_trees names.now.files.now) marks) }
+    marks: &mut Marks,
+) -> Result<(), OutOfMemory>
+    requires { marks.old ≡ no_marks }
+    ensures { OnOk result (AreMarked (file_trees names.now.files.now) marks.new) }
 {
-    let mut marks = Marks::new(alloc);
-    for spot in order {
-        mark(alloc, names, sources, *spot, &mut marks)?;
+    let mut sources = Sources::new(alloc);
+    let mut order = Vec::new(alloc);
+    mark_in_order(alloc, names, &mut sources, &mut order, marks)
+}
+
+// The same, with nothing in the sources and in the order to begin with.
+fn mark_in_order(
+    alloc: Global,
+    names: &Names<'_>,
+    sources: &mut Sources,
+    order: &mut Vec<Spot>,
+    marks: &mut Marks,
+) -> Result<(), OutOfMemory>
+    requires { marks.old ≡ no_marks }
+    ensures { OnOk result (AreMarked (file_trees names.now.files.now) marks.new) }
+{
+    find_order(alloc, names, sources, order)?;
+    for spot in order.as_slice() {
+        mark(alloc, names, sources, *spot, marks)?;
     }
-    Ok(marks)
+    Ok(())
 }
 
 // Marks a definition, and those on a cycle with it.
@@ -56,21 +64,50 @@ fn mark(
     if marks.knows(spot) {
         return Ok(());
     }
-    let set = beyond(alloc, names, marks, spot)?;
+    let mut set = SpotSet::new(alloc);
+    let mut round = SpotSet::new(alloc);
+    let marked = mark_with(alloc, names, sources, spot, &mut set, &mut round, marks);
+    set.let_go();
+    round.let_go();
+    marked
+}
+
+// The same for one that is not known, with two empty sets to begin with.
+fn mark_with(
+    alloc: Global,
+    names: &Names<'_>,
+    sources: &Sources,
+    spot: Spot,
+    set: &mut SpotSet,
+    round: &mut SpotSet,
+    marks: &mut Marks,
+) -> Result<(), OutOfMemory>
+    requires fresh { knows marks.old spot ≡ false }
+    requires marked { AreMarked (file_trees names.now.files.now) marks.old }
+    requires none { set.old ≡ [] }
+    requires no_round { round.old ≡ [] }
+    ensures { OnOk result (AreMarked (file_trees names.now.files.now) marks.new) }
+{
+    reach_fresh(names, marks, spot, set)?;
     if set.contains(spot) {
-        return mark_round(alloc, names, sources, spot, &set, marks);
+        return mark_round(alloc, names, sources, spot, set, round, marks);
     }
-    mark_line(alloc, spot, &set, marks)
+    mark_line(spot, set, round, marks)
 }
 
 // Marks a definition that does not lead to itself.
-fn mark_line(alloc: Global, spot: Spot, set: &SpotSet, marks: &mut Marks) -> Result<(), OutOfMemory>
+fn mark_line(
+    spot: Spot,
+    set: &SpotSet,
+    none: &SpotSet,
+    marks: &mut Marks,
+) -> Result<(), OutOfMemory>
+    requires none { none.now ≡ [] }
     requires fresh { knows marks.old spot ≡ false }
     requires line { is_among spot set.now ≡ false }
     ensures { (files : List FileTree) → AreMarked files marks.old → IsBeyond files marks.old spot set.now → OnOk result (AreMarked files marks.new) }
 {
-    let none = SpotSet::new(alloc);
-    if !are_covered(set, marks, &none) {
+    if !are_covered(set, marks, none) {
         return Ok(());
     }
     if are_among(set, &marks.absent) {
@@ -79,25 +116,27 @@ fn mark_line(alloc: Global, spot: Spot, set: &SpotSet, marks: &mut Marks) -> Res
     marks.ahead.insert(spot)
 }
 
-// Marks those that one leads to and that lead back to it.
+// Marks those that one leads to and that lead back to it. They are put into an empty set first.
 fn mark_round(
     alloc: Global,
     names: &Names<'_>,
     sources: &Sources,
     spot: Spot,
     set: &SpotSet,
+    round: &mut SpotSet,
     marks: &mut Marks,
 ) -> Result<(), OutOfMemory>
+    requires no_round { round.old ≡ [] }
     requires marked { AreMarked (file_trees names.now.files.now) marks.old }
     requires beyond { IsBeyond (file_trees names.now.files.now) marks.old spot set.now }
     requires round { Has set.now spot }
     ensures { OnOk result (AreMarked (file_trees names.now.files.now) marks.new) }
 {
-    let round = round_of(alloc, names, sources, spot, set)?;
-    if !are_covered(set, marks, &round) {
+    find_round(alloc, names, sources, spot, set, round)?;
+    if !are_covered(set, marks, round) {
         return Ok(());
     }
-    marks.on.insert_all(&round)
+    marks.on.insert_all(round)
 }
 
 // Whether each of these is known, or among the others.
@@ -134,25 +173,26 @@ fn are_among(spots: &SpotSet, others: &SpotSet) -> bool
     true
 }
 
-// Those in a set that lead to one of it.
-fn round_of(
+// Puts those in a set that lead to one of it into an empty set.
+fn find_round(
     alloc: Global,
     names: &Names<'_>,
     sources: &Sources,
     from: Spot,
     set: &SpotSet,
-) -> Result<SpotSet, OutOfMemory>
-    requires { Has set.now from }
-    ensures { IfOk result (λ round. IsRound (file_trees names.now.files.now) from set.now round) }
+    round: &mut SpotSet,
+) -> Result<(), OutOfMemory>
+    requires from { Has set.now from }
+    requires no_round { round.old ≡ [] }
+    ensures { OnOk result (IsRound (file_trees names.now.files.now) from set.now round.new) }
 {
-    let mut round = SpotSet::new(alloc);
     round.insert(from)?;
     let mut i = 0;
     'spots: while let Some(spot) = round.get(i) {
-        add_sources(alloc, names, sources.of(spot), spot, set, &mut round)?;
+        add_sources(alloc, names, sources.of(spot), spot, set, round)?;
         i += 1;
     }
-    Ok(round)
+    Ok(())
 }
 
 // Adds those of these that stand in a set and lead to a definition at once.

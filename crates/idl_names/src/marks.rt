@@ -27,6 +27,13 @@ impl Marks {
         }
     }
 
+    /// Gives the marks up, in one place for all that own some.
+    pub(crate) fn let_go(self) {
+        self.absent.let_go();
+        self.ahead.let_go();
+        self.on.let_go();
+    }
+
     /// Whether it is known how a definition stands to cycles.
     pub(crate) fn knows(&self, spot: Spot) -> bool
         ensures { result ≡ knows self.now spot }

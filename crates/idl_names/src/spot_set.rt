@@ -33,6 +33,9 @@ impl SpotSet {
         }
     }
 
+    /// Gives a set up, in one place for all that own one.
+    pub(crate) fn let_go(self) {}
+
     /// Puts a spot last, unless it is there.
     #[tactic(auto, unfolding(crate::specs::Sets::with_spot))]
     pub(crate) fn insert(&mut self, spot: Spot) -> Result<(), OutOfMemory>

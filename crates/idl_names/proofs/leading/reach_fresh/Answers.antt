@@ -1,10 +1,10 @@
 use Rattle.std.proofs.Common.{◌∙◌, sym}
 use Rattle.idl_names.specs.Files.{file_trees}
 use Rattle.idl_names.proofs.Reaching.{reaching_first, reaching_more, all_beyond}
-use Rattle.idl_names.proofs.leading.beyond.Goals as goal
+use Rattle.idl_names.proofs.leading.reach_fresh.Goals as goal
 
 pub spots-init : goal.spots-init
-spots-init c = reaching_first (file_trees c.args.names.now.files.now) c.args.marks.now c.args.from c.new-set.result c.add_next.new.set c.new-set.ensures c.in_ok-add_next.ensures
+spots-init c = reaching_first (file_trees c.args.names.now.files.now) c.args.marks.now c.args.from c.args.set.now c.add_next.new.set c.requires c.in_ok-add_next.ensures
 
 pub spots-preserved : goal.spots-preserved
 spots-preserved c =
