@@ -1,6 +1,6 @@
 //! The keywords of the IDL.
 ghost use Rattle.std.specs.Prelude.{◌≡◌};
-ghost use Rattle.idl_parser.specs.Words.{keyword_of, base_of, integer_of, other_base_of, type_word_of, member_word_of, header_word_of, definition_word_of};
+ghost use Rattle.idl_parser.specs.Words.{is, keyword_of, base_of, integer_of, other_base_of, type_word_of, member_word_of, header_word_of, definition_word_of};
 
 use idl_document::BaseWord;
 
@@ -28,6 +28,13 @@ pub(crate) enum Keyword {
     Union,
     Exception,
     Service,
+}
+
+// Whether a word is this one.
+fn is(word: &[u8], other: &[u8]) -> bool
+    ensures { result ≡ is word.now other.now }
+{
+    word == other
 }
 
 /// The keyword that a word is.
@@ -66,15 +73,15 @@ fn base_of(word: &[u8]) -> Option<BaseWord>
 fn integer_of(word: &[u8]) -> Option<BaseWord>
     ensures { result ≡ integer_of word.now }
 {
-    if word == b"i8".as_slice() {
+    if is(word, b"i8") {
         Some(BaseWord::I8)
-    } else if word == b"byte".as_slice() {
+    } else if is(word, b"byte") {
         Some(BaseWord::I8)
-    } else if word == b"i16".as_slice() {
+    } else if is(word, b"i16") {
         Some(BaseWord::I16)
-    } else if word == b"i32".as_slice() {
+    } else if is(word, b"i32") {
         Some(BaseWord::I32)
-    } else if word == b"i64".as_slice() {
+    } else if is(word, b"i64") {
         Some(BaseWord::I64)
     } else {
         None
@@ -86,15 +93,15 @@ fn integer_of(word: &[u8]) -> Option<BaseWord>
 fn other_base_of(word: &[u8]) -> Option<BaseWord>
     ensures { result ≡ other_base_of word.now }
 {
-    if word == b"bool".as_slice() {
+    if is(word, b"bool") {
         Some(BaseWord::Bool)
-    } else if word == b"double".as_slice() {
+    } else if is(word, b"double") {
         Some(BaseWord::Double)
-    } else if word == b"string".as_slice() {
+    } else if is(word, b"string") {
         Some(BaseWord::Text)
-    } else if word == b"binary".as_slice() {
+    } else if is(word, b"binary") {
         Some(BaseWord::Blob)
-    } else if word == b"uuid".as_slice() {
+    } else if is(word, b"uuid") {
         Some(BaseWord::Uuid)
     } else {
         None
@@ -106,15 +113,15 @@ fn other_base_of(word: &[u8]) -> Option<BaseWord>
 fn type_word_of(word: &[u8]) -> Option<Keyword>
     ensures { result ≡ type_word_of word.now }
 {
-    if word == b"map".as_slice() {
+    if is(word, b"map") {
         Some(Keyword::Map)
-    } else if word == b"set".as_slice() {
+    } else if is(word, b"set") {
         Some(Keyword::Set)
-    } else if word == b"list".as_slice() {
+    } else if is(word, b"list") {
         Some(Keyword::List)
-    } else if word == b"cpp_type".as_slice() {
+    } else if is(word, b"cpp_type") {
         Some(Keyword::CppType)
-    } else if word == b"void".as_slice() {
+    } else if is(word, b"void") {
         Some(Keyword::Void)
     } else {
         None
@@ -126,15 +133,15 @@ fn type_word_of(word: &[u8]) -> Option<Keyword>
 fn member_word_of(word: &[u8]) -> Option<Keyword>
     ensures { result ≡ member_word_of word.now }
 {
-    if word == b"oneway".as_slice() {
+    if is(word, b"oneway") {
         Some(Keyword::Oneway)
-    } else if word == b"throws".as_slice() {
+    } else if is(word, b"throws") {
         Some(Keyword::Throws)
-    } else if word == b"extends".as_slice() {
+    } else if is(word, b"extends") {
         Some(Keyword::Extends)
-    } else if word == b"required".as_slice() {
+    } else if is(word, b"required") {
         Some(Keyword::Required)
-    } else if word == b"optional".as_slice() {
+    } else if is(word, b"optional") {
         Some(Keyword::Optional)
     } else {
         None
@@ -146,11 +153,11 @@ fn member_word_of(word: &[u8]) -> Option<Keyword>
 fn header_word_of(word: &[u8]) -> Option<Keyword>
     ensures { result ≡ header_word_of word.now }
 {
-    if word == b"include".as_slice() {
+    if is(word, b"include") {
         Some(Keyword::Include)
-    } else if word == b"cpp_include".as_slice() {
+    } else if is(word, b"cpp_include") {
         Some(Keyword::CppInclude)
-    } else if word == b"namespace".as_slice() {
+    } else if is(word, b"namespace") {
         Some(Keyword::Namespace)
     } else {
         None
@@ -162,19 +169,19 @@ fn header_word_of(word: &[u8]) -> Option<Keyword>
 fn definition_word_of(word: &[u8]) -> Option<Keyword>
     ensures { result ≡ definition_word_of word.now }
 {
-    if word == b"const".as_slice() {
+    if is(word, b"const") {
         Some(Keyword::Const)
-    } else if word == b"typedef".as_slice() {
+    } else if is(word, b"typedef") {
         Some(Keyword::Typedef)
-    } else if word == b"enum".as_slice() {
+    } else if is(word, b"enum") {
         Some(Keyword::Enum)
-    } else if word == b"struct".as_slice() {
+    } else if is(word, b"struct") {
         Some(Keyword::Struct)
-    } else if word == b"union".as_slice() {
+    } else if is(word, b"union") {
         Some(Keyword::Union)
-    } else if word == b"exception".as_slice() {
+    } else if is(word, b"exception") {
         Some(Keyword::Exception)
-    } else if word == b"service".as_slice() {
+    } else if is(word, b"service") {
         Some(Keyword::Service)
     } else {
         None
