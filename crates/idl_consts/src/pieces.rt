@@ -44,14 +44,13 @@ pub fn append_pieces<'d>(
     ensures { OnOk result (map item_of pieces.new.items ≡ map item_of pieces.old.items ++ items_of_value value.now) }
 {
     match &value.form {
-        ValueForm::Int(number) => push(pieces, whole(value.at, *number))?,
-        ValueForm::Double(text) => push(pieces, Piece::Double(value.at, text.as_slice()))?,
-        ValueForm::Literal(text) => push(pieces, Piece::Literal(value.at, text.as_slice()))?,
-        ValueForm::Named(word) => push(pieces, Piece::Named(value.at, word.as_slice()))?,
-        ValueForm::List(values) => append_list(value.at, values.as_slice(), pieces)?,
-        ValueForm::Map(pairs) => append_map(value.at, pairs.as_slice(), pieces)?,
+        ValueForm::Int(number) => push(pieces, whole(value.at, *number)),
+        ValueForm::Double(text) => push(pieces, Piece::Double(value.at, text.as_slice())),
+        ValueForm::Literal(text) => push(pieces, Piece::Literal(value.at, text.as_slice())),
+        ValueForm::Named(word) => push(pieces, Piece::Named(value.at, word.as_slice())),
+        ValueForm::List(values) => append_list(value.at, values.as_slice(), pieces),
+        ValueForm::Map(pairs) => append_map(value.at, pairs.as_slice(), pieces),
     }
-    Ok(())
 }
 
 #[cycle(pieces)]

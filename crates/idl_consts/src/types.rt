@@ -7,7 +7,7 @@ ghost use Rattle.idl_consts.specs.Views.{files_of, found_tree};
 
 use crate::view::View;
 use idl_document::{BaseWord, Definition, TypeExpr, TypeForm};
-use idl_names::{Scope, Spot};
+use idl_names::{Scope, Spot, definition_at};
 
 /// A type, the place of the file in which it is written, and how many typedefs may be followed.
 #[derive(Clone, Copy)]
@@ -41,11 +41,7 @@ pub enum Step<'d> {
 pub fn definition<'d>(view: &View<'_, 'd>, spot: Spot) -> Option<&'d Definition>
     ensures { option_map definition_tree (option_copied result) ≡ definition_of (files_of view.now) spot }
 {
-    let file = view.names.files.get(spot.file as usize)?;
-    file.document
-        .definitions
-        .as_slice()
-        .get(spot.definition as usize)
+    definition_at(view.names.files, spot)
 }
 
 /// What a type is.
