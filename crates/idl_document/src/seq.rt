@@ -7,11 +7,11 @@ use std::marker::Model;
 
 /// A list of things, in order.
 #[derive(Drop)]
-pub struct Seq<T: Drop> {
+pub struct Seq<T> {
     list: Vec<T>,
 }
 
-impl<T: Drop> Model for Seq<T> {
+impl<T> Model for Seq<T> {
     ghost use Rattle.std.specs.Prelude.{List};
 
     ghost Value = { List T };
@@ -19,7 +19,7 @@ impl<T: Drop> Model for Seq<T> {
     ghost view = { λ s. s.list.items };
 }
 
-impl<T: Drop> Seq<T> {
+impl<T> Seq<T> {
     /// The empty list. Takes no memory.
     pub fn new(alloc: Global) -> Seq<T>
         ensures { result ≡ [] }
@@ -29,6 +29,15 @@ impl<T: Drop> Seq<T> {
         }
     }
 
+    /// Lends the list.
+    pub fn as_slice(&self) -> &[T]
+        ensures { result.now ≡ self.now }
+    {
+        self.list.as_slice()
+    }
+}
+
+impl<T: Drop> Seq<T> {
     /// Puts an item last.
     pub fn push(&mut self, item: T) -> Result<(), OutOfMemory>
         ensures ok { OnOk result (self.new ≡ self.old ++ item ∷ []) }
@@ -36,12 +45,5 @@ impl<T: Drop> Seq<T> {
     {
         self.list.push(item)?;
         Ok(())
-    }
-
-    /// Lends the list.
-    pub fn as_slice(&self) -> &[T]
-        ensures { result.now ≡ self.now }
-    {
-        self.list.as_slice()
     }
 }
