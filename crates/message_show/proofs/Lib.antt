@@ -6,3 +6,4 @@ pub mod Frames
 pub mod Ends
 pub mod Bytes
 pub mod Turns
+pub mod Weights

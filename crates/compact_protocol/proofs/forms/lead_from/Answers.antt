@@ -3,6 +3,7 @@ use Rattle.std.specs.Int.{w16}
 use Rattle.std.proofs.lemmas.Int.{to_z-of_z}
 use Rattle.compact_protocol.specs.Forms.{stop_there, short_there, long_there}
 use Rattle.compact_protocol.proofs.forms.lead_from.Goals as goal
+use Rattle.std.proofs.lemmas.Grind.{common_steps}
 
 pub returns-then-step-gt0 : goal.returns-then-step-gt0
 returns-then-step-gt0 c = λ good.
@@ -19,3 +20,9 @@ returns c = λ good.
     rw (to_z-of_z w16 c.in_ok-id-2.id fits)
     (rw (c.lead_of-2.ensures)
     (long_there c.args.frame.now c.args.at c.in_ok-id-2.behind c.args.last c.in_ok-id-2.id (omega arith) (omega arith) (omega arith) c.in_ok-id-2.ensures (rw (c.lead_of-2.ensures) at good)))
+
+pub returns-in_err-id-2 : goal.returns-in_err-id-2
+returns-in_err-id-2 c = grind (arith, common_steps)
+
+pub returns-in_err-id : goal.returns-in_err-id
+returns-in_err-id c = grind (arith, common_steps)

@@ -2,6 +2,7 @@ use Rattle.std.proofs.Common.{arith}
 use Rattle.thrift_value.specs.declared.kind.Kind.TheVariants as kinds
 use Rattle.compact_protocol.specs.Forms.{blank_there, pairs_there}
 use Rattle.compact_protocol.proofs.forms.pairs_from.Goals as goal
+use Rattle.std.proofs.lemmas.Grind.{common_steps}
 
 pub returns-then-size-eq0-clause-found : goal.returns-then-size-eq0-clause-found
 returns-then-size-eq0-clause-found c =
@@ -10,3 +11,18 @@ returns-then-size-eq0-clause-found c =
 pub returns-clause-found : goal.returns-clause-found
 returns-clause-found c =
     pairs_there c.args.frame.now c.args.at c.in_ok-size.size c.in_ok-size.mid c.in_ok-key.key c.in_ok-value.value c.in_ok-size.ensures.found (omega arith) (omega arith) c.in_ok-key.ensures c.in_ok-value.ensures
+
+pub returns-in_err-key-clause-found : goal.returns-in_err-key-clause-found
+returns-in_err-key-clause-found c = grind (arith, common_steps)
+
+pub returns-in_err-value-clause-found : goal.returns-in_err-value-clause-found
+returns-in_err-value-clause-found c = grind (arith, common_steps)
+
+pub returns-clause-long : goal.returns-clause-long
+returns-clause-long c = grind (arith, common_steps)
+
+pub returns-in_err-value-clause-long : goal.returns-in_err-value-clause-long
+returns-in_err-value-clause-long c = grind (arith, common_steps)
+
+pub returns-in_err-key-clause-long : goal.returns-in_err-key-clause-long
+returns-in_err-key-clause-long c = grind (arith, common_steps)

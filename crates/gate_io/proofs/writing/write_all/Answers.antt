@@ -1,5 +1,6 @@
 use Rattle.std.proofs.Common.{arith, subst, List, ℕ}
 use Rattle.std.specs.Io.KnownBytes.{Appends}
+use Rattle.std.proofs.lemmas.Grind.{common_steps}
 use Rattle.gate_io.proofs.Streams.{appends_on, next_piece}
 use Rattle.gate_io.proofs.writing.write_all.Goals as goal
 
@@ -14,3 +15,6 @@ loop-at-preserved g c =
           (appends_on (sink.written c.args.sink.now) (sink.written c.loop-at.sink) (sink.written c.write.new.self) _ _ c.loop-at.invariant.written took.2);
       later = omega (arith, c.loop-at.invariant.later, c.in-Took.ensures.later);
     }
+
+pub returns-clause-all : goal.returns-clause-all
+returns-clause-all g c = grind (arith, common_steps)

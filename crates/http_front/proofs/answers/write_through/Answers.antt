@@ -1,4 +1,5 @@
 use Rattle.std.proofs.Common.{◌∙◌, refl, arith}
+use Rattle.std.proofs.lemmas.Grind.{common_steps}
 use Rattle.http_front.proofs.Counted.{later_on, later_same}
 use Rattle.http_front.proofs.Handing.{sent_first, sent_more, sent_not_ready, sent_failed}
 use Rattle.http_front.proofs.answers.write_through.Goals as goal
@@ -36,3 +37,12 @@ pub returns-in-Failed-clause-goes : goal.returns-in-Failed-clause-goes
 returns-in-Failed-clause-goes g c =
     let tells = g.H.Hub.tells in
     sent_failed (tells c.args.inner.now) (tells c.writes.inner) (tells c.write.new.self) c.args.k c.args.bytes.now _ c.writes.sent c.writes.invariant.goes c.in-Failed.ensures.leads
+
+pub returns-then-sent-least-clause-kept : goal.returns-then-sent-least-clause-kept
+returns-then-sent-least-clause-kept g c = grind (arith, common_steps)
+
+pub returns-in-NotReady-clause-kept : goal.returns-in-NotReady-clause-kept
+returns-in-NotReady-clause-kept g c = grind (arith, common_steps)
+
+pub returns-in-Failed-clause-kept : goal.returns-in-Failed-clause-kept
+returns-in-Failed-clause-kept g c = grind (arith, common_steps)

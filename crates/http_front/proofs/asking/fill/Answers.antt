@@ -1,4 +1,5 @@
-use Rattle.std.proofs.Common.{◌∙◌, refl, ap}
+use Rattle.std.proofs.Common.{arith, ◌∙◌, refl, ap}
+use Rattle.std.proofs.lemmas.Grind.{common_steps}
 use Rattle.http_front.specs.Fronts.{Front, is_asking}
 use Rattle.http_front.proofs.Counted.{later_on, later_same}
 use Rattle.http_front.proofs.Handing.{turns_none, turns_kept, turns_read, turns_ended}
@@ -48,3 +49,36 @@ reads-preserved g c =
       later = later_on _ _ _ i.later c.in-Bytes.ensures.later;
       kept = c.in-Bytes.ensures.kept ∙ i.kept;
     }
+
+pub returns-in-NotReady-clause-kept : goal.returns-in-NotReady-clause-kept
+returns-in-NotReady-clause-kept g c = grind (arith, common_steps)
+
+pub returns-in-End-clause-cause : goal.returns-in-End-clause-cause
+returns-in-End-clause-cause g c = grind (arith, common_steps)
+
+pub returns-in-NotReady-clause-enough : goal.returns-in-NotReady-clause-enough
+returns-in-NotReady-clause-enough g c = grind (arith, common_steps)
+
+pub returns-in-NotReady-clause-later : goal.returns-in-NotReady-clause-later
+returns-in-NotReady-clause-later g c = grind (arith, common_steps)
+
+pub returns-in-Failed-clause-later : goal.returns-in-Failed-clause-later
+returns-in-Failed-clause-later g c = grind (arith, common_steps)
+
+pub returns-in-End-clause-kept : goal.returns-in-End-clause-kept
+returns-in-End-clause-kept g c = grind (arith, common_steps)
+
+pub reads-smaller : goal.reads-smaller
+reads-smaller g c = grind (arith, common_steps)
+
+pub returns-in-Failed-clause-kept : goal.returns-in-Failed-clause-kept
+returns-in-Failed-clause-kept g c = grind (arith, common_steps)
+
+pub returns-in-End-clause-wait : goal.returns-in-End-clause-wait
+returns-in-End-clause-wait g c = grind (arith, common_steps)
+
+pub returns-in-Failed-clause-enough : goal.returns-in-Failed-clause-enough
+returns-in-Failed-clause-enough g c = grind (arith, common_steps)
+
+pub returns-in-End-clause-later : goal.returns-in-End-clause-later
+returns-in-End-clause-later g c = grind (arith, common_steps)

@@ -11,6 +11,7 @@ use Rattle.idl_schema.specs.Types.{ty_in}
 use Rattle.idl_schema.proofs.Kept.{absent, first_free, free_on}
 use Rattle.idl_schema.proofs.Listing.{next, field_listed, field_typed}
 use Rattle.idl_schema.proofs.fields.add_fields.Goals as goal
+use Rattle.std.proofs.lemmas.Grind.{common_steps}
 
 within_counted : (before i : ℕ) (id : Option (ℕ × ℤ)) (n : ℕ) → before ≤ i → n ≡ counted before id → n ≤ i + 1
 within_counted before i (Some z) n h e = omega arith
@@ -63,3 +64,15 @@ push_field-requires-clause-free c =
     let open_list = next fs i f c.loop-field-test.true c.field-item.is in
     let free = ap (λ (l : List FieldDecl). refused_ids ids (ids_from before (field_trees l))) (sym open_list) ∙ c.loop-field.invariant.free in
     absent (id_of before (field_tree f)).id c.loop-field.list (first_free ids (id_of before (field_tree f)) (ids_from (counted before f.id) (field_trees (drop (i + 1) fs))) free).0
+
+pub returns-clause-types : goal.returns-clause-types
+returns-clause-types c = grind (arith, common_steps)
+
+pub push_field-requires-clause-before : goal.push_field-requires-clause-before
+push_field-requires-clause-before c = grind (arith, common_steps)
+
+pub returns-clause-list : goal.returns-clause-list
+returns-clause-list c = grind (arith, common_steps)
+
+pub count_on-before-requires : goal.count_on-before-requires
+count_on-before-requires c = grind (arith, common_steps)

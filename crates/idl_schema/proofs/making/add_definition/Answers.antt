@@ -1,4 +1,4 @@
-use Rattle.std.proofs.Common.{◌≡◌, ◌∙◌, ap, sym, subst, map, [], List}
+use Rattle.std.proofs.Common.{arith, ◌≡◌, ◌∙◌, ap, sym, subst, map, [], List}
 use Rattle.idl_document.specs.declared.document.Definition.{Definition}
 use Rattle.idl_document.specs.declared.document.FieldDecl.{FieldDecl}
 use Rattle.idl_document.specs.declared.document.Function.{Function}
@@ -10,6 +10,7 @@ use Rattle.type_tables.specs.declared.declared.FieldInfo.{FieldInfo}
 use Rattle.idl_schema.specs.Kept.{AreNew}
 use Rattle.idl_schema.proofs.Kept.{enum_kept, service_kept, struct_kept}
 use Rattle.idl_schema.proofs.making.add_definition.Goals as goal
+use Rattle.std.proofs.lemmas.Grind.{common_steps}
 
 pub add_enum-requires : goal.add_enum-requires
 add_enum-requires c =
@@ -31,3 +32,18 @@ pub add_service-requires-clause-kept : goal.add_service-requires-clause-kept
 add_service-requires-clause-kept c =
     let kept = subst (λ (d : Definition). inner_refusals (definition_tree d) ≡ []) c.in-Service.is c.requires.kept in
     ap (λ (fs : List Function). methods_refusals (function_trees fs)) c.as_slice-in-Service-2.ensures ∙ (service_kept c.in-Service.name c.in-Service.base (function_trees c.in-Service.functions) kept).1
+
+pub returns-in_ok-add_struct-in-Struct-clause-exact : goal.returns-in_ok-add_struct-in-Struct-clause-exact
+returns-in_ok-add_struct-in-Struct-clause-exact c = grind (arith, common_steps)
+
+pub returns-in_ok-add_parts-in-Typedef-clause-exact : goal.returns-in_ok-add_parts-in-Typedef-clause-exact
+returns-in_ok-add_parts-in-Typedef-clause-exact c = grind (arith, common_steps)
+
+pub returns-in_ok-name-in-Service-clause-unless : goal.returns-in_ok-name-in-Service-clause-unless
+returns-in_ok-name-in-Service-clause-unless c = grind (arith, common_steps)
+
+pub returns-in_ok-add_enum-in-Enum-clause-exact : goal.returns-in_ok-add_enum-in-Enum-clause-exact
+returns-in_ok-add_enum-in-Enum-clause-exact c = grind (arith, common_steps)
+
+pub returns-in_ok-name-in-Service-clause-exact : goal.returns-in_ok-name-in-Service-clause-exact
+returns-in_ok-name-in-Service-clause-exact c = grind (arith, common_steps)

@@ -1,4 +1,4 @@
-use Rattle.std.proofs.Common.{◌≡◌, ◌∙◌, ap, refl, subst, [], map, List, ℕ, Option, Some, Err}
+use Rattle.std.proofs.Common.{arith, ◌≡◌, ◌∙◌, ap, refl, subst, [], map, List, ℕ, Option, Some, Err}
 use Rattle.idl_document.specs.Trees.{FunctionTree, function_trees}
 use Rattle.idl_rules.specs.declared.row.IdlRow.TheVariants as rows
 use Rattle.idl_rules.specs.Doubles.{repeated}
@@ -18,6 +18,7 @@ use Rattle.idl_schema.proofs.Apart.{duplicate}
 use Rattle.idl_schema.proofs.Servicing.{none_yet}
 use Rattle.idl_schema.proofs.Sharing.{service_added}
 use Rattle.idl_schema.proofs.making.add_service.Goals as goal
+use Rattle.std.proofs.lemmas.Grind.{common_steps}
 
 pub returns-clause-exact : goal.returns-clause-exact
 returns-clause-exact c =
@@ -43,3 +44,9 @@ add_methods-requires-clause-new c =
     let none = none_yet c.args.builder.now.services _ s c.in-Ok.ensures.number refl in
     let new : AreNew [] (function_trees c.args.functions.now) = c.requires.new in
     ap (λ ms. repeated rows.DuplicateName (map (λ (m : List ℕ × MethodInfo). m.0) ms) (map (λ (f : FunctionTree). f.name) (function_trees c.args.functions.now))) (same ∙ none) ∙ new
+
+pub add_methods-requires-clause-known : goal.add_methods-requires-clause-known
+add_methods-requires-clause-known c = grind (arith, common_steps)
+
+pub add_service-requires : goal.add_service-requires
+add_service-requires c = grind (arith, common_steps)

@@ -1,4 +1,4 @@
-use Rattle.std.proofs.Common.{◌≡◌, ◌∙◌, ◌+◌, ◌++◌, ◌∷◌, [], ap, sym, append_assoc, drop, map, List, ℤ, pos, ◌+ℤ◌, rules, false, w32, w64, SFits, to_z, of_z}
+use Rattle.std.proofs.Common.{arith, ◌≡◌, ◌∙◌, ◌+◌, ◌++◌, ◌∷◌, [], ap, sym, append_assoc, drop, map, List, ℤ, pos, ◌+ℤ◌, rules, false, w32, w64, SFits, to_z, of_z}
 use Rattle.std.proofs.lemmas.Int.{to_z-of_z}
 use Rattle.idl_document.specs.declared.document.Member.{Member}
 use Rattle.idl_document.specs.declared.document.Name.{Name}
@@ -6,6 +6,7 @@ use Rattle.idl_rules.specs.Values.{is_outside, number_after, refused_values, val
 use Rattle.idl_schema.proofs.Kept.{counts_on, first_inside}
 use Rattle.idl_schema.proofs.Listing.{next}
 use Rattle.idl_schema.proofs.making.values.Goals as goal
+use Rattle.std.proofs.lemmas.Grind.{common_steps}
 
 pub short_value-requires : goal.short_value-requires
 short_value-requires c =
@@ -51,3 +52,6 @@ loop-member-preserved c =
           ∙ ap (λ (z : ℤ). old ++ (value_by m.value last ∷ map (λ (v : Name × ℤ). v.1) (values_from z more))) on
           ∙ ap (λ (l : List Member). old ++ map (λ (v : Name × ℤ). v.1) (values_from last l)) (sym open_list) ∙ c.loop-member.invariant.exact;
     }
+
+pub returns : goal.returns
+returns c = grind (arith, common_steps)

@@ -2,6 +2,7 @@ use Rattle.std.proofs.Common.{◌≡◌, ◌≤ℤ◌, pos, negsuc, ap, ◌∙�
 use Rattle.std.specs.Int.{w32, w64}
 use Rattle.std.proofs.lemmas.Bool.Decides.{nat_tests}
 use Rattle.std.proofs.lemmas.Int.{to_z-of_z}
+use Rattle.std.proofs.lemmas.Grind.{common_steps}
 use Rattle.protocol_traits.specs.declared.fault.Reason.TheVariants as reasons
 use Rattle.json_protocol.specs.Head.{type_of}
 use Rattle.json_protocol.specs.ReadForms.{back_found}
@@ -34,3 +35,15 @@ returns-clause-found c =
     rw (to_z-of_z w64 seq.seq wide, to_z-of_z w32 seq.seq fits)
     (back_found frame c.args.at c.in_ok-code.code kind.«end» number seq.«end» c.in_ok-behind.behind kind.kind seq.seq c.type_of.result is c.in_ok-code.ensures (int_solid frame c.in_ok-code.code kind.ensures.begins) typed
     c.in_ok-number.ensures (int_solid frame number seq.ensures.begins) numbered c.in_ok-behind.ensures)
+
+pub returns-in_err-seq-clause-found : goal.returns-in_err-seq-clause-found
+returns-in_err-seq-clause-found c = grind (arith, common_steps)
+
+pub returns-in_err-behind-clause-found : goal.returns-in_err-behind-clause-found
+returns-in_err-behind-clause-found c = grind (arith, common_steps)
+
+pub returns-in_err-seq-clause-within : goal.returns-in_err-seq-clause-within
+returns-in_err-seq-clause-within c = grind (arith, common_steps)
+
+pub returns-in_err-behind-clause-within : goal.returns-in_err-behind-clause-within
+returns-in_err-behind-clause-within c = grind (arith, common_steps)

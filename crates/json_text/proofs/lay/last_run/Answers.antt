@@ -2,6 +2,7 @@ use Rattle.std.proofs.Common.{◌≡◌, true, arith}
 use Rattle.std.specs.Prelude.{slice_index}
 use Rattle.std.proofs.lemmas.Bool.Decides.{nat_tests}
 use Rattle.std.proofs.lemmas.List.Sums.{prefix_len-drop_yes}
+use Rattle.std.proofs.lemmas.Grind.{common_steps}
 use Rattle.json_text.specs.Text.{is_plain}
 use Rattle.json_text.proofs.PlainTexts.{both_true, ascii_next}
 use Rattle.json_text.proofs.LaidText.{byte_joined}
@@ -21,3 +22,21 @@ bytes-preserved c =
       },
       λ e. l.invariant.1 (both_true l.is_ascii _ e).0,
     )
+
+pub returns-else-bytes-at-ge32-clause-stops : goal.returns-else-bytes-at-ge32-clause-stops
+returns-else-bytes-at-ge32-clause-stops c = grind (arith, common_steps)
+
+pub returns-else-bytes-at-ne34-clause-stops : goal.returns-else-bytes-at-ne34-clause-stops
+returns-else-bytes-at-ne34-clause-stops c = grind (arith, common_steps)
+
+pub overflow_add-at : goal.overflow_add-at
+overflow_add-at c = omega arith
+
+pub returns-else-bytes-at-ne92-clause-stops : goal.returns-else-bytes-at-ne92-clause-stops
+returns-else-bytes-at-ne92-clause-stops c = grind (arith, common_steps)
+
+pub returns-else-bytes-at-ne92-clause-ascii : goal.returns-else-bytes-at-ne92-clause-ascii
+returns-else-bytes-at-ne92-clause-ascii c = grind (arith, common_steps)
+
+pub returns-else-bytes-at-ge32-clause-ascii : goal.returns-else-bytes-at-ge32-clause-ascii
+returns-else-bytes-at-ge32-clause-ascii c = grind (arith, common_steps)

@@ -2,6 +2,7 @@ use Rattle.std.proofs.Common.{◌-◌, List, ℕ, Option, length, drop, take, ar
 use Rattle.std.proofs.lemmas.List.{take_rest}
 use Rattle.memchr.specs.Find.{IsFirstByte, is_byte}
 use Rattle.line_transport.proofs.Searching.{length_within, found_at, found, none_found}
+use Rattle.line_transport.proofs.Searching.{searched_within}
 use Rattle.line_transport.proofs.lines.length_from.Goals as goal
 
 -- what was searched is all that stands behind
@@ -21,3 +22,6 @@ returns-in-Some-clause-value c =
 
 pub returns-in-None-clause-value : goal.returns-in-None-clause-value
 returns-in-None-clause-value c = none_found c.args.held.now c.args.searched c.memchr.result c.requires (in_rest c.args.held.now c.args.searched c.memchr.result c.memchr.ensures) c.in-None.is
+
+pub slice_bounds-memchr-start : goal.slice_bounds-memchr-start
+slice_bounds-memchr-start c = grind (arith, searched_within)

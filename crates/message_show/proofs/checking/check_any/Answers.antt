@@ -1,8 +1,10 @@
-use Rattle.std.proofs.Common.{◌≡◌, ◌<◌, length, refl, sym, ap, subst, ◌∙◌, arith, None}
+use Rattle.std.proofs.Common.{◌≡◌, ◌+◌, ◌<◌, ◌≤◌, length, refl, sym, ap, subst, ◌∙◌, arith, None}
 use Rattle.std.specs.Prelude.{IfOk}
+use Rattle.std.proofs.lemmas.Bool.{false≢true}
 use Rattle.thrift_value.specs.Items.{Item, item_of}
 use Rattle.protocol_traits.specs.declared.proto.Hint.TheVariants as hints
 use Rattle.protocol_traits.specs.Follow.{depth_after}
+use Rattle.protocol_traits.specs.Room.{weight}
 use Rattle.protocol_traits.specs.Steps.{Step, step_ok, step_err}
 use Rattle.translate_verdicts.specs.Positions.{typed}
 use Rattle.translate_verdicts.specs.Body.{moved, source_in, going}
@@ -11,6 +13,7 @@ use Rattle.message_show.specs.Line.{begun, after}
 use Rattle.type_walk.specs.Positions as positions
 use Rattle.message_show.specs.Shown.{place, line_target}
 use Rattle.message_show.proofs.Frames.{closed_whole, closed_fault}
+use Rattle.message_show.proofs.Weights.{weighs}
 use Rattle.message_show.proofs.checking.check_any.Goals as goal
 
 pub events-init : goal.events-init
@@ -38,6 +41,14 @@ events-preserved g c =
       shallow = rw (c.step.ensures.depth, inv.depth_is) c.in-Ok.ensures.shallow;
     }
 
+pub events-smaller : goal.events-smaller
+events-smaller g c =
+    let item = item_of c.in-Ok.event in
+    let new = c.next.follows.lender-at-none in
+    let step = step_ok (g.R.ReadRules.reads c.events.reader hints.Unknown) item new c.in-Ok.ensures.answer c.next.follows.holds-at-none in
+    let paid = subst (λ (r : Step _ Item). IfOk r (λ x. weight x.0 + g.R.ReadRules.ahead x.1 ≤ g.R.ReadRules.ahead c.events.reader)) step (g.R.ReadRules.pays c.events.reader hints.Unknown) in
+    omega (arith, paid, weighs item)
+
 pub returns-in-Err : goal.returns-in-Err
 returns-in-Err g c first text =
     let source = source_in g.R.ReadRules in
@@ -55,7 +66,7 @@ returns-in-Ok-finish g c first text =
     let told = c.events.invariant.told first text in
     let depth = length c.events.walk.levels in
     let before = going c.events.reader told.0 (place told.0 told.1) depth None told.2 in
-    let shut : 0 < depth → ⊥ = λ h. absurd (cc (c.is_open.ensures.1 h, c.events-test.false)) in
+    let shut : 0 < depth → ⊥ = λ h. absurd (false≢true (sym c.events-test.false ∙ c.is_open.ensures.1 h)) in
     let done : depth ≡ 0 = omega (arith, shut) in
     let ended = sym told.3 ∙ whole_end source typed target g.R.ReadRules.pays before done in
     rw ended (closed_whole before.bytes (g.R.ReadRules.reads_end c.events.reader) tt c.in-Ok-finish.ensures)
@@ -67,7 +78,7 @@ returns-in-Err-finish g c first text =
     let told = c.events.invariant.told first text in
     let depth = length c.events.walk.levels in
     let before = going c.events.reader told.0 (place told.0 told.1) depth None told.2 in
-    let shut : 0 < depth → ⊥ = λ h. absurd (cc (c.is_open.ensures.1 h, c.events-test.false)) in
+    let shut : 0 < depth → ⊥ = λ h. absurd (false≢true (sym c.events-test.false ∙ c.is_open.ensures.1 h)) in
     let done : depth ≡ 0 = omega (arith, shut) in
     let ended = sym told.3 ∙ whole_end source typed target g.R.ReadRules.pays before done in
     rw ended (closed_fault before.bytes (g.R.ReadRules.reads_end c.events.reader) c.in-Err-finish.fault c.in-Err-finish.ensures)

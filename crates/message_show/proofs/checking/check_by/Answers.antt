@@ -1,7 +1,9 @@
-use Rattle.std.proofs.Common.{◌≡◌, ◌<◌, length, refl, sym, ap, subst, ◌∙◌, arith, None}
+use Rattle.std.proofs.Common.{◌≡◌, ◌+◌, ◌<◌, ◌≤◌, length, refl, sym, ap, subst, ◌∙◌, arith, None}
 use Rattle.std.specs.Prelude.{IfOk}
+use Rattle.std.proofs.lemmas.Bool.{false≢true}
 use Rattle.thrift_value.specs.Items.{Item, item_of}
 use Rattle.protocol_traits.specs.Follow.{depth_after}
+use Rattle.protocol_traits.specs.Room.{weight}
 use Rattle.protocol_traits.specs.Steps.{Step, step_ok, step_err}
 use Rattle.translate_verdicts.specs.Positions.{typed}
 use Rattle.translate_verdicts.specs.Body.{moved, source_in, going}
@@ -9,6 +11,7 @@ use Rattle.translate_verdicts.proofs.Whole.{whole_step, whole_fault, whole_end}
 use Rattle.message_show.specs.Line.{begun, after}
 use Rattle.message_show.specs.Shown.{place, line_target}
 use Rattle.message_show.proofs.Frames.{closed_whole, closed_fault}
+use Rattle.message_show.proofs.Weights.{weighs}
 use Rattle.message_show.proofs.checking.check_by.Goals as goal
 
 pub events-init : goal.events-init
@@ -34,6 +37,15 @@ events-preserved g c =
       shallow = rw (c.step.ensures.depth, inv.depth_is) c.in-Ok.ensures.shallow;
     }
 
+pub events-smaller : goal.events-smaller
+events-smaller g c =
+    let at = g.K.Walking.at c.events.walk in
+    let item = item_of c.in-Ok.event in
+    let new = c.next.follows.lender-at-none in
+    let step = step_ok (g.R.ReadRules.reads c.events.reader (typed.hint at)) item new (rw (← c.hint.ensures) c.in-Ok.ensures.answer) (rw (← c.hint.ensures) c.next.follows.holds-at-none) in
+    let paid = subst (λ (r : Step _ Item). IfOk r (λ x. weight x.0 + g.R.ReadRules.ahead x.1 ≤ g.R.ReadRules.ahead c.events.reader)) step (g.R.ReadRules.pays c.events.reader (typed.hint at)) in
+    omega (arith, paid, weighs item)
+
 pub returns-in-Err : goal.returns-in-Err
 returns-in-Err g c text =
     let source = source_in g.R.ReadRules in
@@ -51,7 +63,7 @@ returns-in-Ok-finish g c text =
     let told = c.events.invariant.told text in
     let at = g.K.Walking.at c.events.walk in
     let before = going c.events.reader at (place at told.0) (length at.levels) None told.1 in
-    let shut : 0 < length at.levels → ⊥ = λ h. absurd (cc (c.is_open.ensures.1 h, c.events-test.false)) in
+    let shut : 0 < length at.levels → ⊥ = λ h. absurd (false≢true (sym c.events-test.false ∙ c.is_open.ensures.1 h)) in
     let done : length at.levels ≡ 0 = omega (arith, shut) in
     let ended = sym told.2 ∙ whole_end source typed target g.R.ReadRules.pays before done in
     rw ended (closed_whole before.bytes (g.R.ReadRules.reads_end c.events.reader) tt c.in-Ok-finish.ensures)
@@ -63,7 +75,7 @@ returns-in-Err-finish g c text =
     let told = c.events.invariant.told text in
     let at = g.K.Walking.at c.events.walk in
     let before = going c.events.reader at (place at told.0) (length at.levels) None told.1 in
-    let shut : 0 < length at.levels → ⊥ = λ h. absurd (cc (c.is_open.ensures.1 h, c.events-test.false)) in
+    let shut : 0 < length at.levels → ⊥ = λ h. absurd (false≢true (sym c.events-test.false ∙ c.is_open.ensures.1 h)) in
     let done : length at.levels ≡ 0 = omega (arith, shut) in
     let ended = sym told.2 ∙ whole_end source typed target g.R.ReadRules.pays before done in
     rw ended (closed_fault before.bytes (g.R.ReadRules.reads_end c.events.reader) c.in-Err-finish.fault c.in-Err-finish.ensures)

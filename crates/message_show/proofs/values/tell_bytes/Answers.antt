@@ -1,4 +1,5 @@
 use Rattle.std.proofs.Common.{arith}
+use Rattle.std.proofs.lemmas.Grind.{common_steps}
 use Rattle.message_show.specs.Pieces.{output}
 use Rattle.message_show.proofs.Strings.{piece_more}
 use Rattle.message_show.proofs.Told.{tells_then, tells_same}
@@ -16,3 +17,6 @@ loop-at-preserved g c =
       told = tells_same old new c.args.line c.tell_piece-line.result _ _ (piece_more bytes c.loop-at.at c.min-end.result (omega (arith, c.min-end.ensures, c.loop-at.invariant.within)))
           (tells_then old mid new c.args.line c.loop-at.line c.tell_piece-line.result _ _ c.loop-at.invariant.told c.tell_piece-line.ensures.told);
     }
+
+pub returns : goal.returns
+returns g c = grind (arith, common_steps)

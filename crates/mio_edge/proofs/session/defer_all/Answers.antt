@@ -4,6 +4,7 @@ use Rattle.mio_edge.specs.Connecting.{WaitsForWrite}
 use Rattle.mio_edge.proofs.Each.{all_first, first_step}
 use Rattle.mio_edge.proofs.Sessions.{all_moved, moved_step, none_moved}
 use Rattle.mio_edge.proofs.session.defer_all.Goals as goal
+use Rattle.std.proofs.lemmas.Grind.{common_steps}
 
 pub returns-clause-calm : goal.returns-clause-calm
 returns-clause-calm g c = all_moved (Calms g.S.Stream.tells) c.loop-port.port-index c.args.ports.now c.loop-port.ports (omega arith) c.loop-port.invariant.calm
@@ -19,3 +20,6 @@ loop-port-preserved g c = record {
 
 pub loop-port-init : goal.loop-port-init
 loop-port-init g c = record { calm = none_moved (Calms g.S.Stream.tells) c.args.ports.now; deferred = λ p d less. absurd (omega (arith, less)) }
+
+pub offset_bounds-ports-port-index : goal.offset_bounds-ports-port-index
+offset_bounds-ports-port-index g c = grind (arith, common_steps)

@@ -2,6 +2,7 @@ use Rattle.std.proofs.Common.{arith}
 use Rattle.mio_edge.specs.Sessions.{Flushes}
 use Rattle.mio_edge.proofs.Sessions.{all_moved, moved_step, none_moved}
 use Rattle.mio_edge.proofs.session.send_all.Goals as goal
+use Rattle.std.proofs.lemmas.Grind.{common_steps}
 
 pub returns : goal.returns
 returns g c = all_moved (Flushes g.S.Stream.tells) c.loop-port.port-index c.args.ports.now c.loop-port.ports (omega arith) c.loop-port.invariant
@@ -13,3 +14,6 @@ loop-port-preserved g c =
 
 pub loop-port-init : goal.loop-port-init
 loop-port-init g c = none_moved (Flushes g.S.Stream.tells) c.args.ports.now
+
+pub offset_bounds-ports-port-index : goal.offset_bounds-ports-port-index
+offset_bounds-ports-port-index g c = grind (arith, common_steps)

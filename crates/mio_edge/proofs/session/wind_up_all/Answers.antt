@@ -4,6 +4,7 @@ use Rattle.mio_edge.proofs.Sessions.{all_moved, moved_step, none_moved}
 use Rattle.mio_edge.proofs.Closing.{all_settled, settled_step, all_flushed, flushed_step}
 use Rattle.mio_edge.proofs.Each.{all_first, first_step}
 use Rattle.mio_edge.proofs.session.wind_up_all.Goals as goal
+use Rattle.std.proofs.lemmas.Grind.{common_steps}
 
 pub returns-clause-sends : goal.returns-clause-sends
 returns-clause-sends g c = all_moved (WindsUp g.S.Stream.tells) c.loop-port.port-index c.args.ports.now c.loop-port.ports (omega arith) c.loop-port.invariant.sends
@@ -34,3 +35,6 @@ loop-port-init g c = record {
   sent = λ p d less. absurd (omega (arith, less));
   told = λ p d less. absurd (omega (arith, less));
 }
+
+pub offset_bounds-ports-port-index : goal.offset_bounds-ports-port-index
+offset_bounds-ports-port-index g c = grind (arith, common_steps)

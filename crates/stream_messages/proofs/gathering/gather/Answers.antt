@@ -1,5 +1,6 @@
 use Rattle.std.proofs.Common.{◌≡◌, ◌∙◌, ◌+◌, ◌-◌, ◌≤◌, ℕ, List, [], length, take, drop, refl, ap, subst, arith}
 use Rattle.std.proofs.lemmas.List.{length-drop, length-take-le}
+use Rattle.std.proofs.lemmas.Grind.{common_steps}
 use Rattle.stream_messages.specs.Stripping.{IsBehindLength}
 use Rattle.stream_messages.proofs.Pieces.{from_here}
 use Rattle.stream_messages.proofs.Finding.{put_size, written_size}
@@ -39,3 +40,9 @@ frames-preserved c =
           (put_size into new filled k count i.gathers.fits (omega (arith, new_size)))
           (copied_on into new from filled count k at is i.gathers.fits there);
     }
+
+pub frames-smaller : goal.frames-smaller
+frames-smaller c = grind (arith, common_steps)
+
+pub copy_from_slice-requires : goal.copy_from_slice-requires
+copy_from_slice-requires c = grind (arith, common_steps)

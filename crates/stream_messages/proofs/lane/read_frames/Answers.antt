@@ -1,4 +1,5 @@
 use Rattle.std.proofs.Common.{◌∙◌, length, sym, arith}
+use Rattle.std.proofs.lemmas.Grind.{common_steps}
 use Rattle.gate_hub.specs.Hubs.{LinkReads}
 use Rattle.gate_hub.specs.declared.hub.LinkGot.TheVariants as got
 use Rattle.stream_messages.specs.Lanes.{Reads}
@@ -35,3 +36,9 @@ returns-in-End-clause-goes g c =
     behind_nothing told told' c.args.k c.args.side s t t into c.read.result none.0
     (way_over told told' c.args.k c.args.side t (length c.hand_out-count.new.into) into c.read.result none.1 (sym c.behind.ensures ∙ c.in-End.is)
     (asked told told' c.args.k c.args.side (length c.hand_out-count.new.into) into c.read.result c.read.ensures.leads))
+
+pub returns-in-Mark-clause-goes : goal.returns-in-Mark-clause-goes
+returns-in-Mark-clause-goes g c = grind (arith, common_steps)
+
+pub returns-in-Messages-clause-goes : goal.returns-in-Messages-clause-goes
+returns-in-Messages-clause-goes g c = grind (arith, common_steps)

@@ -1,4 +1,5 @@
 use Rattle.std.proofs.Common.{◌∙◌, refl, ap, sym, subst, arith}
+use Rattle.std.proofs.lemmas.Grind.{common_steps}
 use Rattle.stream_messages.specs.Framing.{FramerState}
 use Rattle.stream_messages.proofs.Ways.{WayGoes, way_begins, way_on, way_gave, way_not_ready, way_failed, way_ends, later_on, later_not}
 use Rattle.stream_messages.proofs.lane.read_on.Goals as goal
@@ -72,3 +73,6 @@ returns-in-Failed-clause-goes g c =
 
 pub returns-in-Failed-clause-kept : goal.returns-in-Failed-clause-kept
 returns-in-Failed-clause-kept g c = c.fill.ensures.kept ∙ c.loop-framer.invariant.kept
+
+pub loop-framer-smaller : goal.loop-framer-smaller
+loop-framer-smaller g c = grind (arith, common_steps)

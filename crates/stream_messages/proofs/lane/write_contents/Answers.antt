@@ -1,5 +1,6 @@
 use Rattle.std.proofs.Common.{◌+◌, ◌-◌, ◌≤◌, length, take, drop, arith}
 use Rattle.std.proofs.lemmas.List.{length-take, take-take}
+use Rattle.std.proofs.lemmas.Grind.{common_steps}
 use Rattle.stream_messages.proofs.Stripping.{takes_length, passes_content}
 use Rattle.stream_messages.proofs.Writes.{only_length, with_content, not_written, failed_write_below}
 use Rattle.stream_messages.proofs.lane.write_contents.Goals as goal
@@ -28,3 +29,30 @@ pub returns-in-Failed-clause-goes : goal.returns-in-Failed-clause-goes
 returns-in-Failed-clause-goes g c =
     let head = c.behind_length-behind.result.1 in
     failed_write_below (g.H.Hub.tells c.args.hub.now) (g.H.Hub.tells c.write.new.self) c.args.k c.args.side c.args.stripper.now c.args.from.now (take ((head + c.min-count.result) - head) (drop head c.args.from.now)) c.in-Failed.ensures.leads
+
+pub returns-in-Failed-clause-later : goal.returns-in-Failed-clause-later
+returns-in-Failed-clause-later g c = grind (arith, common_steps)
+
+pub returns-in-NotReady-clause-wait : goal.returns-in-NotReady-clause-wait
+returns-in-NotReady-clause-wait g c = grind (arith, common_steps)
+
+pub returns-in-NotReady-clause-later : goal.returns-in-NotReady-clause-later
+returns-in-NotReady-clause-later g c = grind (arith, common_steps)
+
+pub returns-in-Took-clause-wait : goal.returns-in-Took-clause-wait
+returns-in-Took-clause-wait g c = grind (arith, common_steps)
+
+pub returns-in-Failed-clause-cause : goal.returns-in-Failed-clause-cause
+returns-in-Failed-clause-cause g c = grind (arith, common_steps)
+
+pub returns-in-Failed-clause-wait : goal.returns-in-Failed-clause-wait
+returns-in-Failed-clause-wait g c = grind (arith, common_steps)
+
+pub returns-in-NotReady-clause-cause : goal.returns-in-NotReady-clause-cause
+returns-in-NotReady-clause-cause g c = grind (arith, common_steps)
+
+pub returns-in-Took-clause-cause : goal.returns-in-Took-clause-cause
+returns-in-Took-clause-cause g c = grind (arith, common_steps)
+
+pub returns-in-Took-clause-later : goal.returns-in-Took-clause-later
+returns-in-Took-clause-later g c = grind (arith, common_steps)

@@ -1,5 +1,6 @@
 use Rattle.std.proofs.Common.{◌≡◌, ◌∙◌, ◌≤◌, length, take, ap, sym, arith}
 use Rattle.std.proofs.lemmas.List.{take-take, length-take, length-take-le}
+use Rattle.std.proofs.lemmas.Grind.{common_steps}
 use Rattle.stream_messages.proofs.Stripping.{sent_again}
 use Rattle.stream_messages.proofs.Writes.{with_gathered, none_gathered}
 use Rattle.stream_messages.proofs.lane.write_gathered.Goals as goal
@@ -32,3 +33,27 @@ returns-in-Took-2-clause-goes g c =
     let again = sent_again c.args.stripper.now c.args.from.now room c.gather-sent.new.into c.gather-all.result c.gather-sent.result all part c.gather-sent.ensures.full (omega (arith, few, size)) in
     with_gathered (g.H.Hub.tells c.args.hub.now) (g.H.Hub.tells c.write.new.self) c.args.k c.args.side c.args.stripper.now c.gather-sent.result.behind c.args.from.now (take filled room) n c.gather-sent.result.taken part.behind
     (take-take n filled room few ∙ (ap (λ k. take k room) (sym size) ∙ again.1)) c.in-Took.ensures.leads
+
+pub returns-in-Took-2-clause-cause : goal.returns-in-Took-2-clause-cause
+returns-in-Took-2-clause-cause g c = grind (arith, common_steps)
+
+pub slice_bounds-gather-end-in-Took-2 : goal.slice_bounds-gather-end-in-Took-2
+slice_bounds-gather-end-in-Took-2 g c = grind (arith, common_steps)
+
+pub returns-in-Took-2-clause-later : goal.returns-in-Took-2-clause-later
+returns-in-Took-2-clause-later g c = grind (arith, common_steps)
+
+pub returns-in-Took-clause-wait : goal.returns-in-Took-clause-wait
+returns-in-Took-clause-wait g c = grind (arith, common_steps)
+
+pub returns-in-Took-2-clause-within : goal.returns-in-Took-2-clause-within
+returns-in-Took-2-clause-within g c = grind (arith, common_steps)
+
+pub returns-in-Took-2-clause-wait : goal.returns-in-Took-2-clause-wait
+returns-in-Took-2-clause-wait g c = grind (arith, common_steps)
+
+pub returns-in-Took-clause-cause : goal.returns-in-Took-clause-cause
+returns-in-Took-clause-cause g c = grind (arith, common_steps)
+
+pub returns-in-Took-clause-later : goal.returns-in-Took-clause-later
+returns-in-Took-clause-later g c = grind (arith, common_steps)

@@ -3,6 +3,7 @@ use Rattle.std.proofs.lemmas.Int.{to_z-of_z}
 use Rattle.protocol_traits.specs.Heads.{Header}
 use Rattle.compact_protocol.specs.Forms.{front_stands, head_read}
 use Rattle.compact_protocol.proofs.read_forms.CompactReadFormRead.front.Goals as goal
+use Rattle.std.proofs.lemmas.Grind.{common_steps}
 
 pub returns-clause-reads : goal.returns-clause-reads
 returns-clause-reads c =
@@ -30,3 +31,21 @@ returns-clause-place c =
     let header : Header = record { name = name.name.now; mtype = front.mtype; seq = front.seq } in
     let stood = front_stands c.args.frame.now header read.0 name.behind read.1 read.2 in
     (stood.1, stood.2)
+
+pub returns-in_err-name-clause-place : goal.returns-in_err-name-clause-place
+returns-in_err-name-clause-place c = grind (arith, common_steps)
+
+pub returns-in_err-name-clause-sized : goal.returns-in_err-name-clause-sized
+returns-in_err-name-clause-sized c = grind (arith, common_steps)
+
+pub returns-in_err-mtype-clause-reads : goal.returns-in_err-mtype-clause-reads
+returns-in_err-mtype-clause-reads c = grind (arith, common_steps)
+
+pub returns-in_err-name-clause-reads : goal.returns-in_err-name-clause-reads
+returns-in_err-name-clause-reads c = grind (arith, common_steps)
+
+pub returns-in_err-mtype-clause-sized : goal.returns-in_err-mtype-clause-sized
+returns-in_err-mtype-clause-sized c = grind (arith, common_steps)
+
+pub returns-in_err-mtype-clause-place : goal.returns-in_err-mtype-clause-place
+returns-in_err-mtype-clause-place c = grind (arith, common_steps)

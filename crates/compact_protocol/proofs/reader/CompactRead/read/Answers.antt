@@ -4,6 +4,7 @@ use Rattle.thrift_value.specs.Items.{item_of}
 use Rattle.protocol_traits.specs.Follow.{after}
 use Rattle.compact_protocol.specs.Laws.{reads_ok, reads_err, reads_none, was_read}
 use Rattle.compact_protocol.proofs.reader.CompactRead.read.Goals as goal
+use Rattle.std.proofs.lemmas.Grind.{common_steps}
 
 small_rest : (frame : List ℕ) (place : ℕ) → length frame < 2 ^ 31 → length (take (length frame - place) (drop place frame)) < 2 ^ 31
 small_rest frame place h = omega (arith, length-drop {A = ℕ}, length-take {A = ℕ})
@@ -35,3 +36,6 @@ returns-in-Ok-clause-shallow c =
 
 pub returns-in-Err-clause-exact : goal.returns-in-Err-clause-exact
 returns-in-Err-clause-exact c = rw (← c.self.view_is, c.fault_at-in-Err.ensures) (reads_err _ _ _ _ (sym c.top.ensures ∙ c.in-Some.is) c.depth.ensures.depth (rw take_rest at c.in-Err.ensures.exact))
+
+pub follow-requires-clause-begun : goal.follow-requires-clause-begun
+follow-requires-clause-begun c = grind (arith, common_steps)

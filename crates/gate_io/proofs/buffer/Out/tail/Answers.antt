@@ -1,4 +1,5 @@
 use Rattle.std.proofs.Common.{rules, ◌≡◌, ◌+◌, ◌++◌, List, ℕ, take, drop, arith, ap, ◌∙◌, refl}
+use Rattle.std.proofs.lemmas.Grind.{common_steps}
 use Rattle.gate_io.specs.Buffer.{Buffer}
 use Rattle.gate_io.specs.Tails.{written_over}
 use Rattle.gate_io.proofs.Windows.{lent}
@@ -19,3 +20,9 @@ returns c =
       ),
       record { writes_back = tt; size = search rules },
     )
+
+pub make_cells-self-inside-requires-clause-room : goal.make_cells-self-inside-requires-clause-room
+make_cells-self-inside-requires-clause-room c = grind (arith, common_steps)
+
+pub invariant_of-self-lent : goal.invariant_of-self-lent
+invariant_of-self-lent c = grind (arith, common_steps)

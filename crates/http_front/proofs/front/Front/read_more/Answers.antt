@@ -1,4 +1,5 @@
 use Rattle.std.proofs.Common.{rules, ◌≡◌, ◌+◌, ◌++◌, ℕ, List, length, take, refl, ap, ◌∙◌, arith}
+use Rattle.std.proofs.lemmas.Grind.{common_steps}
 use Rattle.gate_io.specs.Tails.{written_over}
 use Rattle.gate_io.proofs.Tails.{cut_tail}
 use Rattle.gate_io.specs.Buffer.{Buffer}
@@ -34,3 +35,18 @@ returns-in-Bytes-clause-goes g c =
     (ap (λ (f : Front). f.input) c.self.view_is) (ap (λ (f : Front). record f { input = c.cut.new.self.bytes }) c.self.view_is) in
     goes_call (g.H.Hub.tells c.args.inner.now) (g.H.Hub.tells c.read-got.new.self) c.args.k (Read c.args.k side.Client (length c.tail.result.now) (got.Bytes c.in-Bytes.more)) (LinkReads c.read-got.new.into (got.Bytes c.in-Bytes.more)) _
     (reads_more (got.Bytes c.in-Bytes.more) c.args.self.now _ c.read-got.new.into (omega (arith, c.requires.some, c.requires.few)) is.1) c.in-Bytes.ensures.leads
+
+pub invariant_of-self : goal.invariant_of-self
+invariant_of-self g c = grind (arith, common_steps)
+
+pub returns-in-NotReady : goal.returns-in-NotReady
+returns-in-NotReady g c = grind (arith, common_steps)
+
+pub cut-requires : goal.cut-requires
+cut-requires g c = grind (arith, common_steps)
+
+pub cut-requires-in-NotReady : goal.cut-requires-in-NotReady
+cut-requires-in-NotReady g c = grind (arith, common_steps)
+
+pub invariant_of-self-in-NotReady : goal.invariant_of-self-in-NotReady
+invariant_of-self-in-NotReady g c = grind (arith, common_steps)

@@ -1,4 +1,5 @@
-use Rattle.std.proofs.Common.{◌+◌, ◌-◌, drop, refl, ap, ◌∙◌, subst}
+use Rattle.std.proofs.Common.{arith, ◌+◌, ◌-◌, drop, refl, ap, ◌∙◌, subst}
+use Rattle.std.proofs.lemmas.Grind.{common_steps}
 use Rattle.gate_io.specs.Buffer.{Buffer}
 use Rattle.gate_hub.specs.declared.hub.LinkPut.{LinkPut}
 use Rattle.http_front.specs.Fronts.{Front}
@@ -41,3 +42,15 @@ returns-in-Failed-clause-goes g c =
           (ap (λ (f : Front). record f { stage = stage.Response c.args.size (c.args.sent + c.write_through-count.result.0) c.args.last }) c.self.view_is) c.write_through-count.ensures.goes,
       refl,
     )
+
+pub write_through-count-requires : goal.write_through-count-requires
+write_through-count-requires c = grind (arith, common_steps)
+
+pub returns-in-Took-clause-within : goal.returns-in-Took-clause-within
+returns-in-Took-clause-within c = grind (arith, common_steps)
+
+pub drop_front-requires : goal.drop_front-requires
+drop_front-requires c = grind (arith, common_steps)
+
+pub overflow_sub-size : goal.overflow_sub-size
+overflow_sub-size c = grind (arith, common_steps)

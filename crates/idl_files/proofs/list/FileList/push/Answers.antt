@@ -4,6 +4,7 @@ use Rattle.idl_names.specs.declared.documents.FileDoc.{FileDoc}
 use Rattle.idl_files.specs.Listing.{place_of}
 use Rattle.idl_files.proofs.Placing.{names_pushed}
 use Rattle.idl_files.proofs.list.FileList.push.Goals as goal
+use Rattle.std.proofs.lemmas.Grind.{common_steps}
 
 pub invariant_of-self-2 : goal.invariant_of-self-2
 invariant_of-self-2 c =
@@ -15,3 +16,6 @@ invariant_of-self-2 c =
           (c.in_ok-key.ensures.items ∙ c.as_slice.ensures) c.self.invariant.0 fresh pushed,
       omega (arith, room, ap length pushed, length-append c.self.inside.docs.items (f ∷ [])),
     )
+
+pub returns : goal.returns
+returns c = grind (arith, common_steps)

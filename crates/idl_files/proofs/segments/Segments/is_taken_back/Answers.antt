@@ -1,7 +1,8 @@
-use Rattle.std.proofs.Common.{◌≡◌, ◌&&◌, ◌-◌, List, ℕ, Some, length, slice_get, sym, ◌∙◌, ap}
+use Rattle.std.proofs.Common.{arith, ◌≡◌, ◌&&◌, ◌-◌, List, ℕ, Some, length, slice_get, sym, ◌∙◌, ap}
 use Rattle.idl_files.specs.Names.{ends_plain, is_plain}
 use Rattle.idl_files.proofs.Cutting.{last_plain}
 use Rattle.idl_files.proofs.segments.Segments.is_taken_back.Goals as goal
+use Rattle.std.proofs.lemmas.Grind.{common_steps}
 
 pub returns-in-Some : goal.returns-in-Some
 returns-in-Some c =
@@ -11,3 +12,6 @@ returns-in-Some c =
     ∙ ap is_plain c.as_slice.ensures
     ∙ sym (last_plain c.args.self.now c.in-Some.last.now (sym last))
     ∙ ap (λ t. t && ends_plain c.args.self.now) (sym c.if-not-is_up.false ∙ c.is_up.ensures)
+
+pub returns-in-None : goal.returns-in-None
+returns-in-None c = grind (arith, common_steps)

@@ -1,4 +1,5 @@
 use Rattle.std.proofs.Common.{◌≡◌, ℕ, sym, subst, arith}
+use Rattle.std.proofs.lemmas.Grind.{common_steps}
 use Rattle.thrift_value.specs.declared.kind.Kind.TheVariants as kinds
 use Rattle.protocol_traits.specs.Forms.{pairs_item}
 use Rattle.json_protocol.specs.Values.{map_head_at, value_at}
@@ -22,3 +23,6 @@ returns-clause-steps c =
     level_read c.args.frame.now c.args.at c.in_ok-behind.behind c.args.stand kinds.Map (pairs_item p.key p.value p.size)
     (λ hint. subst (λ (n : ℕ). Valued c.args.frame.now c.args.at c.args.stand (value_at (stand_key c.args.stand) hint kinds.Map) (pairs_item p.key p.value n) c.in_ok-behind.behind) (sym none)
     (no_pairs_there c.args.frame.now c.args.at c.in_ok-place.place p.behind c.in_ok-behind.behind c.args.stand p.key p.value c.in_ok-place.ensures e.bracket found c.in_ok-behind.ensures hint))
+
+pub returns-clause-past : goal.returns-clause-past
+returns-clause-past c = grind (arith, common_steps)

@@ -3,6 +3,7 @@ use Rattle.std.specs.Int.{w32, w64}
 use Rattle.std.specs.Fmt.{signed_decimal}
 use Rattle.std.proofs.lemmas.Fmt.{length_signed_le}
 use Rattle.std.proofs.lemmas.Int.{to_z-of_z}
+use Rattle.std.proofs.lemmas.Grind.{common_steps}
 use Rattle.json_text.specs.Lengths.{text_long}
 use Rattle.json_text.specs.Plain.{text_spelling}
 use Rattle.json_protocol.proofs.write_forms.JsonWriteFormWrite.front.Goals as goal
@@ -61,3 +62,6 @@ returns-clause-short c =
       c.lay_int-end.ensures.place,
       c.lay.ensures.place,
     )
+
+pub returns-clause-spells : goal.returns-clause-spells
+returns-clause-spells c = grind (arith, common_steps)

@@ -1,4 +1,5 @@
 use Rattle.std.proofs.Common.{◌≡◌, ◌+◌, ◌≤◌, true, [], ℕ, length, arith, refl, sym, ◌∙◌, subst}
+use Rattle.std.proofs.lemmas.Grind.{common_steps}
 use Rattle.framed_transport.specs.Held.{Held}
 use Rattle.line_transport.specs.Cuts.{Spans}
 use Rattle.line_transport.specs.Front.{behind, line_front, is_blank_front}
@@ -29,3 +30,6 @@ lines-preserved c =
       spans = spans_more c.args.self.now.limit c.args.self.now.held c.lines.self.held c.drop_line.new.self.held c.lines.invariant.spans
           (subst (λ (n : ℕ). Spans Lines n c.lines.self.held [] c.drop_line.new.self.held) c.lines.invariant.limit s.spans);
     }
+
+pub returns : goal.returns
+returns c = grind (arith, common_steps)

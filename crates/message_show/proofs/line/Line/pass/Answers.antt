@@ -1,4 +1,5 @@
-use Rattle.std.proofs.Common.{◌≡◌, [], false, refl, ap, sym, ◌∙◌}
+use Rattle.std.proofs.Common.{arith, ◌≡◌, [], false, refl, ap, sym, ◌∙◌}
+use Rattle.std.proofs.lemmas.Grind.{common_steps}
 use Rattle.message_show.specs.Pieces.{Waiting, output}
 use Rattle.message_show.proofs.Told.{told_passed, told_broke}
 use Rattle.message_show.proofs.line.Line.pass.Goals as goal
@@ -20,3 +21,6 @@ returns-in-Failed g c =
       told = λ from text h. rw c.emptied.ensures (told_broke from (output (sink.written c.args.out.now) (sink.faults c.args.out.now)) (output (sink.written c.write_all.new.sink) (sink.faults c.write_all.new.sink))
           c.args.self [] text c.args.piece.now free c.requires c.write_all.ensures.front c.write_all.ensures.later (c.in-Failed.ensures.cause refl) h);
     }
+
+pub returns-then-self : goal.returns-then-self
+returns-then-self g c = grind (arith, common_steps)

@@ -1,11 +1,12 @@
 use Rattle.gate_hub.specs.Meaning.{Wrote}
 use Rattle.gate_hub.specs.Hubs.{LinkWrites}
 use Rattle.mio_edge.proofs.Telling.{call_leads_over, writes_follow}
-use Rattle.std.proofs.Common.{length, sym, subst}
+use Rattle.std.proofs.Common.{arith, length, sym, subst}
 use Rattle.mio_edge.specs.Winding.{SocketsWind}
 use Rattle.mio_edge.specs.Turning.{SocketsJoin}
 use Rattle.mio_edge.specs.Fixed.{SocketsSame}
 use Rattle.mio_edge.proofs.hub.MioHubHub.write.Goals as goal
+use Rattle.std.proofs.lemmas.Grind.{common_steps}
 
 pub returns-clause-leads : goal.returns-clause-leads
 returns-clause-leads g c =
@@ -19,3 +20,12 @@ returns-clause-joins g c = subst (λ sockets. SocketsJoin c.args.self.now.socket
 
 pub returns-clause-same : goal.returns-clause-same
 returns-clause-same g c = subst (λ sockets. SocketsSame c.args.self.now.sockets sockets) (sym c.count_put.ensures.sockets) c.write-put.ensures.same
+
+pub returns-clause-later : goal.returns-clause-later
+returns-clause-later g c = grind (arith, common_steps)
+
+pub returns-clause-wait : goal.returns-clause-wait
+returns-clause-wait g c = grind (arith, common_steps)
+
+pub returns-clause-cause : goal.returns-clause-cause
+returns-clause-cause g c = grind (arith, common_steps)

@@ -1,8 +1,9 @@
-use Rattle.std.proofs.Common.{ℕ, ◌<◌, ◌-◌, ◌^◌, refl, sym, subst}
+use Rattle.std.proofs.Common.{arith, ℕ, ◌<◌, ◌-◌, ◌^◌, refl, sym, subst}
 use Rattle.mio_edge.specs.Closing.{winds_nowhere}
 use Rattle.mio_edge.specs.Numbers.{Passes}
 use Rattle.mio_edge.proofs.Worlds.{here_then, nothing_handed}
 use Rattle.mio_edge.proofs.listening.Listening.accept.Goals as goal
+use Rattle.std.proofs.lemmas.Grind.{common_steps}
 
 pub returns-then-ne : goal.returns-then-ne
 returns-then-ne g c =
@@ -90,3 +91,9 @@ returns g c =
       stepped = λ stepped. stepped;
       same = refl;
     }
+
+pub open_session-requires : goal.open_session-requires
+open_session-requires g c = grind (arith, common_steps)
+
+pub accept-requires : goal.accept-requires
+accept-requires g c = grind (arith, common_steps)

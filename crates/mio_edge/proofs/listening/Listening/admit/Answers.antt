@@ -1,4 +1,4 @@
-use Rattle.std.proofs.Common.{subst, sym}
+use Rattle.std.proofs.Common.{arith, subst, sym}
 use Rattle.mio_edge.specs.Tables.{TableTells}
 use Rattle.mio_edge.specs.Turns.{IsIdleAt}
 use Rattle.mio_edge.specs.Closing.{WindsBesideIfAny}
@@ -12,6 +12,7 @@ use Rattle.mio_edge.specs.Numbered.{StayBelowBeside}
 use Rattle.mio_edge.proofs.Stepping.{stepped_further, free_stepped, opened_stepped}
 use Rattle.mio_edge.specs.Stepping.{OthersSteppedIfAny}
 use Rattle.mio_edge.proofs.listening.Listening.admit.Goals as goal
+use Rattle.std.proofs.lemmas.Grind.{common_steps}
 
 pub returns-then-not-link-clause-kept : goal.returns-then-not-link-clause-kept
 returns-then-not-link-clause-kept g c = λ is world told.
@@ -160,3 +161,21 @@ returns-clause-stepped g c = λ stepped.
     let d = c.link.new.self.table.sessions in
     let e = c.announce.new.self.sessions in
     free_stepped place e c.release-2.new.self.sessions (stepped_further place d e (stepped_further place b d (c.in-Some.ensures.stepped stepped) c.link.ensures.others) c.announce.ensures.others) c.release-2.ensures.others c.release-2.ensures.free
+
+pub returns-clause-opens : goal.returns-clause-opens
+returns-clause-opens g c = grind (arith, common_steps)
+
+pub returns-then-not-link-clause-opens : goal.returns-then-not-link-clause-opens
+returns-then-not-link-clause-opens g c = grind (arith, common_steps)
+
+pub returns-then-announce-clause-turns : goal.returns-then-announce-clause-turns
+returns-then-announce-clause-turns g c = grind (arith, common_steps)
+
+pub returns-in_default-clause-opens : goal.returns-in_default-clause-opens
+returns-in_default-clause-opens g c = grind (arith, common_steps)
+
+pub returns-then-announce-clause-kept : goal.returns-then-announce-clause-kept
+returns-then-announce-clause-kept g c = grind (arith, common_steps)
+
+pub returns-then-announce-clause-refused : goal.returns-then-announce-clause-refused
+returns-then-announce-clause-refused g c = grind (arith, common_steps)

@@ -1,7 +1,8 @@
-use Rattle.std.proofs.Common.{◌∙◌}
+use Rattle.std.proofs.Common.{arith, ◌∙◌}
 use Rattle.mio_edge.proofs.Closing.{others_on}
 use Rattle.mio_edge.specs.Lines.{same_turns_on}
 use Rattle.mio_edge.proofs.listening.Listening.connect_all.Goals as goal
+use Rattle.std.proofs.lemmas.Grind.{common_steps}
 
 pub loop-at-preserved : goal.loop-at-preserved
 loop-at-preserved g c =
@@ -14,3 +15,9 @@ loop-at-preserved g c =
       same = c.connect.ensures.same ∙ c.loop-at.invariant.same;
       connecting = c.connect.ensures.connecting ∙ c.loop-at.invariant.connecting;
     }
+
+pub returns-clause-below : goal.returns-clause-below
+returns-clause-below g c = grind (arith, common_steps)
+
+pub loop-at-init : goal.loop-at-init
+loop-at-init g c = grind (arith, common_steps)

@@ -1,8 +1,9 @@
 use Rattle.mio_edge.proofs.Closing.{others_on}
 use Rattle.mio_edge.specs.Lines.{same_turns_on}
-use Rattle.std.proofs.Common.{refl, ◌∙◌}
+use Rattle.std.proofs.Common.{arith, refl, ◌∙◌}
 use Rattle.mio_edge.specs.Fixed.{fixed_kept}
 use Rattle.mio_edge.proofs.listening.Listening.link.Goals as goal
+use Rattle.std.proofs.lemmas.Grind.{common_steps}
 
 pub returns-then-eq-clause-prepared : goal.returns-then-eq-clause-prepared
 returns-then-eq-clause-prepared g c = λ k telling says ready. c.attach.ensures.prepared k says (c.defer.ensures.prepared k ready)
@@ -45,3 +46,6 @@ returns-then-eq-clause-below g c = λ next below. c.attach.ensures.below next (c
 
 pub returns-clause-below : goal.returns-clause-below
 returns-clause-below g c = λ next below. c.connect_all.ensures.below next (c.attach-2.ensures.below next below)
+
+pub returns-then-not-attach-clause-below : goal.returns-then-not-attach-clause-below
+returns-then-not-attach-clause-below g c = grind (arith, common_steps)

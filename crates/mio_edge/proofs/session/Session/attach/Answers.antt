@@ -3,6 +3,7 @@ use Rattle.std.specs.Vec.{vec_len}
 use Rattle.mio_edge.specs.Connecting.{IsConnectedAt}
 use Rattle.mio_edge.proofs.Sessions.{at_port_begins, session_new, here, past, not_here, get_set_same, get_within}
 use Rattle.mio_edge.proofs.session.Session.attach.Goals as goal
+use Rattle.std.proofs.lemmas.Grind.{common_steps}
 
 pub returns-in-Some-clause-begins : goal.returns-in-Some-clause-begins
 returns-in-Some-clause-begins g c = λ told says.
@@ -21,3 +22,9 @@ pub returns-in-None-clause-connects : goal.returns-in-None-clause-connects
 returns-in-None-clause-connects g c = λ x at.
     let long : vec_len c.args.self.now.ports ≡ length c.args.self.now.ports.items = omega (arith, c.args.self.now.ports.ok.0) in
     absurd (not_here x (past c.args.self.now.ports.items _ c.args.port long c.in-None.ensures.variant.1) at)
+
+pub returns-in-None-clause-there : goal.returns-in-None-clause-there
+returns-in-None-clause-there g c = grind (arith, common_steps)
+
+pub returns-in-Some-clause-there : goal.returns-in-Some-clause-there
+returns-in-Some-clause-there g c = grind (arith, common_steps)

@@ -5,6 +5,7 @@ use Rattle.gate_hub.specs.declared.hub.LinkGot.TheVariants as got
 use Rattle.mio_edge.proofs.Ports.{reads_nothing}
 use Rattle.mio_edge.proofs.Sessions.{session_reads, session_nowhere, reads_nowhere, here, past, not_here, still_open, none_read}
 use Rattle.mio_edge.proofs.session.Session.read.Goals as goal
+use Rattle.std.proofs.lemmas.Grind.{common_steps}
 
 pub returns-in_default-clause-leads : goal.returns-in_default-clause-leads
 returns-in_default-clause-leads g c = λ may.
@@ -51,3 +52,9 @@ returns-in_default-got-clause-waits g c = λ x spent at unread.
 
 pub returns-in_default-got-clause-spends : goal.returns-in_default-got-clause-spends
 returns-in_default-got-clause-spends g c = omega (arith, none_read c.read-got.result c.in_default-got.not-Bytes)
+
+pub returns-in-Bytes-clause-still : goal.returns-in-Bytes-clause-still
+returns-in-Bytes-clause-still g c = grind (arith, common_steps)
+
+pub read-got-requires : goal.read-got-requires
+read-got-requires g c = grind (arith, common_steps)

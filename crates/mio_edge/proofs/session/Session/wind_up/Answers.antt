@@ -28,3 +28,6 @@ returns-clause-told g c =
     let new = c.wind_up_all.new.ports in
     let same : take old.len (new ++ drop (length new) old.items) ≡ new = grind (arith, common_steps) in
     subst (λ xs. EachPort (λ port. TellsItsEnd port) xs) (sym same) c.wind_up_all.ensures.told
+
+pub returns-clause-gone : goal.returns-clause-gone
+returns-clause-gone g c = grind (arith, common_steps)

@@ -1,9 +1,10 @@
-use Rattle.std.proofs.Common.{refl}
+use Rattle.std.proofs.Common.{arith, refl}
 use Rattle.mio_edge.proofs.Worlds.{admitted_opens, admitted_keeps}
 use Rattle.mio_edge.proofs.Winding.{sockets_moved, sockets_same}
 use Rattle.mio_edge.proofs.Turning.{admitted_turned, sockets_turn_same}
 use Rattle.mio_edge.specs.Fixed.{fixed_there, fixed_same}
 use Rattle.mio_edge.proofs.sockets.Sockets.accept_next.Goals as goal
+use Rattle.std.proofs.lemmas.Grind.{common_steps}
 
 pub returns-in-Some-clause-opens : goal.returns-in-Some-clause-opens
 returns-in-Some-clause-opens g c = admitted_opens g.W.Network.is_telling g.W.Stream.Stream.tells g.W.Network.is_shared c.args.self.now _ c.in-Some.listening c.accept.new.self c.accept.result c.in-Some.is refl c.accept.ensures.connecting c.accept.ensures.opens c.accept.ensures.stepped c.accept.ensures.number refl c.accept.ensures.raised
@@ -30,3 +31,6 @@ returns-in-None-clause-turn g c = sockets_turn_same g.W.Network.is_telling g.W.S
 
 pub returns-in-None-clause-same : goal.returns-in-None-clause-same
 returns-in-None-clause-same g c = fixed_same c.args.self.now _ refl
+
+pub returns-in-None-clause-keeps : goal.returns-in-None-clause-keeps
+returns-in-None-clause-keeps g c = grind (arith, common_steps)

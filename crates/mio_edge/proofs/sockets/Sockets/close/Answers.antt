@@ -1,9 +1,10 @@
-use Rattle.std.proofs.Common.{refl}
+use Rattle.std.proofs.Common.{arith, refl}
 use Rattle.mio_edge.proofs.Winding.{sockets_moved, sockets_close, sockets_same}
 use Rattle.mio_edge.proofs.Turning.{sockets_joined, sockets_join_same}
 use Rattle.mio_edge.specs.Fixed.{fixed_there, fixed_kept, fixed_same}
 use Rattle.mio_edge.proofs.Numbered.{all_stay_below}
 use Rattle.mio_edge.proofs.sockets.Sockets.close.Goals as goal
+use Rattle.std.proofs.lemmas.Grind.{common_steps}
 
 pub returns-in-Some-clause-winds : goal.returns-in-Some-clause-winds
 returns-in-Some-clause-winds g c =
@@ -36,3 +37,9 @@ returns-in_default-clause-joins g c = sockets_join_same c.args.self.now _ refl
 
 pub returns-in_default-clause-same : goal.returns-in_default-clause-same
 returns-in_default-clause-same g c = fixed_same c.args.self.now _ refl
+
+pub returns-in_default-clause-leads : goal.returns-in_default-clause-leads
+returns-in_default-clause-leads g c = grind (arith, common_steps)
+
+pub returns-in_default-clause-sends : goal.returns-in_default-clause-sends
+returns-in_default-clause-sends g c = grind (arith, common_steps)

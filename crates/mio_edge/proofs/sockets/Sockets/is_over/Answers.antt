@@ -1,10 +1,11 @@
-use Rattle.std.proofs.Common.{[], None, refl, sym, ap, subst}
+use Rattle.std.proofs.Common.{arith, [], None, refl, sym, ap, subst}
 use Rattle.mio_edge.specs.Closing.{Winds, winds_nowhere}
 use Rattle.mio_edge.specs.Lines.{moves_nowhere}
 use Rattle.mio_edge.proofs.Turning.{sockets_turned, sockets_turn_same}
 use Rattle.mio_edge.proofs.Winding.{sockets_moved, sockets_same}
 use Rattle.mio_edge.specs.Fixed.{fixed_there, fixed_same}
 use Rattle.mio_edge.proofs.sockets.Sockets.is_over.Goals as goal
+use Rattle.std.proofs.lemmas.Grind.{common_steps}
 
 pub returns-in-Some-clause-winds : goal.returns-in-Some-clause-winds
 returns-in-Some-clause-winds g c =
@@ -35,3 +36,9 @@ returns-in-None-clause-turn g c = sockets_turn_same g.W.Network.is_telling g.W.S
 
 pub returns-in-None-clause-same : goal.returns-in-None-clause-same
 returns-in-None-clause-same g c = fixed_same c.args.self.now _ refl
+
+pub returns-in-None-clause-keeps : goal.returns-in-None-clause-keeps
+returns-in-None-clause-keeps g c = grind (arith, common_steps)
+
+pub returns-in-Some-clause-sent : goal.returns-in-Some-clause-sent
+returns-in-Some-clause-sent g c = grind (arith, common_steps)

@@ -1,10 +1,11 @@
-use Rattle.std.proofs.Common.{refl}
+use Rattle.std.proofs.Common.{arith, refl}
 use Rattle.mio_edge.proofs.Worlds.{listening_names}
 use Rattle.mio_edge.proofs.Winding.{sockets_moved, sockets_same}
 use Rattle.mio_edge.proofs.Turning.{sockets_turned, sockets_turn_same}
 use Rattle.mio_edge.specs.Fixed.{fixed_there, fixed_kept, fixed_same}
 use Rattle.mio_edge.proofs.Numbered.{all_stay_below}
 use Rattle.mio_edge.proofs.sockets.Sockets.next_named.Goals as goal
+use Rattle.std.proofs.lemmas.Grind.{common_steps}
 
 pub returns-in-Some-clause-names : goal.returns-in-Some-clause-names
 returns-in-Some-clause-names g c = listening_names g.W.Network.is_telling g.W.Stream.Stream.tells c.args.self.now _ c.in-Some.listening (record c.in-Some.listening { table = c.next_ready.new.self }) c.next_ready.result c.in-Some.is refl refl c.next_ready.ensures.names c.next_ready.ensures.stepped refl refl
@@ -33,3 +34,6 @@ returns-in-None-clause-turn g c = sockets_turn_same g.W.Network.is_telling g.W.S
 
 pub returns-in-None-clause-same : goal.returns-in-None-clause-same
 returns-in-None-clause-same g c = fixed_same c.args.self.now _ refl
+
+pub returns-in-None-clause-names : goal.returns-in-None-clause-names
+returns-in-None-clause-names g c = grind (arith, common_steps)

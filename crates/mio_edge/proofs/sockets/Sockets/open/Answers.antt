@@ -9,6 +9,7 @@ use Rattle.mio_edge.specs.Targets.{LeadTo}
 use Rattle.mio_edge.proofs.Leading.{leads_many}
 use Rattle.mio_edge.specs.Stepping.{AreStepped}
 use Rattle.mio_edge.proofs.sockets.Sockets.open.Goals as goal
+use Rattle.std.proofs.lemmas.Grind.{common_steps}
 
 pub returns-clause-begins : goal.returns-clause-begins
 returns-clause-begins g c = λ done world told. (
@@ -87,3 +88,9 @@ returns-in_default-began g c =
       leads = λ is. absurd (off is);
       listens = λ is. absurd (off is);
     }
+
+pub returns-clause-keeps : goal.returns-clause-keeps
+returns-clause-keeps g c = grind (arith, common_steps)
+
+pub returns-clause-place : goal.returns-clause-place
+returns-clause-place g c = grind (arith, common_steps)

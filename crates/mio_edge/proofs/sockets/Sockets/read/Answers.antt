@@ -1,4 +1,4 @@
-use Rattle.std.proofs.Common.{refl}
+use Rattle.std.proofs.Common.{arith, refl}
 use Rattle.mio_edge.proofs.Winding.{sockets_told, sockets_same}
 use Rattle.mio_edge.proofs.Turning.{sockets_joined, sockets_join_same}
 use Rattle.mio_edge.specs.Fixed.{fixed_there, fixed_kept, fixed_same}
@@ -6,6 +6,7 @@ use Rattle.mio_edge.proofs.Numbered.{all_stay_below}
 use Rattle.gate_hub.specs.Hubs.{LinkReads}
 use Rattle.mio_edge.proofs.Worlds.{listening_calls}
 use Rattle.mio_edge.proofs.sockets.Sockets.read.Goals as goal
+use Rattle.std.proofs.lemmas.Grind.{common_steps}
 
 pub returns-in-Some-clause-winds : goal.returns-in-Some-clause-winds
 returns-in-Some-clause-winds g c =
@@ -38,3 +39,6 @@ returns-in-None-clause-joins g c = sockets_join_same c.args.self.now _ refl
 
 pub returns-in-None-clause-same : goal.returns-in-None-clause-same
 returns-in-None-clause-same g c = fixed_same c.args.self.now _ refl
+
+pub returns-in-None-clause-leads : goal.returns-in-None-clause-leads
+returns-in-None-clause-leads g c = grind (arith, common_steps)

@@ -3,6 +3,7 @@ use Rattle.gate_base.specs.Causes.{Rose}
 use Rattle.gate_hub.specs.declared.hub.Began.TheVariants as began
 use Rattle.mio_edge.proofs.Advancing.{failed_begins, unfound_begins, done_fails, done_unfound, failed_unfound, unfound_fails, not_answered, stays_counted}
 use Rattle.mio_edge.proofs.sockets.Sockets.start.Goals as goal
+use Rattle.std.proofs.lemmas.Grind.{common_steps}
 
 pub returns-in-Ok-Done : goal.returns-in-Ok-Done
 returns-in-Ok-Done g c =
@@ -63,3 +64,48 @@ returns-in-Ok-NotFound g c =
       leads = λ is. absurd (unfound_begins c.in-Ok-NotFound.at is);
       listens = λ is. absurd (unfound_begins c.in-Ok-NotFound.at is);
     }
+
+pub returns-in-Ok-OutOfMemory-2-clause-keeps : goal.returns-in-Ok-OutOfMemory-2-clause-keeps
+returns-in-Ok-OutOfMemory-2-clause-keeps g c = grind (arith, common_steps)
+
+pub returns-in-Ok-OutOfMemory-clause-accept : goal.returns-in-Ok-OutOfMemory-clause-accept
+returns-in-Ok-OutOfMemory-clause-accept g c = grind (arith, common_steps)
+
+pub returns-in-Ok-OutOfMemory-clause-place : goal.returns-in-Ok-OutOfMemory-clause-place
+returns-in-Ok-OutOfMemory-clause-place g c = grind (arith, common_steps)
+
+pub returns-in-Ok-OutOfMemory-2-clause-begins : goal.returns-in-Ok-OutOfMemory-2-clause-begins
+returns-in-Ok-OutOfMemory-2-clause-begins g c = grind (arith, common_steps)
+
+pub returns-in-Ok-OutOfMemory-clause-unfound : goal.returns-in-Ok-OutOfMemory-clause-unfound
+returns-in-Ok-OutOfMemory-clause-unfound g c = grind (arith, common_steps)
+
+pub returns-in-Ok-OutOfMemory-clause-keeps : goal.returns-in-Ok-OutOfMemory-clause-keeps
+returns-in-Ok-OutOfMemory-clause-keeps g c = grind (arith, common_steps)
+
+pub returns-in-Ok-OutOfMemory-clause-leads : goal.returns-in-Ok-OutOfMemory-clause-leads
+returns-in-Ok-OutOfMemory-clause-leads g c = grind (arith, common_steps)
+
+pub returns-in-Ok-OutOfMemory-clause-cause : goal.returns-in-Ok-OutOfMemory-clause-cause
+returns-in-Ok-OutOfMemory-clause-cause g c = grind (arith, common_steps)
+
+pub returns-in-Ok-OutOfMemory-2-clause-leads : goal.returns-in-Ok-OutOfMemory-2-clause-leads
+returns-in-Ok-OutOfMemory-2-clause-leads g c = grind (arith, common_steps)
+
+pub returns-in-Ok-OutOfMemory-2-clause-listens : goal.returns-in-Ok-OutOfMemory-2-clause-listens
+returns-in-Ok-OutOfMemory-2-clause-listens g c = grind (arith, common_steps)
+
+pub returns-in-Ok-OutOfMemory-2-clause-place : goal.returns-in-Ok-OutOfMemory-2-clause-place
+returns-in-Ok-OutOfMemory-2-clause-place g c = grind (arith, common_steps)
+
+pub returns-in-Ok-OutOfMemory-clause-listens : goal.returns-in-Ok-OutOfMemory-clause-listens
+returns-in-Ok-OutOfMemory-clause-listens g c = grind (arith, common_steps)
+
+pub returns-in-Ok-OutOfMemory-clause-begins : goal.returns-in-Ok-OutOfMemory-clause-begins
+returns-in-Ok-OutOfMemory-clause-begins g c = grind (arith, common_steps)
+
+pub returns-in-Ok-OutOfMemory-2-clause-cause : goal.returns-in-Ok-OutOfMemory-2-clause-cause
+returns-in-Ok-OutOfMemory-2-clause-cause g c = grind (arith, common_steps)
+
+pub returns-in-Ok-OutOfMemory-2-clause-unfound : goal.returns-in-Ok-OutOfMemory-2-clause-unfound
+returns-in-Ok-OutOfMemory-2-clause-unfound g c = grind (arith, common_steps)

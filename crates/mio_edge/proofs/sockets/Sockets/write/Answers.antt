@@ -1,4 +1,4 @@
-use Rattle.std.proofs.Common.{◌≡◌, refl, ◌∙◌, subst}
+use Rattle.std.proofs.Common.{arith, ◌≡◌, refl, ◌∙◌, subst}
 use Rattle.mio_edge.specs.Fixed.{fixed_there, fixed_kept, fixed_same}
 use Rattle.mio_edge.proofs.Numbered.{all_stay_below}
 use Rattle.gate_hub.specs.Hubs.{LinkWrites}
@@ -9,6 +9,7 @@ use Rattle.mio_edge.proofs.Worlds.{listening_calls}
 use Rattle.mio_edge.proofs.Winding.{sockets_same}
 use Rattle.mio_edge.proofs.Turning.{sockets_join_same}
 use Rattle.mio_edge.proofs.sockets.Sockets.write.Goals as goal
+use Rattle.std.proofs.lemmas.Grind.{common_steps}
 
 pub returns-in-Some-clause-same : goal.returns-in-Some-clause-same
 returns-in-Some-clause-same g c =
@@ -45,3 +46,9 @@ returns-in-None-clause-joins g c = sockets_join_same c.args.self.now _ refl
 
 pub returns-in-None-clause-same : goal.returns-in-None-clause-same
 returns-in-None-clause-same g c = fixed_same c.args.self.now _ refl
+
+pub returns-in-Some-clause-joins : goal.returns-in-Some-clause-joins
+returns-in-Some-clause-joins g c = grind (arith, common_steps)
+
+pub returns-in-None-clause-leads : goal.returns-in-None-clause-leads
+returns-in-None-clause-leads g c = grind (arith, common_steps)

@@ -1,9 +1,10 @@
-use Rattle.std.proofs.Common.{ℕ, ap, ◌∙◌, subst}
+use Rattle.std.proofs.Common.{arith, ℕ, ap, ◌∙◌, subst}
 use Rattle.mio_edge.specs.Tables.{Shuts}
 use Rattle.mio_edge.specs.Closing.{WindsAt, winds_on, winds_nowhere}
 use Rattle.mio_edge.specs.Order.{Grows}
 use Rattle.mio_edge.proofs.Stepping.{wound_stepped}
 use Rattle.mio_edge.proofs.table.Table.close.Goals as goal
+use Rattle.std.proofs.lemmas.Grind.{common_steps}
 
 pub returns-in-Some-clause-leads : goal.returns-in-Some-clause-leads
 returns-in-Some-clause-leads g c = λ world told some.
@@ -35,3 +36,12 @@ returns-in-Some-clause-stepped g c = λ stepped. wound_stepped c.shut-place.resu
 
 pub returns-in_default-clause-winds : goal.returns-in_default-clause-winds
 returns-in_default-clause-winds g c = winds_nowhere g.S.Stream.tells c.args.self.now.sessions
+
+pub returns-in_default-clause-sends : goal.returns-in_default-clause-sends
+returns-in_default-clause-sends g c = grind (arith, common_steps)
+
+pub returns-in_default-clause-leads : goal.returns-in_default-clause-leads
+returns-in_default-clause-leads g c = grind (arith, common_steps)
+
+pub returns-in_default-clause-joins : goal.returns-in_default-clause-joins
+returns-in_default-clause-joins g c = grind (arith, common_steps)

@@ -12,6 +12,7 @@ use Rattle.mio_edge.proofs.Places.{no_none}
 use Rattle.mio_edge.proofs.Sessions.{get_within}
 use Rattle.mio_edge.proofs.table.Table.find_sent.Goals.{in_default-via-in-None-1, in_default-via-in-Some+else-not-session, in_default-via-in-Some+then-not-session+else-not-has_unsent}
 use Rattle.mio_edge.proofs.table.Table.find_sent.Goals as goal
+use Rattle.std.proofs.lemmas.Grind.{common_steps}
 
 pub returns-in-loop-place-clause-idle : goal.returns-in-loop-place-clause-idle
 returns-in-loop-place-clause-idle g c = λ world told.
@@ -65,3 +66,6 @@ returns g c =
       some = tt;
       none = λ is. record { each = λ i place session at there. c.loop-place.invariant i place session (omega (arith, get_within closed i place at, long, c.loop-place-test.false)) at there };
     }
+
+pub returns-in-loop-place-clause-none : goal.returns-in-loop-place-clause-none
+returns-in-loop-place-clause-none g c = grind (arith, common_steps)

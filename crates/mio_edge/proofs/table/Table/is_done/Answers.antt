@@ -8,6 +8,7 @@ use Rattle.mio_edge.proofs.Entries.{some_same}
 use Rattle.mio_edge.proofs.Sessions.{get_within}
 use Rattle.mio_edge.proofs.table.Table.is_done.Goals.{in_default-via-in-None-1, in_default-via-in-Some+else-has_unsent}
 use Rattle.mio_edge.proofs.table.Table.is_done.Goals as goal
+use Rattle.std.proofs.lemmas.Grind.{common_steps}
 
 pub loop-place-init : goal.loop-place-init
 loop-place-init g c = λ i place session less. absurd (omega (arith, less))
@@ -48,3 +49,6 @@ returns-then-not-is_empty-clause-closed g c = λ is. absurd (true≢false (sym i
 
 pub returns-then-not-is_empty-clause-sent : goal.returns-then-not-is_empty-clause-sent
 returns-then-not-is_empty-clause-sent g c = λ is. absurd (true≢false (sym is))
+
+pub returns-clause-closed : goal.returns-clause-closed
+returns-clause-closed g c = grind (arith, common_steps)

@@ -1,4 +1,4 @@
-use Rattle.std.proofs.Common.{[], ◌∷◌, ◌++◌, drop, None, Some, append_assoc, refl, sym, ap, ◌∙◌, subst}
+use Rattle.std.proofs.Common.{arith, [], ◌∷◌, ◌++◌, drop, None, Some, append_assoc, refl, sym, ap, ◌∙◌, subst}
 use Rattle.mio_edge.specs.Tables.{TableTells, NamesIfAny}
 use Rattle.mio_edge.specs.Turns.{TakesFirst}
 use Rattle.mio_edge.specs.Closing.{winds_nowhere, winds_on}
@@ -9,6 +9,7 @@ use Rattle.mio_edge.proofs.Order.{turn_on}
 use Rattle.mio_edge.proofs.Tables.{drop_one}
 use Rattle.mio_edge.specs.Numbered.{IsOneOf}
 use Rattle.mio_edge.proofs.table.Table.next_ready.Goals as goal
+use Rattle.std.proofs.lemmas.Grind.{common_steps}
 
 pub returns-clause-names : goal.returns-clause-names
 returns-clause-names g c = λ world told. (world, c.loop.invariant.keeps world told, refl)
@@ -79,3 +80,9 @@ returns-in-Some-clause-number g c = λ next below. subst (λ o. IsOneOf o c.loop
 
 pub returns-in-Some-clause-stepped : goal.returns-in-Some-clause-stepped
 returns-in-Some-clause-stepped g c = λ world told stepped. c.turn_first.ensures.stepped world (c.loop.invariant.keeps world told) (c.loop.invariant.stepped world told stepped)
+
+pub returns-clause-none : goal.returns-clause-none
+returns-clause-none g c = grind (arith, common_steps)
+
+pub returns-clause-below : goal.returns-clause-below
+returns-clause-below g c = grind (arith, common_steps)

@@ -2,6 +2,7 @@ use Rattle.std.proofs.Common.{arith, length}
 use Rattle.mio_edge.proofs.Standing.{empty_tells, empty_queues}
 use Rattle.mio_edge.proofs.Standing.{no_session}
 use Rattle.mio_edge.proofs.table.Table.open.Goals as goal
+use Rattle.std.proofs.lemmas.Grind.{common_steps}
 
 pub returns-clause-empty : goal.returns-clause-empty
 returns-clause-empty g c =
@@ -13,3 +14,12 @@ returns-clause-empty g c =
 
 pub returns-clause-below : goal.returns-clause-below
 returns-clause-below g c = λ place s is. absurd (no_session g.S.Stream.tells c.in_ok-sessions.sessions c.in_ok-sessions.ensures.empty place s is)
+
+pub same-sessions : goal.same-sessions
+same-sessions g c = grind (arith, common_steps)
+
+pub returns-clause-quantum : goal.returns-clause-quantum
+returns-clause-quantum g c = grind (arith, common_steps)
+
+pub returns-clause-width : goal.returns-clause-width
+returns-clause-width g c = grind (arith, common_steps)

@@ -1,4 +1,4 @@
-use Rattle.std.proofs.Common.{length, refl, sym, ap, ◌∙◌, subst}
+use Rattle.std.proofs.Common.{arith, length, refl, sym, ap, ◌∙◌, subst}
 use Rattle.mio_edge.proofs.Standing.{stood_behind, rest_same, rest_written, put_over}
 use Rattle.mio_edge.proofs.Tables.{kept_at}
 use Rattle.mio_edge.proofs.Closing.{winds_same, flushed_at, others_put}
@@ -9,6 +9,7 @@ use Rattle.mio_edge.specs.Sessions.{EachPort}
 use Rattle.mio_edge.proofs.Places.{each_at}
 use Rattle.mio_edge.proofs.Numbered.{below_put}
 use Rattle.mio_edge.proofs.table.Table.put_behind.Goals as goal
+use Rattle.std.proofs.lemmas.Grind.{common_steps}
 
 pub returns-in-Some-clause-keeps : goal.returns-in-Some-clause-keeps
 returns-in-Some-clause-keeps g c = λ world told.
@@ -61,3 +62,9 @@ returns-in-Some-clause-below g c = below_put c.args.self.now.sessions c.args.pla
 
 pub returns-in_default-clause-winds : goal.returns-in_default-clause-winds
 returns-in_default-clause-winds g c = winds_nowhere g.S.Stream.tells c.args.self.now.sessions
+
+pub returns-in_default-clause-shut : goal.returns-in_default-clause-shut
+returns-in_default-clause-shut g c = grind (arith, common_steps)
+
+pub returns-in_default-clause-stands : goal.returns-in_default-clause-stands
+returns-in_default-clause-stands g c = grind (arith, common_steps)

@@ -1,4 +1,4 @@
-use Rattle.std.proofs.Common.{length, sym, refl, ◌∙◌, ap}
+use Rattle.std.proofs.Common.{arith, length, sym, refl, ◌∙◌, ap}
 use Rattle.gate_hub.specs.Hubs.{LinkReads}
 use Rattle.mio_edge.proofs.Standing.{stood_behind, rest_same, rest_written, unspent}
 use Rattle.mio_edge.proofs.Tables.{not_lost, not_empty, at_open, then_is, same_still}
@@ -9,6 +9,7 @@ use Rattle.mio_edge.specs.Lines.{grows_same}
 use Rattle.mio_edge.proofs.Numbered.{below_put}
 use Rattle.mio_edge.proofs.Stepping.{open_stepped, stepped_put}
 use Rattle.mio_edge.proofs.table.Table.read.Goals as goal
+use Rattle.std.proofs.lemmas.Grind.{common_steps}
 
 pub returns-in_default-clause-leads : goal.returns-in_default-clause-leads
 returns-in_default-clause-leads g c = λ world told some. absurd (not_lost g.S.Stream.tells c.args.self.now.sessions c.args.self.now.entries.items c.args.self.now.closed.items c.args.self.now.spare.items world c.args.number told.0 some (sym (c.find.ensures world told) ∙ c.in_default.is))
@@ -101,3 +102,9 @@ returns-clause-stepped g c = λ world told.
     let was = sym c.in-Some-get_mut.ensures.value in
     let is_open = open_at g.S.Stream.tells s.sessions s.entries.items s.closed.items s.spare.items world c.args.number c.in-Some.place a told.0 (sym (c.find.ensures world told) ∙ c.in-Some.is) was in
     stepped_put s.sessions c.in-Some.place a c.read-2.new.self was (λ before. open_stepped c.read-2.new.self (c.read-2.ensures.still.is_open ∙ is_open))
+
+pub read-requires : goal.read-requires
+read-requires g c = grind (arith, common_steps)
+
+pub read-requires-2 : goal.read-requires-2
+read-requires-2 g c = grind (arith, common_steps)

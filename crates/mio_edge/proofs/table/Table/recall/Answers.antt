@@ -2,6 +2,7 @@ use Rattle.std.proofs.Common.{length, ap, ◌∙◌, arith}
 use Rattle.mio_edge.proofs.Standing.{recalled}
 use Rattle.mio_edge.proofs.Turns.{recall_room}
 use Rattle.mio_edge.proofs.table.Table.recall.Goals as goal
+use Rattle.std.proofs.lemmas.Grind.{common_steps}
 
 pub loop-preserved : goal.loop-preserved
 loop-preserved g c = record {
@@ -20,3 +21,12 @@ loop-preserved g c = record {
 
 pub returns-clause-keeps : goal.returns-clause-keeps
 returns-clause-keeps g c = λ world told. (c.loop.invariant.keeps world told).0
+
+pub returns-clause-order : goal.returns-clause-order
+returns-clause-order g c = grind (arith, common_steps)
+
+pub loop-init : goal.loop-init
+loop-init g c = grind (arith, common_steps)
+
+pub returns-in_default-clause-keeps : goal.returns-in_default-clause-keeps
+returns-in_default-clause-keeps g c = grind (arith, common_steps)

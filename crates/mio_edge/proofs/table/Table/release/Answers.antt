@@ -4,6 +4,7 @@ use Rattle.mio_edge.proofs.Tables.{freed, freed_queues, spare_pushed}
 use Rattle.mio_edge.proofs.Closing.{winds_freed, others_freed}
 use Rattle.mio_edge.proofs.Numbered.{below_freed}
 use Rattle.mio_edge.proofs.table.Table.release.Goals as goal
+use Rattle.std.proofs.lemmas.Grind.{common_steps}
 
 pub returns-then-len-capacity-clause-keeps : goal.returns-then-len-capacity-clause-keeps
 returns-then-len-capacity-clause-keeps g c = λ idle world told.
@@ -57,3 +58,9 @@ returns-in_default-clause-free g c = c.in_default.ensures.updates.changed
 
 pub returns-in_default-clause-below : goal.returns-in_default-clause-below
 returns-in_default-clause-below g c = below_freed c.args.self.now.sessions c.try_remove.new.self c.args.place c.in_default.ensures.updates
+
+pub returns-in_default-clause-keeps : goal.returns-in_default-clause-keeps
+returns-in_default-clause-keeps g c = grind (arith, common_steps)
+
+pub returns-then-len-capacity-clause-spares : goal.returns-then-len-capacity-clause-spares
+returns-then-len-capacity-clause-spares g c = grind (arith, common_steps)

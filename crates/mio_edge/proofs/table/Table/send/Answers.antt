@@ -1,8 +1,9 @@
-use Rattle.std.proofs.Common.{[], refl, drop, ap, ◌∙◌}
+use Rattle.std.proofs.Common.{arith, [], refl, drop, ap, ◌∙◌}
 use Rattle.mio_edge.proofs.Tables.{drop_one}
 use Rattle.mio_edge.specs.Closing.{winds_nowhere, winds_on}
 use Rattle.mio_edge.specs.Lines.{moves_still, moves_on_further}
 use Rattle.mio_edge.proofs.table.Table.send.Goals as goal
+use Rattle.std.proofs.lemmas.Grind.{common_steps}
 
 pub loop-preserved : goal.loop-preserved
 loop-preserved g c = record {
@@ -25,3 +26,9 @@ loop-init g c = record {
   winds = winds_nowhere g.S.Stream.tells c.args.self.now.sessions;
   sent = refl;
 }
+
+pub returns-clause-sent : goal.returns-clause-sent
+returns-clause-sent g c = grind (arith, common_steps)
+
+pub returns-clause-below : goal.returns-clause-below
+returns-clause-below g c = grind (arith, common_steps)

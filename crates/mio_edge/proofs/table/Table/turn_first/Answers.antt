@@ -17,6 +17,7 @@ use Rattle.mio_edge.proofs.Order.{one_closed}
 use Rattle.mio_edge.proofs.Numbered.{below_put}
 use Rattle.mio_edge.proofs.Stepping.{open_stepped, others_stepped, stepped_put, wound_stepped}
 use Rattle.mio_edge.proofs.table.Table.turn_first.Goals as goal
+use Rattle.std.proofs.lemmas.Grind.{common_steps}
 
 pub returns-in_default-get_mut-clause-names : goal.returns-in_default-get_mut-clause-names
 returns-in_default-get_mut-clause-names g c = λ world told. let s = c.args.self.now in absurd (not_free g.S.Stream.tells s.sessions s.ready s.behind s.written (length s.spare.items) c.in-Some.place c.pop.new.self.places.items told.1 c.in-Some.ensures.first (sym c.in_default-get_mut.ensures.value))
@@ -290,3 +291,12 @@ returns-in_default-get_mut-clause-winds g c = winds_nowhere g.S.Stream.tells c.a
 
 pub returns-in_default-get_mut-clause-stepped : goal.returns-in_default-get_mut-clause-stepped
 returns-in_default-get_mut-clause-stepped g c = λ world told stepped. stepped
+
+pub returns-then-not-session-clause-first : goal.returns-then-not-session-clause-first
+returns-then-not-session-clause-first g c = grind (arith, common_steps)
+
+pub returns-in_default-clause-names : goal.returns-in_default-clause-names
+returns-in_default-clause-names g c = grind (arith, common_steps)
+
+pub returns-then-write_down-clause-taken : goal.returns-then-write_down-clause-taken
+returns-then-write_down-clause-taken g c = grind (arith, common_steps)

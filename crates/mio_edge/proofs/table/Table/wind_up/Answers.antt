@@ -1,4 +1,4 @@
-use Rattle.std.proofs.Common.{sym, ◌∙◌}
+use Rattle.std.proofs.Common.{arith, sym, ◌∙◌}
 use Rattle.mio_edge.proofs.Standing.{closed_moved, put_idle}
 use Rattle.slab.specs.Slab.{with_value}
 use Rattle.mio_edge.specs.Closing.{winds_on, winds_nowhere}
@@ -9,6 +9,7 @@ use Rattle.mio_edge.specs.Closing.{TellsItsEnd}
 use Rattle.mio_edge.proofs.Places.{each_at, each_free}
 use Rattle.mio_edge.proofs.Numbered.{below_put}
 use Rattle.mio_edge.proofs.table.Table.wind_up.Goals as goal
+use Rattle.std.proofs.lemmas.Grind.{common_steps}
 
 pub returns-in-Unsent-clause-keeps : goal.returns-in-Unsent-clause-keeps
 returns-in-Unsent-clause-keeps g c = closed_moved g.S.Stream.tells c.args.self.now c.args.place c.in-Some.session.now c.wind_up.new.self (sym c.in-Some.ensures.value) c.wind_up.ensures.still
@@ -139,3 +140,12 @@ returns-in-Gone-2-clause-below g c = λ next below. c.release.ensures.below next
 
 pub returns-in_default-clause-winds : goal.returns-in_default-clause-winds
 returns-in_default-clause-winds g c = winds_nowhere g.S.Stream.tells c.args.self.now.sessions
+
+pub returns-in-Unsent-clause-behind : goal.returns-in-Unsent-clause-behind
+returns-in-Unsent-clause-behind g c = grind (arith, common_steps)
+
+pub returns-in_default-clause-shut : goal.returns-in_default-clause-shut
+returns-in_default-clause-shut g c = grind (arith, common_steps)
+
+pub returns-in-Gone-clause-behind : goal.returns-in-Gone-clause-behind
+returns-in-Gone-clause-behind g c = grind (arith, common_steps)

@@ -1,4 +1,4 @@
-use Rattle.std.proofs.Common.{◌≡◌, ℕ, Option, Some, length, set, sym, ◌∙◌, ap, subst, inr}
+use Rattle.std.proofs.Common.{arith, ◌≡◌, ℕ, Option, Some, length, set, sym, ◌∙◌, ap, subst, inr}
 use Rattle.std.proofs.lemmas.List.{set-get_or}
 use Rattle.slab.specs.Slab.{get, with_value}
 use Rattle.gate_hub.specs.Hubs.{LinkWrites}
@@ -13,9 +13,11 @@ use Rattle.mio_edge.proofs.Standing.{unspent}
 use Rattle.mio_edge.proofs.Tables.{at_open, same_still}
 use Rattle.mio_edge.proofs.Turns.{queues_still}
 use Rattle.mio_edge.proofs.Closing.{winds_open}
+use Rattle.mio_edge.proofs.Stepping.{stepped_put, open_stepped}
 use Rattle.mio_edge.proofs.table.Table.write.Goals.{in_default-via-in-None-1, in_default-via-in-Some+else-session-number, in_default-via-in-Some+then-session-number+else-session, in_default-via-in-Some+then-session-number+then-session+else-session-2}
 use Rattle.mio_edge.proofs.table.Table.write.Goals.{in_default-via-in-Some+then-session-number+then-session+then-session-2+else-not-is_spent}
 use Rattle.mio_edge.proofs.table.Table.write.Goals as goal
+use Rattle.std.proofs.lemmas.Grind.{common_steps}
 
 -- a table in which a session stands where it stood is the same
 put_back : {S : Type 0} (table : Table S) (place : ℕ) (a : Session S) → Some a ≡ get table.sessions place → record table { sessions = with_value table.sessions place a } ≡ table
@@ -39,6 +41,12 @@ returns-clause-leads g c = λ world told some.
 pub returns-clause-winds : goal.returns-clause-winds
 returns-clause-winds g c = λ world told. winds_open g.S.Stream.tells c.args.self.now.sessions c.args.self.now.turning c.in-Some.session.now c.write.new.self (sym c.in-Some.ensures.value) c.if-session.true
 
+pub returns-clause-stepped : goal.returns-clause-stepped
+returns-clause-stepped g c = λ world told stepped.
+    let s = c.args.self.now in
+    let d = c.write.new.self in
+    stepped_put s.sessions s.turning c.in-Some.session.now d (sym c.in-Some.ensures.value) (λ was. open_stepped d (c.write.ensures.still.is_open ∙ c.if-session.true)) stepped
+
 pub returns-2 : goal.returns-2
 returns-2 g c =
     let t = g.S.Stream.tells in
@@ -59,3 +67,12 @@ returns-2 g c =
       stepped = subst (λ x. StayStepped t x b) was c.write_first.ensures.stepped;
       same = c.write_first.ensures.same ∙ ap (λ x. x.settings) was;
     }
+
+pub returns-clause-joins : goal.returns-clause-joins
+returns-clause-joins g c = grind (arith, common_steps)
+
+pub returns-clause-below : goal.returns-clause-below
+returns-clause-below g c = grind (arith, common_steps)
+
+pub write-requires : goal.write-requires
+write-requires g c = grind (arith, common_steps)

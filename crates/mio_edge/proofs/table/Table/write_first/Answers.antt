@@ -1,4 +1,4 @@
-use Rattle.std.proofs.Common.{length, sym, refl, ◌∙◌, subst, inl, inr, ap}
+use Rattle.std.proofs.Common.{arith, length, sym, refl, ◌∙◌, subst, inl, inr, ap}
 use Rattle.slab.specs.Slab.{with_value}
 use Rattle.gate_hub.specs.Hubs.{LinkWrites}
 use Rattle.mio_edge.specs.Turns.{QueuesStand}
@@ -10,6 +10,7 @@ use Rattle.mio_edge.specs.Lines.{grows_same}
 use Rattle.mio_edge.proofs.Numbered.{below_put}
 use Rattle.mio_edge.proofs.Stepping.{open_stepped, stepped_put}
 use Rattle.mio_edge.proofs.table.Table.write_first.Goals as goal
+use Rattle.std.proofs.lemmas.Grind.{common_steps}
 
 pub returns-in_default-clause-leads : goal.returns-in_default-clause-leads
 returns-in_default-clause-leads g c = λ world told some. absurd (not_lost g.S.Stream.tells c.args.self.now.sessions c.args.self.now.entries.items c.args.self.now.closed.items c.args.self.now.spare.items world c.args.number told.0 some (sym (c.find.ensures world told) ∙ c.in_default.is))
@@ -145,3 +146,12 @@ returns-clause-stepped g c = λ world told.
     let was = sym c.in-Some-get_mut.ensures.value in
     let is_open = open_at g.S.Stream.tells s.sessions s.entries.items s.closed.items s.spare.items world c.args.number c.in-Some.place a told.0 (sym (c.find.ensures world told) ∙ c.in-Some.is) was in
     stepped_put s.sessions c.in-Some.place a c.write-2.new.self was (λ before. open_stepped c.write-2.new.self ((c.write-2.ensures.still.is_open ∙ ap (λ x. x.is_open) c.write_down.ensures.rest) ∙ is_open))
+
+pub write-requires-2 : goal.write-requires-2
+write-requires-2 g c = grind (arith, common_steps)
+
+pub write-requires : goal.write-requires
+write-requires g c = grind (arith, common_steps)
+
+pub write-requires-then-not-write_down : goal.write-requires-then-not-write_down
+write-requires-then-not-write_down g c = grind (arith, common_steps)

@@ -1,4 +1,4 @@
-use Rattle.std.proofs.Common.{◌≡◌, ◌/◌, ◌%◌, length, true≢false, Some, sym, refl, ◌∙◌, ap, subst, inl}
+use Rattle.std.proofs.Common.{arith, ◌≡◌, ◌/◌, ◌%◌, length, true≢false, Some, sym, refl, ◌∙◌, ap, subst, inl}
 use Rattle.std.specs.List.{slice_get}
 use Rattle.slab.specs.Slab.{with_value}
 use Rattle.mio_edge.specs.Sessions.{PortsTell}
@@ -14,6 +14,7 @@ use Rattle.mio_edge.specs.Closing.{winds_nowhere}
 use Rattle.mio_edge.proofs.Numbered.{below_put}
 use Rattle.mio_edge.proofs.Stepping.{stepped_put, still_stepped}
 use Rattle.mio_edge.proofs.table.TableReports.report.Goals as goal
+use Rattle.std.proofs.lemmas.Grind.{common_steps}
 
 pub returns-then-report : goal.returns-then-report
 returns-then-report g c =
@@ -91,3 +92,9 @@ returns-in_default-clause-goes g c =
       (λ next below. below),
       (λ world told stepped. stepped),
     )
+
+pub returns-then-self-eq0-clause-notes : goal.returns-then-self-eq0-clause-notes
+returns-then-self-eq0-clause-notes g c = grind (arith, common_steps)
+
+pub returns-in_default-clause-notes : goal.returns-in_default-clause-notes
+returns-in_default-clause-notes g c = grind (arith, common_steps)

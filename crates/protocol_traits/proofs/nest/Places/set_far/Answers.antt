@@ -1,3 +1,5 @@
+use Rattle.std.proofs.Common.{arith}
+use Rattle.std.proofs.lemmas.Grind.{common_steps}
 use Rattle.protocol_traits.proofs.Levels.{set_far-there, set_far-keeps, set_far-others}
 use Rattle.protocol_traits.proofs.nest.Places.set_far.Goals as goal
 
@@ -9,3 +11,6 @@ returns-in-Some-clause-others c = set_far-keeps c.args.self.now c.in-Some.far c.
 
 pub returns-in-None-clause-others : goal.returns-in-None-clause-others
 returns-in-None-clause-others c = set_far-others c.args.self.now c.blank-far.result c.args.at c.args.slot c.in-None.is c.blank-far.ensures
+
+pub returns-in-None-clause-there : goal.returns-in-None-clause-there
+returns-in-None-clause-there c = grind (arith, common_steps)

@@ -1,4 +1,5 @@
-use Rattle.std.proofs.Common.{◌∙◌, ap, Some, None, refl}
+use Rattle.std.proofs.Common.{arith, ◌∙◌, ap, Some, None, refl}
+use Rattle.std.proofs.lemmas.Grind.{common_steps}
 use Rattle.session_core.specs.Working.{standing, limit_of, Goes, Took}
 use Rattle.session_core.proofs.Fitting.{fits_on}
 use Rattle.session_core.proofs.Keeping.{fits_quietly, fits_then, stood, keeps_still, keeps_on, keeps_by, works_on, works_at}
@@ -98,3 +99,12 @@ returns-then-rests-clause-fits g c =
     goes_at rules (g.J.Judge.rules c.frames.judge) (limit_of old) (limit_of s) old.calls.capacity s.calls.capacity (standing s) (standing t) told.0 None (ap g.J.Judge.rules i.same) i.keeps.ready.client.limit_is i.keeps.ready.capacity told.2 in
     fits_then rules old s t (g.N.Notes.tells c.args.notes.now c.frames.notes) (g.N.Notes.tells c.frames.notes c.step.new.notes) (g.N.Notes.tells c.args.notes.now c.step.new.notes) (λ h. h) (λ xs ys. g.met.N.Notes.follows c.args.notes.now c.frames.notes c.step.new.notes xs ys) i.fits
     (told.0, told.1, λ h past f. fits_on rules (limit_of old) old.calls.capacity h past told.0 (standing s) (standing t) goes f)
+
+pub returns-in-Some-clause-same : goal.returns-in-Some-clause-same
+returns-in-Some-clause-same g c = grind (arith, common_steps)
+
+pub returns-then-rests-clause-same : goal.returns-then-rests-clause-same
+returns-then-rests-clause-same g c = grind (arith, common_steps)
+
+pub returns-then-rests-clause-keeps : goal.returns-then-rests-clause-keeps
+returns-then-rests-clause-keeps g c = grind (arith, common_steps)

@@ -1,4 +1,5 @@
 use Rattle.std.proofs.Common.{◌≡◌, ◌≤◌, length, length-append, ◌++◌, ◌∷◌, [], arith, refl, sym, ◌∙◌, ap}
+use Rattle.std.proofs.lemmas.Grind.{common_steps}
 use Rattle.gate_io.specs.Buffer.{Buffer}
 use Rattle.circular_buffer.specs.Buffer.{Buffer as Ring}
 use Rattle.session_core.specs.declared.judge.Call.{Call}
@@ -66,3 +67,9 @@ returns-in-Opens-clause-keeps g c =
       ready = c.count_frame.ensures.ready _ _ (ready_calling s.client.held.limit s.calls.capacity (record s { upstream = record (s.upstream) { due = out } }) c.push_back.new.self (ap (λ (b : Ring Call). b.capacity) c.push_back.ensures.items) many written);
       known = knows_nothing (g.J.Judge.rules c.args.judge.now) c.count_frame.new.self (c.count_frame.ensures.kept ∙ c.requires.unknown);
     }
+
+pub judge_step-requires-in-Nothing-clause-works : goal.judge_step-requires-in-Nothing-clause-works
+judge_step-requires-in-Nothing-clause-works g c = grind (arith, common_steps)
+
+pub returns-in-Nothing-clause-same : goal.returns-in-Nothing-clause-same
+returns-in-Nothing-clause-same g c = grind (arith, common_steps)

@@ -2,6 +2,7 @@ use Rattle.std.proofs.Common.{◌≡◌, ◌≤◌, length, length-append, Optio
 use Rattle.std.specs.Int.{w32}
 use mir.Val.{SFits}
 use Rattle.std.proofs.lemmas.Int.{to_z-of_z}
+use Rattle.std.proofs.lemmas.Grind.{common_steps}
 use Rattle.gate_io.specs.Buffer.{Buffer}
 use Rattle.circular_buffer.specs.Buffer.{Buffer as Ring}
 use Rattle.session_core.specs.declared.judge.Call.{Call}
@@ -220,3 +221,6 @@ pub returns-in-Refused-clause-told : goal.returns-in-Refused-clause-told
 returns-in-Refused-clause-told g c =
     let s = c.args.self.now in
     subst (λ j. g.N.Notes.tells c.args.notes.now c.answer_step.new.notes (told_if (came c.answer_step.result c.answer_step.new.self.halt) (call_front_notes (g.J.Judge.rules j) s.client.count (front s.client.held.limit s.client.held.held)))) c.judge_client.ensures.same c.answer_step.ensures.told
+
+pub returns-in-Refused-clause-same : goal.returns-in-Refused-clause-same
+returns-in-Refused-clause-same g c = grind (arith, common_steps)

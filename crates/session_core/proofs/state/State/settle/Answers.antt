@@ -1,4 +1,5 @@
-use Rattle.std.proofs.Common.{sym, ◌∙◌, ap, subst}
+use Rattle.std.proofs.Common.{arith, sym, ◌∙◌, ap, subst}
+use Rattle.std.proofs.lemmas.Grind.{common_steps}
 use Rattle.session_core.specs.Working.{standing, ending_of, IsSettledBy}
 use Rattle.session_core.specs.Looks.{stopped}
 use Rattle.session_core.specs.declared.state.State.{State}
@@ -14,3 +15,6 @@ returns-clause-settled g c =
       still = advanced.still;
       outcome_is = ap (λ n. ending_of n (standing mid) (stopped c.advance-stop.result mid.halt)) advanced.keeps.ready.client.limit_is ∙ advanced.ending;
     })
+
+pub returns-clause-keeps : goal.returns-clause-keeps
+returns-clause-keeps g c = grind (arith, common_steps)

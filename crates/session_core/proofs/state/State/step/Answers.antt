@@ -1,4 +1,5 @@
-use Rattle.std.proofs.Common.{[], refl, ap, ◌∙◌}
+use Rattle.std.proofs.Common.{arith, [], refl, ap, ◌∙◌}
+use Rattle.std.proofs.lemmas.Grind.{common_steps}
 use Rattle.session_core.specs.Working.{standing}
 use Rattle.session_core.proofs.Moves.{took_upstream, took_client, client_at}
 use Rattle.session_core.proofs.Keeping.{works_on, works_at, keeps_on, keeps_by}
@@ -71,3 +72,12 @@ returns-in-Waits-client_step-clause-goes g c =
       g.met.N.Notes.follows _ _ _ [] [] c.in-Waits.ensures.told c.in-Waits-client_step.ensures.told,
       (comes.1 ∙ c.in-Waits.ensures.comes.1, (c.in-Waits.ensures.comes.0, same ∙ comes.0), refl),
     )
+
+pub returns-in-Waits-client_step-clause-same : goal.returns-in-Waits-client_step-clause-same
+returns-in-Waits-client_step-clause-same g c = grind (arith, common_steps)
+
+pub returns-in-Takes-client_step-clause-same : goal.returns-in-Takes-client_step-clause-same
+returns-in-Takes-client_step-clause-same g c = grind (arith, common_steps)
+
+pub returns-in-Halts-client_step-clause-same : goal.returns-in-Halts-client_step-clause-same
+returns-in-Halts-client_step-clause-same g c = grind (arith, common_steps)

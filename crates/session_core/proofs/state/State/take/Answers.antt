@@ -1,4 +1,5 @@
 use Rattle.std.proofs.Common.{◌≡◌, ◌≤◌, ◌-◌, ◌+◌, List, ℕ, [], ◌++◌, length, take, drop, arith, sym, ◌∙◌, ap, subst, refl}
+use Rattle.std.proofs.lemmas.Grind.{common_steps}
 use Rattle.session_core.specs.Standing.{History}
 use Rattle.session_core.specs.Telling.{FitsTold}
 use Rattle.session_core.specs.Session.{and_came}
@@ -77,3 +78,24 @@ pub returns-then-half-clause-fits : goal.returns-then-half-clause-fits
 returns-then-half-clause-fits g c =
     fits_quietly (g.J.Judge.rules c.args.judge.now) c.args.self.now c.args.self.now (g.N.Notes.tells c.args.notes.now c.args.notes.now) (λ h. and_came c.args.side h []) (g.met.N.Notes.stays c.args.notes.now)
     (λ h past f. subst (λ (k : History). FitsTold (g.J.Judge.rules c.args.judge.now) (limit_of c.args.self.now) c.args.self.now.calls.capacity k past (standing c.args.self.now)) (sym (came_none c.args.side h)) f)
+
+pub returns-else-room-gt0-clause-fewer : goal.returns-else-room-gt0-clause-fewer
+returns-else-room-gt0-clause-fewer g c = grind (arith, common_steps)
+
+pub returns-else-is_none-clause-whole : goal.returns-else-is_none-clause-whole
+returns-else-is_none-clause-whole g c = grind (arith, common_steps)
+
+pub returns-else-room-gt0-clause-ended : goal.returns-else-room-gt0-clause-ended
+returns-else-room-gt0-clause-ended g c = grind (arith, common_steps)
+
+pub returns-else-room-gt0-clause-whole : goal.returns-else-room-gt0-clause-whole
+returns-else-room-gt0-clause-whole g c = grind (arith, common_steps)
+
+pub returns-else-is_none-clause-fewer : goal.returns-else-is_none-clause-fewer
+returns-else-is_none-clause-fewer g c = grind (arith, common_steps)
+
+pub pieces-smaller : goal.pieces-smaller
+pieces-smaller g c = grind (arith, common_steps)
+
+pub returns-else-room-gt0-clause-over : goal.returns-else-room-gt0-clause-over
+returns-else-room-gt0-clause-over g c = grind (arith, common_steps)

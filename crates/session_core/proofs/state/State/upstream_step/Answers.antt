@@ -1,4 +1,5 @@
 use Rattle.std.proofs.Common.{◌≡◌, ◌<◌, ◌++◌, ◌∷◌, [], length, List, ℕ, drop, arith, refl, None, sym, ◌∙◌, ap, subst}
+use Rattle.std.proofs.lemmas.Grind.{common_steps}
 use Rattle.gate_io.specs.Buffer.{Buffer}
 use Rattle.framed_transport.specs.Frames.{framed}
 use Rattle.framed_transport.specs.Front.{Part, Whole, front, is_part}
@@ -122,3 +123,18 @@ returns-then-pass_reply-clause-told g c =
     subst (λ ns. g.N.Notes.tells a a ns)
     (reply_told rules s.client.held.limit (standing s) c.in-Some.field-0.now (drop 1 s.calls.items) frame rest None _ calls whole (c.pass_reply.ensures.verdict c.if-pass_reply.true) refl)
     (g.met.N.Notes.stays a)
+
+pub reply_step-requires-in-Frame : goal.reply_step-requires-in-Frame
+reply_step-requires-in-Frame g c = grind (arith, common_steps)
+
+pub returns-else-pass_reply-clause-keeps : goal.returns-else-pass_reply-clause-keeps
+returns-else-pass_reply-clause-keeps g c = grind (arith, common_steps)
+
+pub returns-else-pass_reply-clause-same : goal.returns-else-pass_reply-clause-same
+returns-else-pass_reply-clause-same g c = grind (arith, common_steps)
+
+pub returns-else-pass_reply-clause-comes : goal.returns-else-pass_reply-clause-comes
+returns-else-pass_reply-clause-comes g c = grind (arith, common_steps)
+
+pub returns-else-pass_reply-clause-told : goal.returns-else-pass_reply-clause-told
+returns-else-pass_reply-clause-told g c = grind (arith, common_steps)

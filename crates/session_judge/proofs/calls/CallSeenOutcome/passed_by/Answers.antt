@@ -1,4 +1,5 @@
 use Rattle.std.proofs.Common.{None, refl}
+use Rattle.std.proofs.lemmas.Option.{none-some}
 use Rattle.protocol_traits.specs.Heads.{Header, header_of}
 use Rattle.type_tables.specs.Declarations.{Declarations}
 use Rattle.translate_verdicts.specs.Routes.{info_of, method_by}
@@ -7,7 +8,7 @@ use Rattle.session_judge.proofs.calls.CallSeenOutcome.passed_by.Goals as goal
 pub returns-in_default-clause-taken : goal.returns-in_default-clause-taken
 returns-in_default-clause-taken c none =
     let told = rw none at c.other_seen.ensures None in
-    cc
+    none-some _ told
 
 pub returns-in_default-clause-passes : goal.returns-in_default-clause-passes
 unfolding info_of

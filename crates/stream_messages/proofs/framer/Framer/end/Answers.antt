@@ -1,5 +1,6 @@
 use Rattle.std.proofs.Common.{◌≡◌, ◌<◌, ◌∙◌, [], List, ℕ, length, arith, ap, sym, subst}
 use Rattle.std.proofs.lemmas.Bool.Decides.{nat_tests}
+use Rattle.std.proofs.lemmas.Grind.{common_steps}
 use Rattle.stream_messages.specs.Framing.{FramerState}
 use Rattle.stream_messages.proofs.Due.{all_fresh}
 use Rattle.stream_messages.proofs.Framing.{ended_inside}
@@ -14,3 +15,12 @@ returns-clause-stands c = λ wire limit received given ended stands.
     let read : length c.bytes.result.now ≡ length i.bytes.bytes = ap (λ (l : List ℕ). length l) c.bytes.ensures.bytes in
     let some : 0 < length c.bytes.result.now = grind (arith, nat_tests, c.is_empty.ensures, c.if-is_empty.false) in
     ended_inside wire limit c.args.self.now c.give_early_end.new.self received given ended c.requires.idle c.requires.messages (omega (arith, same, read, some)) c.give_early_end.ensures stands
+
+pub returns-then-is_empty-clause-stands : goal.returns-then-is_empty-clause-stands
+returns-then-is_empty-clause-stands c = grind (arith, common_steps)
+
+pub returns-then-is_empty-clause-none : goal.returns-then-is_empty-clause-none
+returns-then-is_empty-clause-none c = grind (arith, common_steps)
+
+pub returns-clause-inside : goal.returns-clause-inside
+returns-clause-inside c = grind (arith, common_steps)

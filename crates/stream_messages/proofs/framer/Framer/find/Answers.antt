@@ -1,5 +1,6 @@
 use Rattle.std.proofs.Common.{◌≡◌, ◌∙◌, [], ◌++◌, List, ℕ, length, take, drop, arith, ap, sym, subst}
 use Rattle.std.specs.Int.{w32, to_be_bytes}
+use Rattle.std.proofs.lemmas.Grind.{common_steps}
 use Rattle.stream_messages.specs.declared.framer.Behind.{Behind}
 use Rattle.stream_messages.specs.declared.framer.Behind.TheVariants as behind
 use Rattle.stream_messages.specs.Fronts.{whole, bad}
@@ -119,3 +120,18 @@ returns-in-Over-clause-stands c = λ wire limit received given ended stands.
     (tail_in i.search.wire now.wire i.search.limit now.limit c.bytes.result.now now.fresh over w l read f.begins.0)
     (c.give_mark.ensures ∙ ap (λ (s : FramerState). record s { due = mark; fresh = []; behind = behind.Nothing }) path)
     stands
+
+pub returns-in-Open-clause-stands : goal.returns-in-Open-clause-stands
+returns-in-Open-clause-stands c = grind (arith, common_steps)
+
+pub invariant_of-self-in-Over : goal.invariant_of-self-in-Over
+invariant_of-self-in-Over c = grind (arith, common_steps)
+
+pub returns-in-Over-clause-out : goal.returns-in-Over-clause-out
+returns-in-Over-clause-out c = grind (arith, common_steps)
+
+pub invariant_of-self-in-Refused : goal.invariant_of-self-in-Refused
+invariant_of-self-in-Refused c = grind (arith, common_steps)
+
+pub invariant_of-self-in-Message : goal.invariant_of-self-in-Message
+invariant_of-self-in-Message c = grind (arith, common_steps)

@@ -1,5 +1,6 @@
 use Rattle.std.proofs.Common.{◌≡◌, ◌-◌, ◌<◌, ◌≤◌, ◌++◌, length, take, drop, arith, sym, subst}
 use Rattle.std.proofs.lemmas.List.{length-drop, length-take-le}
+use Rattle.std.proofs.lemmas.Grind.{common_steps}
 use Rattle.stream_messages.specs.Framing.{IsOut}
 use Rattle.stream_messages.proofs.Links.{not_both}
 use Rattle.stream_messages.proofs.Ways.{handed}
@@ -27,3 +28,9 @@ loop-count-preserved c =
           let same = c.loop-count.invariant.none (c.loop-count.invariant.out o) in
           absurd (not_both c.has_due.result c.if-not-has_due.false (c.has_due.ensures.out (subst IsOut (sym same) o)));
     }
+
+pub returns-then-not-has_due-clause-stands : goal.returns-then-not-has_due-clause-stands
+returns-then-not-has_due-clause-stands c = grind (arith, common_steps)
+
+pub returns-then-not-has_due-clause-some : goal.returns-then-not-has_due-clause-some
+returns-then-not-has_due-clause-some c = grind (arith, common_steps)

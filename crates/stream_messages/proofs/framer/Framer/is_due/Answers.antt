@@ -1,4 +1,5 @@
 use Rattle.std.proofs.Common.{◌≡◌, ◌<◌, [], length, arith, subst, ltb-false}
+use Rattle.std.proofs.lemmas.Grind.{common_steps}
 use Rattle.stream_messages.specs.Framing.{FramerState}
 use Rattle.stream_messages.proofs.Due.{due_count, none_due}
 use Rattle.stream_messages.proofs.framer.Framer.is_due.Goals as goal
@@ -12,3 +13,6 @@ pub returns-else-self-gt0-clause-none : goal.returns-else-self-gt0-clause-none
 returns-else-self-gt0-clause-none c = λ is.
     subst (λ (s : FramerState). s.due ≡ []) c.self.view_is
     (none_due c.self.inside.due c.self.inside.bytes.bytes c.self.invariant.6 c.self.invariant.3 c.self.invariant.4 (omega (arith, c.if-self-gt0.false)) (ltb-false 0 c.self.inside.due.left is))
+
+pub returns-else-self-gt0-clause-some : goal.returns-else-self-gt0-clause-some
+returns-else-self-gt0-clause-some c = grind (arith, common_steps)

@@ -1,5 +1,6 @@
 use Rattle.std.proofs.Common.{◌≡◌, ◌∙◌, ◌+◌, ◌-◌, ◌≤◌, List, ℕ, length, take, drop, arith, ap, sym, subst}
 use Rattle.std.proofs.lemmas.List.{length-drop, length-take-le}
+use Rattle.std.proofs.lemmas.Grind.{common_steps}
 use Rattle.gate_io.specs.Buffer.{Buffer}
 use Rattle.stream_messages.specs.Searching.{Searches}
 use Rattle.stream_messages.specs.Framing.{FramerState, due_bytes}
@@ -54,3 +55,9 @@ returns-clause-left c =
     ∙ (ap (λ (d : List ℕ). record { wire = i.search.wire; limit = i.search.limit; due = d; fresh = drop (i.due.left - n) (drop n i.bytes.bytes); behind = i.behind }) due
     ∙ (ap (λ (f : List ℕ). record { wire = i.search.wire; limit = i.search.limit; due = drop (h + n) (due_bytes i.due i.bytes.bytes); fresh = f; behind = i.behind }) behind
     ∙ ap (λ (s : FramerState). record s { due = drop (h + n) s.due }) c.self.view_is))
+
+pub slice_bounds-lay-end-2 : goal.slice_bounds-lay-end-2
+slice_bounds-lay-end-2 c = grind (arith, common_steps)
+
+pub returns-clause-count : goal.returns-clause-count
+returns-clause-count c = grind (arith, common_steps)

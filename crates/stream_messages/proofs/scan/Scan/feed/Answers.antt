@@ -1,4 +1,5 @@
-use Rattle.std.proofs.Common.{◌+◌, ◌++◌, take, subst, sym, refl, append-nil}
+use Rattle.std.proofs.Common.{arith, ◌+◌, ◌++◌, take, subst, sym, refl, append-nil}
+use Rattle.std.proofs.lemmas.Grind.{common_steps}
 use Rattle.stream_messages.specs.Fronts.{whole, cut, bad}
 use Rattle.stream_messages.specs.Feeding.{HasRead}
 use Rattle.stream_messages.proofs.Pieces.{ends_at, full_at, goes_on, passes_on, from_here, before_end}
@@ -44,3 +45,6 @@ loop-at-preserved c = λ front read.
     let less = before_end c.loop-at.at c.pass-at.result piece c.loop-at-test.true c.pass-at.ensures.within in
     let o = c.in-More.ensures (front ++ take at piece) p.0 in
     goes_on _ front piece at _ _ _ _ less p.1 p.2 o.0 o.1 o.2
+
+pub returns : goal.returns
+returns c = grind (arith, common_steps)

@@ -1,5 +1,6 @@
 use Rattle.std.proofs.Common.{rules, ◌+◌, ◌≤◌, ◌<◌, ◌++◌, take, refl, ap, arith}
 use Rattle.std.proofs.lemmas.List.{length-take, take-take}
+use Rattle.std.proofs.lemmas.Grind.{common_steps}
 use Rattle.stream_messages.specs.Scanning.{Scanning}
 use Rattle.stream_messages.proofs.Pieces.{from_here, passes_on}
 use Rattle.stream_messages.proofs.Taking.{all_bytes}
@@ -28,3 +29,12 @@ returns-clause-passes c = λ front read.
     (c.pass_fields.ensures.passes (front ++ take n piece)
     (header_passed _ c.args.self.now c.self.view_is front (take most piece) piece n _ c.in-Some-Fields.field-0-0 c.requires.at.0 c.requires.at.1 (search rules) (λ up. fields_settle c.in-Some-Fields.field-0-0 up) c.in-Some.ensures
     (all_bytes most piece (λ i. omega (arith, c.type_inv.piece i))) (take-take n most piece few) refl room read))
+
+pub returns-in_default-header_size-clause-passes : goal.returns-in_default-header_size-clause-passes
+returns-in_default-header_size-clause-passes c = grind (arith, common_steps)
+
+pub slice_bounds-pass_fields-start : goal.slice_bounds-pass_fields-start
+slice_bounds-pass_fields-start c = grind (arith, common_steps)
+
+pub slice_bounds-pass_fields-count : goal.slice_bounds-pass_fields-count
+slice_bounds-pass_fields-count c = grind (arith, common_steps)

@@ -1,6 +1,7 @@
 use Rattle.std.proofs.Common.{◌<◌, List, length, refl, ap, subst, arith}
 use Rattle.std.specs.Box.{with_value}
 use Rattle.std.proofs.lemmas.List.{length-set}
+use Rattle.std.proofs.lemmas.Grind.{common_steps}
 use Rattle.gate_hub.specs.Hubs.{LinkWrites}
 use Rattle.stream_messages.specs.declared.slots.Slot.{Slot}
 use Rattle.stream_messages.specs.declared.lanes.Lanes.{Lanes}
@@ -36,3 +37,9 @@ returns-clause-goes g c =
       };
       goes = subst (λ (l : Lanes). LanesGo told told' l c.write.new.self c.args.number c.args.side (LinkWrites c.args.from.now c.write.result)) c.deref_mut.ensures.value c.write.ensures.goes;
     }
+
+pub returns-clause-none : goal.returns-clause-none
+returns-clause-none g c = grind (arith, common_steps)
+
+pub returns-in_err-at-clause-none : goal.returns-in_err-at-clause-none
+returns-in_err-at-clause-none g c = grind (arith, common_steps)

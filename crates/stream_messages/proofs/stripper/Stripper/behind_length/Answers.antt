@@ -1,6 +1,7 @@
 use Rattle.std.proofs.Common.{◌≡◌, ◌∙◌, ◌+◌, ◌-◌, ◌≤◌, List, ℕ, [], ◌++◌, length, take, refl, sym, ap, arith}
 use Rattle.std.specs.Int.{w32, from_be_bytes}
 use Rattle.std.proofs.lemmas.List.{length-take-le, take_all}
+use Rattle.std.proofs.lemmas.Grind.{common_steps}
 use borrow.Rule.Slice.PartMut.{put_mid}
 use Rattle.stream_messages.specs.Stripping.{StripperState}
 use Rattle.stream_messages.proofs.Stripping.{length_short, length_full}
@@ -42,3 +43,15 @@ returns-clause-behind c =
     length_full c.args.self.now _ (take n from) (omega (arith, ap (λ (s : StripperState). s.left) c.self.view_is, c.if-self-gt0.false)) (omega (arith, size, c.self.invariant.0))
     (omega (arith, size, length-take-le n from some, few, c.if-known-lt-LENGTH.false))
     (ap (λ (k : ℕ). record { length_bytes = []; left = k }) (c.from_be_bytes.ensures ∙ ap (λ (l : List ℕ). from_be_bytes w32 l) all))
+
+pub invariant_of-behind-2 : goal.invariant_of-behind-2
+invariant_of-behind-2 c = grind (arith, common_steps)
+
+pub invariant_of-behind : goal.invariant_of-behind
+invariant_of-behind c = grind (arith, common_steps)
+
+pub copy_from_slice-requires : goal.copy_from_slice-requires
+copy_from_slice-requires c = grind (arith, common_steps)
+
+pub slice_bounds-copy_from_slice-end : goal.slice_bounds-copy_from_slice-end
+slice_bounds-copy_from_slice-end c = grind (arith, common_steps)

@@ -1,4 +1,4 @@
-use Rattle.std.proofs.Common.{◌<◌, sym, subst, List, [], ◌∷◌, ◌++◌, length, refl}
+use Rattle.std.proofs.Common.{arith, ◌<◌, sym, subst, List, [], ◌∷◌, ◌++◌, length, refl}
 use Rattle.std.specs.Prelude.{slice_set}
 use Rattle.type_tables.specs.Adding.{Adds}
 use Rattle.type_tables.specs.Declarations.{Declarations, with_field}
@@ -7,6 +7,7 @@ use Rattle.type_tables.specs.Structs.{fields_of, structs_with}
 use Rattle.type_tables.specs.declared.tables.StructDecl.{StructDecl}
 use Rattle.type_tables.proofs.Adding.{field_added, lifted}
 use Rattle.type_tables.proofs.tables.Tables.add_field.Goals as goal
+use Rattle.std.proofs.lemmas.Grind.{elements}
 
 pub returns : goal.returns
 returns c =
@@ -29,3 +30,6 @@ returns c =
     let now = whole (slice_set ts s x) in
     let all = lifted whole (place_of field.id (fields_of ts s)) ts (slice_set ts s x) (λ (u : Unit {0}). structs_with ts s (fields_of ts s ++ field ∷ [])) (λ u. with_field (whole ts) s field) c.push.result (λ u. refl) added in
     subst (λ (old : Declarations). Adds (place_of field.id (fields_of old.structs s)) old now (λ (u : Unit {0}). with_field old s field) c.push.result) c.self.view_is all
+
+pub push-requires : goal.push-requires
+push-requires c = grind (arith, elements)

@@ -1,5 +1,6 @@
-use Rattle.std.proofs.Common.{List, sym, subst, Option}
+use Rattle.std.proofs.Common.{arith, List, sym, subst, Option}
 use Rattle.std.specs.Prelude.{IfSome}
+use Rattle.std.proofs.lemmas.Grind.{common_steps}
 use Rattle.type_walk.specs.declared.levels.Level.{Level}
 use Rattle.type_walk.specs.Known.{IsKnownLevel, AreKnown}
 use Rattle.type_walk.proofs.Sound.{known-first, known-rest}
@@ -26,3 +27,9 @@ returns-in-Values-clause-sound c =
       next = parts.0;
       below = rw c.requires.all tt;
     }
+
+pub returns-in-Values-clause-after : goal.returns-in-Values-clause-after
+returns-in-Values-clause-after c = grind (arith, common_steps)
+
+pub returns-in-Keys-clause-after : goal.returns-in-Keys-clause-after
+returns-in-Keys-clause-after c = grind (arith, common_steps)

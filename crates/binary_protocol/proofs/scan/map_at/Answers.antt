@@ -1,0 +1,16 @@
+use Rattle.std.proofs.Common.{arith}
+use Rattle.std.proofs.lemmas.Grind.{common_steps}
+use Rattle.binary_protocol.specs.Scan.{map_at}
+use Rattle.binary_protocol.proofs.scan.map_at.Goals as goal
+
+pub returns-in-Err-clause-within : goal.returns-in-Err-clause-within
+unfolding map_at
+returns-in-Err-clause-within c = grind (arith, common_steps)
+
+pub returns-in-Err-clause-exact : goal.returns-in-Err-clause-exact
+unfolding map_at
+returns-in-Err-clause-exact c = grind (arith, common_steps)
+
+pub returns-in-Ok-clause-exact : goal.returns-in-Ok-clause-exact
+unfolding map_at
+returns-in-Ok-clause-exact c = grind (arith, common_steps)

@@ -1,0 +1,12 @@
+use Rattle.std.proofs.Common.{arith}
+use Rattle.std.proofs.lemmas.Grind.{common_steps}
+use Rattle.gate_io.proofs.buffer.Out.patch.Goals as goal
+
+pub invariant_of-self : goal.invariant_of-self
+invariant_of-self c = grind (arith, common_steps)
+
+pub returns : goal.returns
+returns c = grind (arith, common_steps)
+
+pub write_four-requires-clause-inside : goal.write_four-requires-clause-inside
+write_four-requires-clause-inside c = grind (arith, common_steps)
