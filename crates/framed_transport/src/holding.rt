@@ -1,5 +1,5 @@
 //! What has come of a stream and is not taken yet.
-ghost use Rattle.std.specs.Prelude.{◌≡◌, ◌+◌, ◌-◌, ◌^◌, ◌<◌, ◌≤◌, [], ◌++◌, ℕ, List, length, take, min, IfOk, Some};
+ghost use Rattle.std.specs.Prelude.{◌≡◌, ◌+◌, ◌-◌, ◌^◌, ◌<◌, ◌≤◌, [], ◌++◌, ℕ, List, length, take, drop, min, IfOk, Some};
 ghost use Rattle.gate_base.specs.Causes.{Rose};
 ghost use Rattle.framed_transport.specs.Frames.{IsCut};
 ghost use Rattle.framed_transport.specs.Front.{front, behind, whole_size, Part, Whole};
@@ -67,6 +67,14 @@ impl FrameBuf {
         self.bytes.bytes().len()
     }
 
+    /// The bytes that are held.
+    #[inline(always)]
+    pub fn bytes(&self) -> &[u8]
+        ensures { result.now ≡ self.now.held }
+    {
+        self.bytes.bytes()
+    }
+
     /// How many more bytes can be held.
     pub fn room(&self) -> usize
         ensures room { result + length self.now.held ≡ self.now.limit + 4 }
@@ -118,6 +126,15 @@ impl FrameBuf {
         self.bytes.drop_front(size + LENGTH);
     }
 
+    /// Lets the first bytes go, so many as there must be.
+    #[inline]
+    pub fn let_go(&mut self, count: usize)
+        requires { count ≤ length self.old.held }
+        ensures { self.new ≡ record self.old { held = drop count self.old.held } }
+    {
+        self.bytes.drop_front(count);
+    }
+
     /// Lets the frame at the front go. Where none stands there, nothing changes.
     pub fn drop_frame(&mut self)
         ensures { self.new ≡ record self.old { held = behind self.old.held (front self.old.limit self.old.held) } }
@@ -129,9 +146,10 @@ impl FrameBuf {
     }
 }
 
-// What stands at the front of some bytes.
+/// What stands at the front of some bytes, as a buffer with this limit tells it of those that it holds.
+#[inline(always)]
 #[tactic(auto, unfolding(crate::specs::Front::front))]
-fn next_of(held: &[u8], limit: usize) -> Next<'_>
+pub fn next_of(held: &[u8], limit: usize) -> Next<'_>
     requires { limit < 2 ^ 31 }
     ensures exact { Tells result (front limit held.now) }
     ensures cut { (frame rest : List ℕ) → front limit held.now ≡ Whole frame rest → IsCut limit held.now frame rest }

@@ -9,7 +9,7 @@ mod holding;
 mod laws;
 mod writing;
 
-pub use holding::{FrameBuf, Next};
+pub use holding::{FrameBuf, Next, next_of};
 pub use laws::{
     a_full_buffer_holds_a_frame, a_length_too_large_stays, a_stream_is_split, a_whole_frame_stays,
     frame_stands_at_the_front, one_splitting,

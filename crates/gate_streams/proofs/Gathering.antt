@@ -74,7 +74,7 @@ over_gathers k b c over page lines number taken refused a left written reported 
     (subst (λ (xs : List ℕ). Waits k a (moment c left written reported) b.page.out.bytes xs) (sym (ap (λ (l : Buffer). l.bytes) lines))
     (waits_over k a (moment b left written reported) (moment c left written reported) b.page.out.bytes b.lines.bytes waits over refl refl refl number taken refused))
 
-not_refused : (refused passed : Bool) → true ≡ passed → refused ≡ (refused || not passed)
+pub not_refused : (refused passed : Bool) → true ≡ passed → refused ≡ (refused || not passed)
 not_refused true passed e = refl
 not_refused false passed e = ap not e
 

@@ -5,5 +5,6 @@ pub mod Finishing
 pub mod Gathering
 pub mod Outcome
 pub mod Progress
+pub mod Running
 pub mod Sending
 pub mod Treating

@@ -7,6 +7,7 @@ pub mod Lines
 pub mod Outcome
 pub mod Progress
 pub mod Rooms
+pub mod Running
 pub mod Streaming
 pub mod Terms
 pub mod Working

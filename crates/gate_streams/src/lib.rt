@@ -2,7 +2,8 @@
 //! are made.
 //!
 //! Each has a file of its own: `check`, `convert`, `show`, `conform`, `drill`. A conversion, a showing and a check of messages are a `job` that goes
-//! through a `stream` of frames, each of which is handled in `frame`.
+//! through a `stream` of frames, each of which is handled in `frame`. Frames that pass from a protocol to one that is as plain are converted in
+//! a `run`.
 #![tactic(auto)]
 
 mod check;
@@ -13,6 +14,7 @@ mod frame;
 mod handler;
 mod job;
 mod lines;
+mod run;
 mod show;
 mod stream;
 mod task;

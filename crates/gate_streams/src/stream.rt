@@ -5,23 +5,29 @@
 //! do: the output first, and then the lines of the report.
 ghost use Rattle.std.specs.Prelude.{◌≡◌, ◌+◌, ◌<◌, ◌≤◌, [], ℕ, None, Some, length, IfOk, IfErr, OnOk};
 ghost use Rattle.gate_base.specs.Causes.{Rose};
+ghost use Rattle.line_transport.specs.Buffers.{CountsNext};
 ghost use Rattle.line_transport.specs.Front.{front, Exceeds};
 ghost use Rattle.gate_start.specs.Calls.{OnStreams};
 ghost use Rattle.gate_streams.specs.Outcome.{Streamed};
 ghost use Rattle.gate_streams.specs.Progress.{HasRisen};
-ghost use Rattle.gate_streams.specs.Rooms.{framed_room};
+ghost use Rattle.gate_streams.specs.declared.task.Doing.TheVariants.{Convert};
 ghost use Rattle.gate_streams.specs.Working.{IsReady, IsCounted, IsFlushed, IsStart, IsWaiting, Closes, TakesFrom, Gathers, HandlesHeld, DrainsHeld, EndsOn, FinishesOn, ConcludesOn, Processes, WritesBothOn, MakesRoomOn};
 
 use crate::convert::pass_sent;
 use crate::frame::{WriteFault, handle};
 use crate::handler::Handler;
 use crate::lines::{self, LINE_ROOM};
+use crate::run::{convert_run, framed_room};
 use crate::task::Task;
 use gate_base::OutOfMemory;
 use gate_io::{Got, Out, Sink, Source, Wrote, flush, write_all};
 use gate_start::{Ending, Page, end_with};
 use gate_words::GREATEST_LIMIT;
-use line_transport::{Excess, MessageBuf, Next};
+use line_transport::{Excess, MessageBuf, Next, Transport};
+use protocol_pairs::{
+    BinaryKept, BinaryToCompact, CompactKept, CompactToBinary, DeclaredKept, DeclaredToBinary, Pair,
+};
+use protocol_traits::Proto;
 use std::alloc::Global;
 use translate_known::Habit;
 
@@ -30,6 +36,9 @@ pub const MOST_BYTES: u64 = (1 << 63) - 1;
 
 /// The room for lines of the report that wait to be written.
 const LINES_ROOM: usize = 16_384;
+
+/// So many cells of the page are lent for a run of frames at the most: all that were asked for are made.
+const RUN_ROOM: usize = 65_536;
 
 /// The work on a stream.
 #[derive(Drop)]
@@ -311,7 +320,83 @@ impl<'s> Work<'s> {
             self.number += 1;
             self.inbox.drop_whole(size);
             self.inbox.pass_over();
+            // Behind a frame that passed others are likely to: where each is refused none is gone through once more.
+            self.run_frames(task, from, to, room, habit);
         }
+    }
+
+    // Converts frames at the front in the loop of their pair, where it has one: as long as they pass, and there are cells for
+    // what is written of them.
+    #[inline(always)]
+    fn run_frames(
+        &mut self,
+        task: &Task<'_>,
+        from: Proto,
+        to: Proto,
+        room: &mut [u8],
+        habit: &Habit,
+    )
+        requires limit { task.now.limit ≤ GREATEST_LIMIT }
+        requires room { task.now.limit ≤ length room.old }
+        requires ready { IsReady task.now self.old }
+        requires doing { task.now.doing ≡ Convert from to }
+        requires counts { CountsNext self.old.inbox }
+        ensures ready { IsReady task.now self.new }
+        ensures gathered { Gathers task.now self.old self.new }
+        ensures fewer { length self.new.inbox.held ≤ length self.old.inbox.held }
+        ensures counts { CountsNext self.new.inbox }
+    {
+        let is_typed = habit.typed > 0;
+        if is_typed && task.names_services() {
+            return;
+        }
+        match (from, to) {
+            (Proto::Binary, Proto::Compact) => self.run_as::<BinaryToCompact>(task, room),
+            (Proto::Compact, Proto::Compact) => self.run_as::<CompactKept>(task, room),
+            (Proto::Binary, Proto::Binary) => {
+                if is_typed {
+                    self.run_as::<DeclaredKept>(task, room);
+                } else {
+                    self.run_as::<BinaryKept>(task, room);
+                }
+            }
+            (Proto::Compact, Proto::Binary) => {
+                if is_typed {
+                    self.run_as::<DeclaredToBinary>(task, room);
+                } else {
+                    self.run_as::<CompactToBinary>(task, room);
+                }
+            }
+            _ => (),
+        }
+    }
+
+    // The same for a pair of protocols.
+    #[inline(never)]
+    fn run_as<P: Pair>(&mut self, task: &Task<'_>, room: &mut [u8])
+        requires limit { task.now.limit ≤ GREATEST_LIMIT }
+        requires room { task.now.limit ≤ length room.old }
+        requires ready { IsReady task.now self.old }
+        requires doing { task.now.doing ≡ Convert P.from P.to }
+        requires counts { CountsNext self.old.inbox }
+        ensures ready { IsReady task.now self.new }
+        ensures gathered { Gathers task.now self.old self.new }
+        ensures fewer { length self.new.inbox.held ≤ length self.old.inbox.held }
+        ensures counts { CountsNext self.new.inbox }
+    {
+        let Transport::Frames = task.output() else {
+            return;
+        };
+        let Some(held) = self.inbox.frames() else {
+            return;
+        };
+        let before = self.page.out.bytes().len();
+        let count = self.page.spare().min(RUN_ROOM);
+        let cells = self.page.out.tail(count);
+        let run = convert_run::<P>(task, held, room, cells);
+        self.page.out.cut(before + run.written);
+        self.inbox.drop_frames(run.read);
+        self.number += run.frames;
     }
 
     // Ends the work at the end of the input: handles the last line where it has no LF.
@@ -386,14 +471,6 @@ impl<'s> Work<'s> {
             Wrote::Failed => Err(Broken::Report),
         }
     }
-}
-
-// The room for what is written of a frame of so many bytes.
-fn framed_room(length: usize) -> usize
-    requires { length ≤ GREATEST_LIMIT }
-    ensures { result ≡ framed_room length }
-{
-    24 * length + 260
 }
 
 // Writes what was gathered, where there isn't so much room for the output or room for a line.

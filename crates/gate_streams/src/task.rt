@@ -1,9 +1,10 @@
 //! What is done with the messages of a stream, and by which declarations.
-ghost use Rattle.std.specs.Prelude.{◌≡◌, ◌+◌, ◌^◌, ◌<◌, ◌≤◌, IfOk, IfSome, true, false, length};
+ghost use Rattle.std.specs.Prelude.{◌≡◌, ◌+◌, ◌^◌, ◌<◌, ◌≤◌, IfOk, IfSome, true, false, length, take};
 ghost use Rattle.gate_base.specs.Causes.{Rose};
 ghost use Rattle.translate_verdicts.specs.Judged.{IsJudged};
 ghost use Rattle.translate_verdicts.specs.declared.verdict.HeadInfo.{HeadInfo};
 ghost use Rattle.translate_verdicts.specs.declared.verdict.Verdict.TheVariants.{Passed};
+ghost use Rattle.translate_known.specs.Laid.{IsLaid};
 ghost use Rattle.message_show.specs.Shown.{IsShown};
 ghost use Rattle.conform_check.specs.Checking.{IsChecked};
 ghost use Rattle.gate_streams.specs.Rooms.{translated_room};
@@ -15,7 +16,7 @@ use gate_base::OutOfMemory;
 use gate_io::{Out, Sink};
 use line_transport::Transport;
 use message_show::{Shown, show};
-use protocol_pairs::{translate_by_events, translate_quickly};
+use protocol_pairs::{Pair, translate_by_events, translate_quickly};
 use protocol_traits::Proto;
 use std::alloc::Global;
 use std::marker::Model;
@@ -130,6 +131,25 @@ impl<'s> Task<'s> {
     {
         let route = Route::ByName(self.service);
         translate_quickly::<bool>(self.schema, route, from, to, frame, room, habit, out)
+    }
+
+    /// Lays a frame's translation into the front of cells by the quick way of this pair, and answers how many it took. `None`
+    /// says nothing of the frame.
+    #[inline(always)]
+    pub fn lay<P: Pair>(&self, frame: &[u8], room: &mut [u8], cells: &mut [u8]) -> Option<usize>
+        requires room { length frame.now ≤ length room.old }
+        requires size { length frame.now < 2 ^ 31 }
+        requires cells { translated_room (length frame.now) ≤ length cells.old }
+        ensures kept { length cells.new ≡ length cells.old }
+        ensures short { IfSome result (λ n. n ≤ translated_room (length frame.now)) }
+        ensures passes { IfSome result (λ n. IsLaid (take n cells.new) (judged_by self.now P.from P.to frame.now)) }
+    {
+        P::lay(self.schema, Route::ByName(self.service), frame, room, cells)
+    }
+
+    /// Whether a name may mean a service of the schema.
+    pub fn names_services(&self) -> bool {
+        self.schema.names_services()
     }
 
     /// Translates a frame that the quick way didn't pass to the end of `out`, or leaves `out` as it was.

@@ -9,4 +9,4 @@ mod body;
 mod leaves;
 mod message;
 
-pub use message::pass_kept;
+pub use message::{lay_kept, lay_kept_declared, pass_kept};

@@ -4,7 +4,8 @@ ghost use Rattle.protocol_traits.specs.Heads.{header_of};
 ghost use Rattle.protocol_traits.specs.Room.{room_for};
 ghost use Rattle.translate_verdicts.specs.Routes.{IsKnownRoute};
 ghost use Rattle.translate_verdicts.specs.Judged.{judged_frame};
-ghost use Rattle.translate_known.specs.Quick.{PassedBody, PassedMessage, PassesMessage};
+ghost use Rattle.translate_known.specs.Laid.{IsLaid};
+ghost use Rattle.translate_known.specs.Quick.{PassedBody, PassesBody, PassedMessage, PassesMessage};
 
 use crate::body::keep_fields;
 use gate_io::Out;
@@ -58,6 +59,82 @@ pub fn pass_kept<R: FormKeep<W>, W: FormWrite, O: Outcome>(
         return O::passed(told.info);
     }
     O::left()
+}
+
+/// Copies a frame into as many cells, and says that all of its message goes on as it stands, where nothing is known of its
+/// types. False says nothing of the frame.
+///
+/// `room` is at least as long as the frame, as for `pass_kept`.
+#[inline(always)]
+pub fn lay_kept<R: FormKeep<W>, W: FormWrite>(
+    schema: &Schema,
+    frame: &[u8],
+    room: &mut [u8],
+    cells: &mut [u8],
+) -> bool
+    requires room { length frame.now ≤ length room.old }
+    requires size { length frame.now < 2 ^ 31 }
+    requires same { length cells.old ≡ length frame.now }
+    ensures kept { length cells.new ≡ length cells.old }
+    ensures passes { result ≡ true → (route : Route) → IsLaid cells.new (judged_frame R.ReadRules W.WireWrite schema.now route frame.now) }
+{
+    let Some((head, at)) = R::keep_front(frame, room) else {
+        return false;
+    };
+    if !holds_name::<W>(head.name) {
+        return false;
+    }
+    keep_message::<R, W, Nothing>(Nothing, schema, frame, at, cells)
+}
+
+/// The same with what is declared of the message.
+#[inline(always)]
+pub fn lay_kept_declared<R: FormKeep<W>, W: FormWrite>(
+    schema: &Schema,
+    route: Route,
+    frame: &[u8],
+    room: &mut [u8],
+    cells: &mut [u8],
+) -> bool
+    requires known { IsKnownRoute schema.now route }
+    requires room { length frame.now ≤ length room.old }
+    requires size { length frame.now < 2 ^ 31 }
+    requires same { length cells.old ≡ length frame.now }
+    ensures kept { length cells.new ≡ length cells.old }
+    ensures passes { result ≡ true → IsLaid cells.new (judged_frame R.ReadRules W.WireWrite schema.now route frame.now) }
+{
+    let Some((head, at)) = R::keep_front(frame, room) else {
+        return false;
+    };
+    if !holds_name::<W>(head.name) {
+        return false;
+    }
+    let told = told_of(schema, route, &head);
+    keep_told::<R, W>(schema, told.body, frame, at, cells)
+}
+
+/// Copies a frame into as many cells, and keeps its body there, which begins at a place and whose struct was looked up.
+#[inline(always)]
+fn keep_told<R: FormKeep<W>, W: FormWrite>(
+    schema: &Schema,
+    body: Option<StructId>,
+    frame: &[u8],
+    at: usize,
+    cells: &mut [u8],
+) -> bool
+    requires known { IfSome body (λ s. s.0 < length schema.now.structs) }
+    requires place { at ≤ length frame.now }
+    requires same { length cells.old ≡ length frame.now }
+    ensures kept { length cells.new ≡ length cells.old }
+    ensures passes { result ≡ true → PassesBody R.ReadRules W.WireWrite schema.now body frame.now at (take at frame.now) cells.new }
+{
+    match body {
+        Some(declared) => {
+            let known = Declared(Ty::Struct(declared));
+            keep_message::<R, W, Declared>(known, schema, frame, at, cells)
+        }
+        None => keep_message::<R, W, Undeclared>(Undeclared, schema, frame, at, cells),
+    }
 }
 
 /// Appends a message whose header is kept and whose body begins at a place, and says that all of it is kept, with all that is

@@ -18,6 +18,6 @@ pub use laws::{
     lines_are_cut_back, one_cutting,
 };
 pub use lines::LineBuf;
-pub use messages::MessageBuf;
+pub use messages::{MessageBuf, whole_frame};
 pub use transport::{Excess, Next, Transport};
 pub use writing::{begin, close};

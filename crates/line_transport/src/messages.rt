@@ -1,13 +1,14 @@
 //! What has come of a stream of frames or of lines and is not taken yet.
-ghost use Rattle.std.specs.Prelude.{◌≡◌, ◌+◌, ◌-◌, ◌^◌, ◌<◌, ◌≤◌, [], ◌++◌, ℕ, List, length, IfOk, Some};
+ghost use Rattle.std.specs.Prelude.{◌≡◌, ◌+◌, ◌-◌, ◌^◌, ◌<◌, ◌≤◌, [], ◌++◌, ℕ, List, length, drop, IfOk, IfSome, Some};
 ghost use Rattle.gate_base.specs.Causes.{Rose};
 ghost use Rattle.line_transport.specs.Buffers.{Tells, TellsFrame, Receives, PassesOver, front_of};
 ghost use Rattle.line_transport.specs.Cuts.{IsCut, at_end};
 ghost use Rattle.line_transport.specs.Front.{Whole, Part, behind, whole_size};
+ghost use Rattle.line_transport.specs.declared.transport.Transport.TheVariants.{Frames};
 
 use crate::lines::LineBuf;
 use crate::transport::{Excess, Next, Transport};
-use framed_transport::{FrameBuf, Next as NextFrame};
+use framed_transport::{FrameBuf, Next as NextFrame, next_of};
 use gate_base::OutOfMemory;
 use gate_io::{Got, Source};
 use std::alloc::Global;
@@ -122,6 +123,31 @@ impl MessageBuf {
         }
     }
 
+    /// The bytes that are held, where they are frames.
+    #[inline]
+    pub fn frames(&self) -> Option<&[u8]>
+        ensures held { IfSome result (λ held. held.now ≡ self.now.held) }
+        ensures frames { IfSome result (λ held. self.now.transport ≡ Frames) }
+    {
+        match &self.kind {
+            Kind::Frames(frames) => Some(frames.bytes()),
+            Kind::Lines(_) => None,
+        }
+    }
+
+    /// Lets the first bytes go, so many as there must be, where they are frames.
+    #[inline]
+    pub fn drop_frames(&mut self, count: usize)
+        requires frames { self.old.transport ≡ Frames }
+        requires within { count ≤ length self.old.held }
+        ensures { self.new ≡ record self.old { held = drop count self.old.held } }
+    {
+        match &mut self.kind {
+            Kind::Frames(frames) => frames.let_go(count),
+            Kind::Lines(_) => (),
+        }
+    }
+
     /// The input is at its end: an LF stands for the one that the last line lacks, for which there must be room.
     pub fn end(&mut self)
         requires { length self.old.held < self.old.limit + 4 }
@@ -131,6 +157,19 @@ impl MessageBuf {
             Kind::Frames(_) => (),
             Kind::Lines(lines) => lines.end(),
         }
+    }
+}
+
+/// The whole frame at the front of some bytes, without its length. None: no whole frame within the limit stands there.
+#[inline(always)]
+pub fn whole_frame(held: &[u8], limit: usize) -> Option<&[u8]>
+    requires { limit < 2 ^ 31 }
+    ensures cut { IfSome result (λ frame. IsCut Frames limit held.now frame.now (drop (4 + length frame.now) held.now)) }
+{
+    match next_of(held, limit) {
+        NextFrame::Frame(frame) => Some(frame),
+        NextFrame::NeedMore => None,
+        NextFrame::TooLarge(_) => None,
     }
 }
 

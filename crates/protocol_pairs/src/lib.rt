@@ -5,9 +5,13 @@
 #![tactic(auto)]
 
 mod answers;
+mod known_pairs;
 mod methods;
 mod pairs;
 
 pub use answers::answer;
+pub use known_pairs::{
+    BinaryKept, BinaryToCompact, CompactKept, CompactToBinary, DeclaredKept, DeclaredToBinary, Pair,
+};
 pub use methods::{served, translate_method};
 pub use pairs::{translate, translate_by_events, translate_quickly};

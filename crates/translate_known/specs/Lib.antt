@@ -1,2 +1,3 @@
 -- What the ways through a message by forms take.
+pub mod Laid
 pub mod Quick

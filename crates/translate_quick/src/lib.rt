@@ -10,4 +10,4 @@ mod passing;
 mod quick;
 mod runs;
 
-pub use passing::{append_told, pass_quickly, room_for};
+pub use passing::{append_told, lay_declared, lay_quickly, pass_quickly, room_for};

@@ -4,6 +4,7 @@ ghost use Rattle.protocol_traits.specs.Heads.{header_of};
 ghost use Rattle.protocol_traits.specs.Room.{room_for};
 ghost use Rattle.translate_verdicts.specs.Routes.{IsKnownRoute};
 ghost use Rattle.translate_verdicts.specs.Judged.{judged_frame};
+ghost use Rattle.translate_known.specs.Laid.{IsLaid};
 ghost use Rattle.translate_known.specs.Quick.{HasRoom, Informs, PassedBody, PassedMessage, PassesMessage};
 
 use crate::fields::is_hinted;
@@ -85,7 +86,88 @@ fn pass_untyped<R: FormRead, W: FormWrite, O: Outcome>(
     O::left()
 }
 
+/// Lays a message's translation into the front of cells with nothing known of its types, and answers how many cells it took.
+/// `None` says nothing of the frame.
+///
+/// `room` is at least as long as the frame, as for `pass_quickly`.
+#[inline(always)]
+pub fn lay_quickly<R: FormRead, W: FormWrite>(
+    schema: &Schema,
+    frame: &[u8],
+    room: &mut [u8],
+    cells: &mut [u8],
+) -> Option<usize>
+    requires reads { R.hinted ≡ false }
+    requires writes { W.hinted ≡ false }
+    requires room { length frame.now ≤ length room.old }
+    requires size { length frame.now < 2 ^ 31 }
+    requires cells { room_for (length frame.now) ≤ length cells.old }
+    ensures kept { length cells.new ≡ length cells.old }
+    ensures short { IfSome result (λ n. n ≤ room_for (length frame.now)) }
+    ensures passes { IfSome result (λ n. (route : Route) → IsLaid (take n cells.new) (judged_frame R.ReadRules W.WireWrite schema.now route frame.now)) }
+{
+    let (head, at) = R::front(frame, room)?;
+    if !holds_name::<W>(head.name) {
+        return None;
+    }
+    take_message::<R, W, Nothing>(Nothing, schema, &head, frame, at, cells)
+}
+
 /// The same with what is declared of the message.
+#[inline(always)]
+pub fn lay_declared<R: FormRead, W: FormWrite>(
+    schema: &Schema,
+    route: Route,
+    frame: &[u8],
+    room: &mut [u8],
+    cells: &mut [u8],
+) -> Option<usize>
+    requires known { IsKnownRoute schema.now route }
+    requires room { length frame.now ≤ length room.old }
+    requires size { length frame.now < 2 ^ 31 }
+    requires cells { room_for (length frame.now) ≤ length cells.old }
+    ensures kept { length cells.new ≡ length cells.old }
+    ensures short { IfSome result (λ n. n ≤ room_for (length frame.now)) }
+    ensures passes { IfSome result (λ n. IsLaid (take n cells.new) (judged_frame R.ReadRules W.WireWrite schema.now route frame.now)) }
+{
+    let (head, at) = R::front(frame, room)?;
+    if !holds_name::<W>(head.name) {
+        return None;
+    }
+    let told = told_of(schema, route, &head);
+    lay_told::<R, W>(schema, told.body, &head, frame, at, cells)
+}
+
+/// Lays a header and the body that begins at a place, whose struct was looked up, into the front of cells.
+#[inline(always)]
+fn lay_told<R: FormRead, W: FormWrite>(
+    schema: &Schema,
+    body: Option<StructId>,
+    head: &Head<'_>,
+    frame: &[u8],
+    at: usize,
+    cells: &mut [u8],
+) -> Option<usize>
+    requires known { IfSome body (λ s. s.0 < length schema.now.structs) }
+    requires size { length frame.now < 2 ^ 31 }
+    requires place { at ≤ length frame.now }
+    requires name { length head.now.name.now ≤ at }
+    requires taken { W.name_bar head.now.name.now ≡ None }
+    requires room { room_for (length frame.now) ≤ length cells.old }
+    ensures kept { length cells.new ≡ length cells.old }
+    ensures short { IfSome result (λ n. n ≤ room_for (length frame.now)) }
+    ensures passes { IfSome result (λ n. PassesMessage R.ReadRules W.WireWrite schema.now body (header_of head.now) frame.now at [] (take n cells.new)) }
+{
+    match body {
+        Some(declared) => {
+            let known = Declared(Ty::Struct(declared));
+            take_message::<R, W, Declared>(known, schema, head, frame, at, cells)
+        }
+        None => take_message::<R, W, Undeclared>(Undeclared, schema, head, frame, at, cells),
+    }
+}
+
+/// The same as `pass_quickly` with what is declared of the message.
 #[inline(never)]
 fn pass_typed<R: FormRead, W: FormWrite, O: Outcome>(
     schema: &Schema,

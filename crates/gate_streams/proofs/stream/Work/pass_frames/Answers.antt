@@ -46,7 +46,7 @@ frames-smaller c =
     let cut = c.in-Message.ensures.cut frame rest c.in-Message.ensures.exact.1 in
     let e : c.drop_whole.new.self.held ≡ rest = gone c.frames.self.inbox c.drop_whole.new.self frame rest c.drop_whole.ensures c.in-Message.ensures.exact.1 in
     let one = spans k c.frames.self.inbox frame rest i.ready.limit_is i.ready.transport_is i.counts c.in-Message.ensures.exact.1 cut in
-    omega (arith, ap length e, one_fewer k c.frames.self.inbox frame rest one, passed_fewer c.drop_whole.new.self c.pass_over-in-frames.new.self c.pass_over-in-frames.ensures)
+    omega (arith, ap length e, one_fewer k c.frames.self.inbox frame rest one, passed_fewer c.drop_whole.new.self c.pass_over-in-frames.new.self c.pass_over-in-frames.ensures, c.run_frames.ensures.fewer)
 
 pub frames-preserved : goal.frames-preserved
 frames-preserved c =
@@ -67,13 +67,37 @@ frames-preserved c =
     let done : Work = record c.frames.self { inbox = left; page = record c.frames.self.page { out = c.pass_sent.new.out }; number = c.frames.self.number + 1 } in
     let over : Work = record done { inbox = c.pass_over-in-frames.new.self } in
     let info = c.pass_sent.ensures.passed c.if-not-pass_sent.false in
+    let run = c.run_frames.ensures in
     record {
-      ready = ready_on k c.frames.self over i.ready (p.limit ∙ limit) (p.transport ∙ transport) c.pass_sent.ensures.room refl refl refl (omega (arith, ap length e, fewer, passed));
-      gathered = gathers_on k c.args.self.now c.frames.self over i.gathered
+      ready = run.ready;
+      gathered = gathers_on k c.args.self.now over c.run_frames.new.self
+          (gathers_on k c.args.self.now c.frames.self over i.gathered
           (gathers_on k c.frames.self done over
           (one_gathers k c.in-Convert.from c.in-Convert.to info.0 frame rest c.frames.self done i.doing info.1 (c.pass_sent.ensures.appended c.if-not-pass_sent.false) one e refl refl refl refl)
-          (over_gathers k done over (passed_spans k left c.pass_over-in-frames.new.self (limit ∙ i.ready.limit_is) (transport ∙ i.ready.transport_is) p) refl refl refl refl refl));
-      fewer = omega (arith, ap length e, fewer, passed, i.fewer);
-      counts = p.counts;
+          (over_gathers k done over (passed_spans k left c.pass_over-in-frames.new.self (limit ∙ i.ready.limit_is) (transport ∙ i.ready.transport_is) p) refl refl refl refl refl)))
+          run.gathered;
+      fewer = omega (arith, ap length e, fewer, passed, run.fewer, i.fewer);
+      counts = run.counts;
       doing = i.doing;
     }
+
+-- what the run begins with
+pub run_frames-requires-clause-ready : goal.run_frames-requires-clause-ready
+run_frames-requires-clause-ready c =
+    let i = c.frames.invariant in
+    let k = c.args.task.now in
+    let held = c.frames.self.inbox in
+    let left = c.drop_whole.new.self in
+    let p = c.pass_over-in-frames.ensures in
+    let frame = c.in-Message.frame.now in
+    let rest = c.in-Message.ensures.exact.0 in
+    let cut = c.in-Message.ensures.cut frame rest c.in-Message.ensures.exact.1 in
+    let e : left.held ≡ rest = gone held left frame rest c.drop_whole.ensures c.in-Message.ensures.exact.1 in
+    let one = spans k held frame rest i.ready.limit_is i.ready.transport_is i.counts c.in-Message.ensures.exact.1 cut in
+    let limit = ap (λ (h : Incoming). h.limit) c.drop_whole.ensures in
+    let transport = ap (λ (h : Incoming). h.transport) c.drop_whole.ensures in
+    let fewer = one_fewer k held frame rest one in
+    let passed = passed_fewer left c.pass_over-in-frames.new.self p in
+    let done : Work = record c.frames.self { inbox = left; page = record c.frames.self.page { out = c.pass_sent.new.out }; number = c.frames.self.number + 1 } in
+    let over : Work = record done { inbox = c.pass_over-in-frames.new.self } in
+    ready_on k c.frames.self over i.ready (p.limit ∙ limit) (p.transport ∙ transport) c.pass_sent.ensures.room refl refl refl (omega (arith, ap length e, fewer, passed))
