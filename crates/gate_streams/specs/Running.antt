@@ -1,5 +1,5 @@
 -- Frames that are held and pass one after another.
-use Rattle.std.specs.Prelude.{◌≡◌, ℕ, ◌+◌, ◌≤◌, List, ◌∷◌, [], ◌++◌, length, take, drop}
+use Rattle.std.specs.Prelude.{◌≡◌, ℕ, ◌+◌, List, ◌++◌, length, drop}
 use Rattle.line_transport.specs.Cuts.{IsCut, sent}
 use Rattle.line_transport.specs.declared.transport.Transport.TheVariants.{Frames}
 use Rattle.protocol_traits.specs.declared.proto.Proto.{Proto}

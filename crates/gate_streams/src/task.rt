@@ -1,5 +1,5 @@
 //! What is done with the messages of a stream, and by which declarations.
-ghost use Rattle.std.specs.Prelude.{◌≡◌, ◌+◌, ◌^◌, ◌<◌, ◌≤◌, IfOk, IfSome, true, false, length, take};
+ghost use Rattle.std.specs.Prelude.{◌≡◌, ◌+◌, ◌^◌, ◌<◌, ◌≤◌, IfOk, IfSome, true, false, length, nat_lt, take};
 ghost use Rattle.gate_base.specs.Causes.{Rose};
 ghost use Rattle.translate_verdicts.specs.Judged.{IsJudged};
 ghost use Rattle.translate_verdicts.specs.declared.verdict.HeadInfo.{HeadInfo};
@@ -147,8 +147,11 @@ impl<'s> Task<'s> {
         P::lay(self.schema, Route::ByName(self.service), frame, room, cells)
     }
 
-    /// Whether a name may mean a service of the schema.
-    pub fn names_services(&self) -> bool {
+    /// Whether some name means a service in the root file.
+    #[inline(always)]
+    pub fn names_services(&self) -> bool
+        ensures { result ≡ nat_lt 0 (length self.now.declarations.names) }
+    {
         self.schema.names_services()
     }
 
