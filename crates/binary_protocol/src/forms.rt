@@ -117,11 +117,10 @@ pub fn bool_front(bytes: &[u8]) -> Option<bool>
     if bytes.is_empty() {
         return None;
     }
-    match bytes[0] {
-        0 => Some(false),
-        1 => Some(true),
-        _ => None,
+    if bytes[0] > 1 {
+        return None;
     }
+    Some(bytes[0] == 1)
 }
 
 /// An i8, in one byte.

@@ -107,12 +107,10 @@ pub fn bool_front(bytes: &[u8]) -> Option<bool>
     if bytes.is_empty() {
         return None;
     }
-    match bytes[0] {
-        1 => Some(true),
-        2 => Some(false),
-        0 => Some(false),
-        _ => None,
+    if bytes[0] > 2 {
+        return None;
     }
+    Some(bytes[0] == 1)
 }
 
 /// An i8, in one byte.

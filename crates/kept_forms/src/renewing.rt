@@ -5,7 +5,7 @@ ghost use Rattle.protocol_traits.specs.Forms.{IsPast, SpellsNoPairs};
 use protocol_traits::{FormWrite, Mark, Stand, WIDE};
 
 /// Lays an empty map over the cells between two places, and no others, if it has as many bytes.
-#[inline(never)]
+#[inline(always)]
 pub fn renew<W: FormWrite>(
     cells: &mut [u8],
     at: usize,

@@ -35,6 +35,12 @@ module _ {S T : Type 0} (reads : ReadRules S) (writes : WriteRules T) where
   KeptLeaves frame at kind size kept = IfSome kept (λ x. (d : Declarations) (level : Level) (depth : ℕ) → IsFlat level
       → TakesRun (source_in reads) (target_in writes) reads.stands_at writes.stands_at d level depth frame at kind size frame at frame x x)
 
+  -- the pairs of a map whose keys and values are no levels stand as they are to be written, to its end: whatever is declared,
+  -- and in however many levels
+  abbrev pub KeptLeafPairs : List ℕ → Pairs → Option ℕ → Type 0
+  KeptLeafPairs frame pairs kept = IfSome kept (λ x. (d : Declarations) (level : Level) (depth : ℕ) → Turns level
+      → TakesPairs (source_in reads) (target_in writes) reads.stands_at writes.stands_at d level depth frame pairs.behind pairs.key pairs.value pairs.size frame pairs.behind frame x x)
+
   -- a field that this lead tells stands as it is to be written, whose value is no level
   abbrev pub KeptLeafField : List ℕ → ℕ → Opening → ℤ → Lead → ℤ → ℕ → Option ℕ → Type 0
   KeptLeafField frame at opening last lead id behind kept = IfSome kept (λ x. (d : Declarations) (ty : Ty) (depth : ℕ)

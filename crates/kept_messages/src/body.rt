@@ -10,6 +10,7 @@ ghost use Rattle.protocol_traits.specs.Forms.{IsPast, SpellsNoPairs, container_k
 ghost use Rattle.kept_messages.specs.Kept.{KeptElements, KeptField, KeptFields, KeptLead, KeptPairs, KeptRun, KeptValue, Mirrors};
 
 use crate::leaves::{keep_leaf, keep_leaf_field, keep_leaf_run};
+use crate::pairs::{are_leaf_pairs, keep_leaf_pairs};
 use kept_forms::FormKeep;
 use protocol_traits::{Container, DEPTH, FormWrite, Lead, Mark, Opening, Pairs, Stand};
 use thrift_value::Kind;
@@ -374,7 +375,7 @@ fn keep_levels<R: FormKeep<W>, W: FormWrite, K: Known>(
 
 /// Keeps a map inside so many levels. The kinds of an empty one are laid as they are declared.
 #[cycle(body)]
-#[inline(never)]
+#[inline(always)]
 fn keep_map<R: FormKeep<W>, W: FormWrite, K: Known>(
     known: K,
     schema: &Schema,
@@ -426,10 +427,37 @@ fn renewed<R: FormKeep<W>, W: FormWrite>(
     None
 }
 
-/// Keeps the pairs of an open map, of whose keys and values this is known, to its end.
+/// Keeps the pairs of an open map, of whose keys and values this is known, to its end. Those of most maps by their own loop, others by a call.
 #[cycle(body)]
 #[inline(always)]
 fn keep_pairs<R: FormKeep<W>, W: FormWrite, K: Known>(
+    key: K,
+    value: K,
+    schema: &Schema,
+    frame: &[u8],
+    cells: &mut [u8],
+    pairs: Pairs,
+    depth: usize,
+) -> Option<usize>
+    requires key { K.sound key schema.now }
+    requires value { K.sound value schema.now }
+    requires place { pairs.behind ≤ length frame.now }
+    requires mirrors { Mirrors cells.old pairs.behind frame.now }
+    requires shallow { depth ≤ DEPTH }
+    ensures place { IfSome result (λ x. (pairs.behind ≤ x) × (x ≤ length frame.now)) }
+    ensures mirrors { IfSome result (λ x. Mirrors cells.new x frame.now) }
+    ensures keeps { KeptPairs R.ReadRules W.WireWrite (K.means key) (K.means value) schema.now depth frame.now pairs cells.old cells.new result }
+{
+    if are_leaf_pairs(pairs.key, pairs.value) {
+        return Some(keep_leaf_pairs::<R, W>(frame, pairs)?);
+    }
+    call_pairs::<R, W, K>(key, value, schema, frame, cells, pairs, depth)
+}
+
+/// The same pair by pair, whatever their kinds.
+#[cycle(body)]
+#[inline(never)]
+fn call_pairs<R: FormKeep<W>, W: FormWrite, K: Known>(
     key: K,
     value: K,
     schema: &Schema,

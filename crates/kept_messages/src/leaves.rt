@@ -133,7 +133,7 @@ fn keep_leaves<R: FormKeep<W>, W: FormWrite, L: Leaf>(
 }
 
 /// A bool that is no field's.
-struct BoolLeaf;
+pub struct BoolLeaf;
 
 impl Leaf for BoolLeaf {
     ghost kind = { Kind.Bool };
@@ -150,7 +150,7 @@ impl Leaf for BoolLeaf {
 }
 
 /// An i8.
-struct I8Leaf;
+pub struct I8Leaf;
 
 impl Leaf for I8Leaf {
     ghost kind = { Kind.I8 };
@@ -167,7 +167,7 @@ impl Leaf for I8Leaf {
 }
 
 /// An i16.
-struct I16Leaf;
+pub struct I16Leaf;
 
 impl Leaf for I16Leaf {
     ghost kind = { Kind.I16 };
@@ -184,7 +184,7 @@ impl Leaf for I16Leaf {
 }
 
 /// An i32.
-struct I32Leaf;
+pub struct I32Leaf;
 
 impl Leaf for I32Leaf {
     ghost kind = { Kind.I32 };
@@ -201,7 +201,7 @@ impl Leaf for I32Leaf {
 }
 
 /// An i64.
-struct I64Leaf;
+pub struct I64Leaf;
 
 impl Leaf for I64Leaf {
     ghost kind = { Kind.I64 };
@@ -218,7 +218,7 @@ impl Leaf for I64Leaf {
 }
 
 /// A double.
-struct DoubleLeaf;
+pub struct DoubleLeaf;
 
 impl Leaf for DoubleLeaf {
     ghost kind = { Kind.Double };
@@ -235,7 +235,7 @@ impl Leaf for DoubleLeaf {
 }
 
 /// A string.
-struct TextLeaf;
+pub struct TextLeaf;
 
 impl Leaf for TextLeaf {
     ghost kind = { Kind.Str };
@@ -252,7 +252,7 @@ impl Leaf for TextLeaf {
 }
 
 /// A uuid.
-struct UuidLeaf;
+pub struct UuidLeaf;
 
 impl Leaf for UuidLeaf {
     ghost kind = { Kind.Uuid };

@@ -8,5 +8,6 @@
 mod body;
 mod leaves;
 mod message;
+mod pairs;
 
 pub use message::{lay_kept, lay_kept_declared, pass_kept};

@@ -360,8 +360,23 @@ keep_levels-returns-clause-keeps g t c level flat means opening up outer deep =
       subst (λ (left : ℕ). Takes source target g.R.ReadRules.stands_at g.W.WireWrite.stands_at c.args.frame.now first (spot c.elements.at before.0 (slots.Elements c.args.kind left ∷ up) p) c.args.cells.now c.args.from c.elements.cells c.elements.at) none before.1,
     )
 
-pub keep_pairs-pairs-init : goal.keep_pairs-pairs-init
-keep_pairs-pairs-init g t c =
+pub keep_pairs-returns-then-are_leaf_pairs-clause-mirrors : goal.keep_pairs-returns-then-are_leaf_pairs-clause-mirrors
+keep_pairs-returns-then-are_leaf_pairs-clause-mirrors g t c =
+    let kept = c.in_ok-keep_leaf_pairs in
+    mirrors_on c.args.cells.now c.args.frame.now c.args.pairs.behind kept.field-0 (omega (arith, kept.ensures.place)) c.requires.mirrors
+
+pub keep_pairs-returns-then-are_leaf_pairs-clause-keeps : goal.keep_pairs-returns-then-are_leaf_pairs-clause-keeps
+keep_pairs-returns-then-are_leaf_pairs-clause-keeps g t c level turns key value up outer deep =
+    let d = c.args.schema.now in
+    let pairs = c.args.pairs in
+    let kept = c.in_ok-keep_leaf_pairs in
+    let first : Spot = spot pairs.behind openings.New (slots.Keys pairs.key pairs.value pairs.size ∷ up) (standing d (level ∷ outer)) in
+    takes_mirrored (source_in g.R.ReadRules) (target_in g.W.WireWrite) g.R.ReadRules.stands_at g.W.WireWrite.stands_at c.args.frame.now c.args.cells.now
+    first (spot kept.field-0 openings.Old up (standing d outer)) pairs.behind kept.field-0 (omega (arith, kept.ensures.place)) c.requires.mirrors
+    (kept.ensures.keeps d level c.args.depth turns up outer deep)
+
+pub call_pairs-pairs-init : goal.call_pairs-pairs-init
+call_pairs-pairs-init g t c =
     let source = source_in g.R.ReadRules in
     let target = target_in g.W.WireWrite in
     let d = c.args.schema.now in
@@ -377,8 +392,8 @@ keep_pairs-pairs-init g t c =
           (takes_none source target g.R.ReadRules.stands_at g.W.WireWrite.stands_at c.args.frame.now here c.args.cells.now c.args.pairs.behind);
     }
 
-pub keep_pairs-pairs-preserved : goal.keep_pairs-pairs-preserved
-keep_pairs-pairs-preserved g t c =
+pub call_pairs-pairs-preserved : goal.call_pairs-pairs-preserved
+call_pairs-pairs-preserved g t c =
     let source = source_in g.R.ReadRules in
     let target = target_in g.W.WireWrite in
     let d = c.args.schema.now in
@@ -410,12 +425,12 @@ keep_pairs-pairs-preserved g t c =
           (c.in_ok-at.ensures.keeps (called_for (Some (turned level))) value openings.Old (slots.Values c.args.pairs.key c.args.pairs.value left ∷ up) (turned level ∷ outer) refl (omega (arith, deep)))));
     }
 
-pub keep_pairs-returns-clause-mirrors : goal.keep_pairs-returns-clause-mirrors
-keep_pairs-returns-clause-mirrors g t c =
+pub call_pairs-returns-clause-mirrors : goal.call_pairs-returns-clause-mirrors
+call_pairs-returns-clause-mirrors g t c =
     if_some _ _ c.keep_end.result (λ (x : ℕ) within. mirrors_on c.pairs.cells c.args.frame.now c.pairs.at x within.0 c.pairs.invariant.mirrors) c.keep_end.ensures.within
 
-pub keep_pairs-returns-clause-keeps : goal.keep_pairs-returns-clause-keeps
-keep_pairs-returns-clause-keeps g t c =
+pub call_pairs-returns-clause-keeps : goal.call_pairs-returns-clause-keeps
+call_pairs-returns-clause-keeps g t c =
     let source = source_in g.R.ReadRules in
     let target = target_in g.W.WireWrite in
     let d = c.args.schema.now in

@@ -27,7 +27,10 @@ abbrev pub decreases-keep_levels : goal.decreases-keep_levels
 decreases-keep_levels g l = rank l.depth 9
 
 abbrev pub decreases-keep_pairs : goal.decreases-keep_pairs
-decreases-keep_pairs g l = rank l.depth 9
+decreases-keep_pairs g l = rank l.depth 10
+
+abbrev pub decreases-call_pairs : goal.decreases-call_pairs
+decreases-call_pairs g l = rank l.depth 9
 
 abbrev pub decreases-keep_fields : goal.decreases-keep_fields
 decreases-keep_fields g l = rank l.depth 9
@@ -83,8 +86,8 @@ invariant-keep_levels-elements g l =
           (spot l.at now (slots.Elements l.kind (l.size - l.i) ∷ up) (standing l.schema (level ∷ outer))) l.fn.cells l.fn.from l.cells l.at;
     }
 
-abbrev pub invariant-keep_pairs-pairs : goal.invariant-keep_pairs-pairs
-invariant-keep_pairs-pairs g l =
+abbrev pub invariant-call_pairs-pairs : goal.invariant-call_pairs-pairs
+invariant-call_pairs-pairs g l =
     let source = source_in g.R.ReadRules in
     let target = target_in g.W.WireWrite in
     record {
