@@ -9,6 +9,7 @@ ghost use Rattle.binary_protocol.specs.Heads.{head_at, header_scan, seq_at, type
 ghost use Rattle.binary_protocol.specs.Forms.{Finds, IsGood, lead_of};
 
 use crate::codes::{kind_of_code, type_of_code};
+use cell_writes::SHORT;
 use protocol_traits::{Head, Lead};
 use thrift_value::{Kind, MessageType};
 
@@ -260,6 +261,26 @@ pub fn text_from(frame: &[u8], at: usize) -> Option<(usize, usize)>
         return None;
     }
     Some((begin, behind))
+}
+
+/// The same of a text that has at most `SHORT` bytes and stands no closer to the frame's end: two comparisons, by which it is copied, too.
+#[inline(always)]
+#[tactic(auto, unfolding(crate::specs::Scan::string_at, crate::specs::Scan::size_at))]
+pub fn short_text_from(frame: &[u8], at: usize) -> Option<(usize, usize)>
+    requires { at ≤ length frame.now }
+    ensures place { IfSome result (λ x. (x.0 ≡ at + 4) × (x.0 ≤ x.1)) }
+    ensures found { IfSome result (λ x. Finds (drop at frame.now) (string_at (drop at frame.now)) (take (x.1 - x.0) (drop x.0 frame.now)) (x.1 - at)) }
+{
+    let begin = at + 4;
+    if begin + SHORT > frame.len() {
+        return None;
+    }
+    let bytes = &frame[at..begin];
+    let size = u32::from_be_bytes([bytes[0], bytes[1], bytes[2], bytes[3]]) as usize;
+    if size > SHORT {
+        return None;
+    }
+    Some((begin, begin + size))
 }
 
 /// What stands before the elements of a list or set, in five bytes.

@@ -13,7 +13,7 @@ ghost use Rattle.binary_protocol.specs.Forms.{stands_at, next_read, whole_ends};
 
 use crate::forms::{
     bool_front, double_from, elements_front, head_front, i8_front, i16_from, i32_from, i64_from,
-    lead_from, pairs_front, text_from,
+    lead_from, pairs_front, short_text_from, text_from,
 };
 use crate::reader::BinaryRead;
 use protocol_traits::{
@@ -158,6 +158,21 @@ impl<'f> FormRead for BinaryRead<'f> {
         ensures steps { IfSome result (λ x. StepsText next_read stands_at false hint frame.now at stand (part frame.now x.begin x.end) x.behind) }
     {
         let (begin, behind) = text_from(frame, at)?;
+        Some(Span {
+            begin,
+            end: behind,
+            behind,
+        })
+    }
+
+    #[inline(always)]
+    fn short_text(frame: &[u8], at: usize, stand: Stand, hint: Hint) -> Option<Span>
+        requires { at ≤ length frame.now }
+        ensures past { IfSome result (λ x. IsPast at frame.now x.behind) }
+        ensures part { IfSome result (λ x. (at < x.begin) × (x.begin ≤ x.end) × (x.end ≤ x.behind)) }
+        ensures steps { IfSome result (λ x. StepsText next_read stands_at false hint frame.now at stand (part frame.now x.begin x.end) x.behind) }
+    {
+        let (begin, behind) = short_text_from(frame, at)?;
         Some(Span {
             begin,
             end: behind,

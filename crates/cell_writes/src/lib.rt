@@ -9,8 +9,8 @@ ghost use Rattle.std.specs.Prelude.{◌≡◌, ◌+◌, ◌-◌, ◌≤◌, ◌<
 /// How many cells behind a place `lay_part` may write over.
 pub const SLACK: usize = 32;
 
-/// The width of a copy of a few bytes.
-const HALF: usize = 16;
+/// The width of a copy of a few bytes: a part of at most so many, no closer to the frame's end, is copied at once.
+pub const SHORT: usize = 16;
 
 /// Lays bytes into the cells from a place on, and gives the place behind them.
 #[inline(always)]
@@ -48,11 +48,10 @@ pub fn lay_part(cells: &mut [u8], to: usize, frame: &[u8], begin: usize, end: us
     ensures place { result ≡ to + (end - begin) }
 {
     let count = end - begin;
-    let left = frame.len() - begin;
-    if count <= HALF && left >= HALF {
-        lay_wide::<HALF>(cells, to, frame, begin, count)
-    } else if count >= HALF && count <= SLACK {
-        lay_ends::<HALF>(cells, to, &frame[begin..], count)
+    if begin + SHORT <= frame.len() && count <= SHORT {
+        lay_wide::<SHORT>(cells, to, frame, begin, count)
+    } else if count >= SHORT && count <= SLACK {
+        lay_ends::<SHORT>(cells, to, &frame[begin..], count)
     } else {
         lay_apart(cells, to, &frame[begin..], count)
     }

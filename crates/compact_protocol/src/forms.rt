@@ -11,6 +11,7 @@ ghost use Rattle.compact_protocol.specs.Forms.{Finds, IsGood, lead_of_kind};
 
 use crate::scan::{next_id, type_of};
 use crate::values::kind_of;
+use cell_writes::SHORT;
 use protocol_traits::{Lead, Pairs};
 use thrift_value::{Kind, MessageType};
 use varint_zigzag::{read_size_at, read_u16_at, read_u32_at, read_u64_at, unzigzag32, unzigzag64};
@@ -199,6 +200,25 @@ pub fn size_from(frame: &[u8], at: usize) -> Option<(u32, usize)>
         return None;
     }
     Some((size, behind))
+}
+
+/// The size of a text of at most `SHORT` bytes that stands no closer to the frame's end, in one byte: two comparisons, by which the text is
+/// copied, too.
+#[inline(always)]
+pub fn short_size_from(frame: &[u8], at: usize) -> Option<u8>
+    requires { at ≤ length frame.now }
+    ensures found { IfSome result (λ size. Finds frame.now at size_at size (at + 1)) }
+    ensures within { IfSome result (λ size. at + 1 + size ≤ length frame.now) }
+{
+    let begin = at + 1;
+    if begin + SHORT > frame.len() {
+        return None;
+    }
+    let size = frame[at];
+    if size as usize > SHORT {
+        return None;
+    }
+    Some(size)
 }
 
 /// The kind and the number of the elements of a list or a set.

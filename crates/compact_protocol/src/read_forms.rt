@@ -13,7 +13,7 @@ ghost use Rattle.compact_protocol.specs.Forms.{stands_at, next_read, whole_ends}
 
 use crate::forms::{
     bool_front, double_front, elements_from, front_from, i8_front, i16_from, i32_from, i64_from,
-    lead_from, name_from, pairs_from, size_from,
+    lead_from, name_from, pairs_from, short_size_from, size_from,
 };
 use crate::reader::CompactRead;
 use crate::scan::flag_of;
@@ -164,6 +164,23 @@ impl<'f> FormRead for CompactRead<'f> {
         if behind > frame.len() {
             return None;
         }
+        Some(Span {
+            begin,
+            end: behind,
+            behind,
+        })
+    }
+
+    #[inline(always)]
+    fn short_text(frame: &[u8], at: usize, stand: Stand, hint: Hint) -> Option<Span>
+        requires { at ≤ length frame.now }
+        ensures past { IfSome result (λ x. IsPast at frame.now x.behind) }
+        ensures part { IfSome result (λ x. (at < x.begin) × (x.begin ≤ x.end) × (x.end ≤ x.behind)) }
+        ensures steps { IfSome result (λ x. StepsText next_read stands_at false hint frame.now at stand (part frame.now x.begin x.end) x.behind) }
+    {
+        let size = short_size_from(frame, at)?;
+        let begin = at + 1;
+        let behind = begin + size as usize;
         Some(Span {
             begin,
             end: behind,

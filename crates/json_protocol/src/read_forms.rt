@@ -175,6 +175,16 @@ impl<'f> FormRead for JsonRead<'f> {
     }
 
     #[inline(always)]
+    fn short_text(frame: &[u8], at: usize, stand: Stand, hint: Hint) -> Option<Span>
+        requires { at ≤ length frame.now }
+        ensures past { IfSome result (λ x. IsPast at frame.now x.behind) }
+        ensures part { IfSome result (λ x. (at < x.begin) × (x.begin ≤ x.end) × (x.end ≤ x.behind)) }
+        ensures steps { IfSome result (λ x. StepsText reads stands_at true hint frame.now at stand (part frame.now x.begin x.end) x.behind) }
+    {
+        None
+    }
+
+    #[inline(always)]
     fn decode_text(
         frame: &[u8],
         at: usize,

@@ -1,23 +1,25 @@
-//! The pairs of a map whose keys are strings and whose values are no levels, as most maps' are: which kind a value has is asked once
-//! a map, and not once a pair. They touch no cells.
+//! The pairs of a map whose keys are strings and whose values are bools, numbers or strings, as most maps' are: which kind a value has
+//! is asked once a map, and not once a pair. They touch no cells.
 ghost use Rattle.std.specs.Prelude.{◌≡◌, ◌≤◌, length, true, IfSome};
 ghost use Rattle.thrift_value.specs.declared.kind.Kind.{Kind};
 ghost use Rattle.kept_messages.specs.Kept.{KeptLeafPairs};
 
-use crate::leaves::{
-    BoolLeaf, DoubleLeaf, I8Leaf, I16Leaf, I32Leaf, I64Leaf, Leaf, TextLeaf, UuidLeaf,
-};
+use crate::leaves::{BoolLeaf, DoubleLeaf, I32Leaf, I64Leaf, Leaf, TextLeaf};
 use kept_forms::FormKeep;
 use protocol_traits::{Container, FormWrite, Pairs, Stand};
 use thrift_value::Kind;
 
-/// Whether a map of these kinds has strings for keys, and values that are no levels.
+/// Whether a map of these kinds has strings for keys, and for values what `keep_leaf_pairs` keeps: the kinds that are common. With all of
+/// them the loops would be too long to stand in line with a map's beginning.
 #[inline(always)]
 pub fn are_leaf_pairs(key: Kind, value: Kind) -> bool
     ensures { result ≡ true → key ≡ Kind.Str }
 {
     match key {
-        Kind::Str => !matches!(value, Kind::Struct | Kind::Map | Kind::Set | Kind::List),
+        Kind::Str => matches!(
+            value,
+            Kind::Bool | Kind::I32 | Kind::I64 | Kind::Double | Kind::Str
+        ),
         _ => false,
     }
 }
@@ -32,14 +34,11 @@ pub fn keep_leaf_pairs<R: FormKeep<W>, W: FormWrite>(frame: &[u8], pairs: Pairs)
 {
     match pairs.value {
         Kind::Bool => keep_text_pairs::<R, W, BoolLeaf>(frame, pairs),
-        Kind::I8 => keep_text_pairs::<R, W, I8Leaf>(frame, pairs),
-        Kind::I16 => keep_text_pairs::<R, W, I16Leaf>(frame, pairs),
         Kind::I32 => keep_text_pairs::<R, W, I32Leaf>(frame, pairs),
         Kind::I64 => keep_text_pairs::<R, W, I64Leaf>(frame, pairs),
         Kind::Double => keep_text_pairs::<R, W, DoubleLeaf>(frame, pairs),
         Kind::Str => keep_text_pairs::<R, W, TextLeaf>(frame, pairs),
-        Kind::Uuid => keep_text_pairs::<R, W, UuidLeaf>(frame, pairs),
-        Kind::Struct | Kind::Map | Kind::Set | Kind::List => None,
+        _ => None,
     }
 }
 

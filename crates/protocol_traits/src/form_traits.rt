@@ -111,6 +111,13 @@ pub trait FormRead: ReadRules {
         ensures part { IfSome result (λ x. (at < x.begin) × (x.begin ≤ x.end) × (x.end ≤ x.behind)) }
         ensures steps { IfSome result (λ x. StepsText Self.reads Self.stands_at hinted hint frame.now at stand (part frame.now x.begin x.end) x.behind) };
 
+    /// The same of a string that is short and stands apart from the frame's end, where fewer comparisons tell that than any string asks for.
+    fn short_text(frame: &[u8], at: usize, stand: Stand, hint: Hint) -> Option<Span>
+        requires { at ≤ length frame.now }
+        ensures past { IfSome result (λ x. IsPast at frame.now x.behind) }
+        ensures part { IfSome result (λ x. (at < x.begin) × (x.begin ≤ x.end) × (x.end ≤ x.behind)) }
+        ensures steps { IfSome result (λ x. StepsText Self.reads Self.stands_at hinted hint frame.now at stand (part frame.now x.begin x.end) x.behind) };
+
     /// A string that doesn't lie in the frame as it is meant: its bytes come to the front of the room, which is as long as
     /// what is left of the frame. Where reading depends on the position, `hint` is what it says.
     fn decode_text(

@@ -18,7 +18,7 @@ use Rattle.protocol_traits.specs.declared.proto.Head.{Head}
 use Rattle.protocol_traits.specs.Heads.{Header, header_of}
 use Rattle.protocol_traits.specs.Steps.{told}
 use Rattle.protocol_traits.specs.declared.proto.Hint.{Hint}
-use Rattle.protocol_traits.specs.Forms.{Appends, Calls, Steps, container_kind, lead_item}
+use Rattle.protocol_traits.specs.Forms.{Appends, Calls, Steps, lead_item}
 use Rattle.thrift_value.specs.Items.{Item, field}
 use Rattle.type_tables.specs.declared.declared.StructId.{StructId}
 use Rattle.type_tables.specs.declared.declared.Ty.{Ty}
@@ -181,6 +181,11 @@ module _ {S T : Type 0} (reads : ReadRules S) (writes : WriteRules T) where
     TookTextField frame at opening last id behind old to new taken = IfSome taken (λ x. (ty : Ty) (depth : ℕ) → means ty
         → TakesField (source_in reads) (target_in writes) reads.stands_at writes.stands_at d ty depth frame at opening last (field id kinds.Str) id behind old to new x.read x.written)
 
+    -- a field was taken that this lead tells, and whose value is no level: in however many levels
+    abbrev pub TookPlainField : List ℕ → ℕ → Opening → ℤ → Lead → ℤ → ℕ → List ℕ → ℕ → List ℕ → Option Reach → Type 0
+    TookPlainField frame at opening last lead id behind old to new taken = IfSome taken (λ x. (ty : Ty) (depth : ℕ) → means ty
+        → TakesField (source_in reads) (target_in writes) reads.stands_at writes.stands_at d ty depth frame at opening last (lead_item lead id) id behind old to new x.read x.written)
+
     -- a value was taken, inside so many levels
     abbrev pub TookValue : ℕ → List ℕ → ℕ → Stand → Kind → List ℕ → ℕ → List ℕ → Option Reach → Type 0
     TookValue depth frame at stand kind old to new taken = IfSome taken (λ x. (ty : Ty) → means ty
@@ -195,11 +200,6 @@ module _ {S T : Type 0} (reads : ReadRules S) (writes : WriteRules T) where
     abbrev pub TookField : ℕ → List ℕ → ℕ → Opening → ℤ → Kind → ℤ → ℕ → List ℕ → ℕ → List ℕ → Option Reach → Type 0
     TookField depth frame at opening last kind id behind old to new taken = IfSome taken (λ x. (ty : Ty) → means ty
         → TakesField (source_in reads) (target_in writes) reads.stands_at writes.stands_at d ty depth frame at opening last (field id kind) id behind old to new x.read x.written)
-
-    -- the same for a list or set
-    abbrev pub TookList : ℕ → List ℕ → ℕ → Opening → ℤ → Container → ℤ → ℕ → List ℕ → ℕ → List ℕ → Option Reach → Type 0
-    TookList depth frame at opening last container id behind old to new taken =
-        TookField depth frame at opening last (container_kind container) id behind old to new taken
 
     -- a field was taken that this lead tells
     abbrev pub TookLead : ℕ → List ℕ → ℕ → Opening → ℤ → Lead → ℤ → ℕ → List ℕ → ℕ → List ℕ → Option Reach → Type 0

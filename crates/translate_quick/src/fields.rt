@@ -7,9 +7,9 @@ ghost use Rattle.protocol_traits.specs.declared.forms.Lead.{Lead};
 ghost use Rattle.protocol_traits.specs.Forms.{IsPast};
 ghost use Rattle.type_tables.specs.declared.declared.Ty.{Ty};
 ghost use Rattle.type_walk.specs.Positions.{field_type, hint_at, in_struct};
-ghost use Rattle.translate_known.specs.Quick.{Grows, HasRoom, Informs, TookLeafField, TookTextField};
+ghost use Rattle.translate_known.specs.Quick.{Grows, HasRoom, Informs, TookLeafField, TookPlainField, TookTextField};
 
-use crate::leaves::{Leaf, take_text};
+use crate::leaves::{DoubleLeaf, I8Leaf, I16Leaf, I32Leaf, I64Leaf, Leaf, UuidLeaf, take_text};
 use protocol_traits::{Container, FormRead, FormWrite, Hint, Lead, Opening, Stand};
 use thrift_value::Kind;
 use translate_known::{Known, Reach};
@@ -19,9 +19,62 @@ use type_tables::Schema;
 /// some of those before a value.
 pub const BEFORE_FIELD: usize = 122;
 
+/// Takes a field whose value is no level, as its lead tells. Other leads are none. Each arm asks whether it took its field: asked once
+/// behind the match, it would be a test a field that the compiler doesn't lead the arms past.
+#[inline(always)]
+pub fn take_plain_field<R: FormRead, W: FormWrite, K: Known>(
+    known: K,
+    schema: &Schema,
+    frame: &[u8],
+    at: usize,
+    cells: &mut [u8],
+    to: usize,
+    opening: Opening,
+    last: i16,
+    lead: Lead,
+    id: i16,
+    behind: usize,
+) -> Option<Reach>
+    requires known { K.sound known schema.now }
+    requires informed { Informs K.tells R.hinted W.hinted }
+    requires size { length frame.now < 2 ^ 31 }
+    requires place { IsPast at frame.now behind }
+    requires room { HasRoom BEFORE_FIELD frame.now at cells.old to }
+    ensures kept { length cells.new ≡ length cells.old }
+    ensures past { IfSome result (λ x. IsPast at frame.now x.read) }
+    ensures grows { IfSome result (λ x. Grows at to x.read x.written) }
+    ensures takes { TookPlainField R.ReadRules W.WireWrite (K.means known) schema.now frame.now at opening last lead id behind cells.old to cells.new result }
+{
+    match lead {
+        Lead::Bool => Some(take_flag::<R, W>(frame, at, cells, to, opening, last, id, behind)?),
+        Lead::I8 => Some(take_leaf_field::<R, W, I8Leaf>(
+            frame, at, cells, to, opening, last, id, behind,
+        )?),
+        Lead::I16 => Some(take_leaf_field::<R, W, I16Leaf>(
+            frame, at, cells, to, opening, last, id, behind,
+        )?),
+        Lead::I32 => Some(take_leaf_field::<R, W, I32Leaf>(
+            frame, at, cells, to, opening, last, id, behind,
+        )?),
+        Lead::I64 => Some(take_leaf_field::<R, W, I64Leaf>(
+            frame, at, cells, to, opening, last, id, behind,
+        )?),
+        Lead::Double => Some(take_leaf_field::<R, W, DoubleLeaf>(
+            frame, at, cells, to, opening, last, id, behind,
+        )?),
+        Lead::Uuid => Some(take_leaf_field::<R, W, UuidLeaf>(
+            frame, at, cells, to, opening, last, id, behind,
+        )?),
+        Lead::Str => Some(take_text_field::<R, W, K>(
+            known, schema, frame, at, cells, to, opening, last, id, behind,
+        )?),
+        _ => None,
+    }
+}
+
 /// Takes a bool field.
 #[inline(always)]
-pub fn take_flag<R: FormRead, W: FormWrite>(
+fn take_flag<R: FormRead, W: FormWrite>(
     frame: &[u8],
     at: usize,
     cells: &mut [u8],
@@ -45,7 +98,7 @@ pub fn take_flag<R: FormRead, W: FormWrite>(
 
 /// Takes a field of a kind that is neither a bool nor a string nor a level.
 #[inline(always)]
-pub fn take_leaf_field<R: FormRead, W: FormWrite, L: Leaf>(
+fn take_leaf_field<R: FormRead, W: FormWrite, L: Leaf>(
     frame: &[u8],
     at: usize,
     cells: &mut [u8],
@@ -69,7 +122,7 @@ pub fn take_leaf_field<R: FormRead, W: FormWrite, L: Leaf>(
 
 /// Takes a string field.
 #[inline(always)]
-pub fn take_text_field<R: FormRead, W: FormWrite, K: Known>(
+fn take_text_field<R: FormRead, W: FormWrite, K: Known>(
     known: K,
     schema: &Schema,
     frame: &[u8],

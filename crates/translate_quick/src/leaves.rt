@@ -2,10 +2,10 @@
 ghost use Rattle.std.specs.Prelude.{◌≡◌, ◌+◌, ◌-◌, ◌*◌, ◌≤◌, ◌<◌, ◌^◌, length, IfSome};
 ghost use Rattle.thrift_value.specs.declared.kind.Kind.{Kind};
 ghost use Rattle.protocol_traits.specs.declared.forms.Stand.{Stand};
-ghost use Rattle.protocol_traits.specs.Forms.{IsPast};
+ghost use Rattle.protocol_traits.specs.Forms.{IsPast, StepsText, part};
 ghost use Rattle.translate_known.specs.Quick.{Grows, HasRoom, TookLeaf, TookText};
 
-use protocol_traits::{FormRead, FormWrite, Hint, Stand};
+use protocol_traits::{FormRead, FormWrite, Hint, Span, Stand};
 use thrift_value::Kind;
 use translate_known::Reach;
 
@@ -265,16 +265,86 @@ pub fn take_text<R: FormRead, W: FormWrite>(
     ensures grows { IfSome result (λ x. Grows at to x.read x.written) }
     ensures takes { TookText R.ReadRules W.WireWrite R.hinted W.hinted hint frame.now at stand cells.old to cells.new result }
 {
+    if let Some(span) = R::short_text(frame, at, stand, hint) {
+        return lay_span::<R, W>(frame, at, cells, to, stand, hint, span);
+    }
     match R::text(frame, at, stand, hint) {
-        Some(span) => {
-            let written = W::text(cells, to, stand, hint, frame, span.begin, span.end)?;
-            Some(Reach {
-                read: span.behind,
-                written,
-            })
-        }
+        Some(span) => lay_span::<R, W>(frame, at, cells, to, stand, hint, span),
         None => take_decoded::<R, W>(frame, at, cells, to, stand, hint),
     }
+}
+
+/// The same where no more code may stand in line than a short string asks for: any other one goes by a call.
+#[inline(always)]
+pub fn take_short_text<R: FormRead, W: FormWrite>(
+    frame: &[u8],
+    at: usize,
+    cells: &mut [u8],
+    to: usize,
+    stand: Stand,
+    hint: Hint,
+) -> Option<Reach>
+    requires place { at ≤ length frame.now }
+    requires room { HasRoom AROUND frame.now at cells.old to }
+    requires size { length frame.now < 2 ^ 31 }
+    ensures kept { length cells.new ≡ length cells.old }
+    ensures past { IfSome result (λ x. IsPast at frame.now x.read) }
+    ensures grows { IfSome result (λ x. Grows at to x.read x.written) }
+    ensures takes { TookText R.ReadRules W.WireWrite R.hinted W.hinted hint frame.now at stand cells.old to cells.new result }
+{
+    if let Some(span) = R::short_text(frame, at, stand, hint) {
+        return lay_span::<R, W>(frame, at, cells, to, stand, hint, span);
+    }
+    call_text::<R, W>(frame, at, cells, to, stand, hint)
+}
+
+#[inline(never)]
+fn call_text<R: FormRead, W: FormWrite>(
+    frame: &[u8],
+    at: usize,
+    cells: &mut [u8],
+    to: usize,
+    stand: Stand,
+    hint: Hint,
+) -> Option<Reach>
+    requires place { at ≤ length frame.now }
+    requires room { HasRoom AROUND frame.now at cells.old to }
+    requires size { length frame.now < 2 ^ 31 }
+    ensures kept { length cells.new ≡ length cells.old }
+    ensures past { IfSome result (λ x. IsPast at frame.now x.read) }
+    ensures grows { IfSome result (λ x. Grows at to x.read x.written) }
+    ensures takes { TookText R.ReadRules W.WireWrite R.hinted W.hinted hint frame.now at stand cells.old to cells.new result }
+{
+    take_text::<R, W>(frame, at, cells, to, stand, hint)
+}
+
+/// Writes a string that was found in the frame. What was asked of a short one holds here, too, so the compiler asks nothing twice.
+#[inline(always)]
+fn lay_span<R: FormRead, W: FormWrite>(
+    frame: &[u8],
+    at: usize,
+    cells: &mut [u8],
+    to: usize,
+    stand: Stand,
+    hint: Hint,
+    span: Span,
+) -> Option<Reach>
+    requires place { at ≤ length frame.now }
+    requires room { HasRoom AROUND frame.now at cells.old to }
+    requires size { length frame.now < 2 ^ 31 }
+    requires past { IsPast at frame.now span.behind }
+    requires part { (at < span.begin) × (span.begin ≤ span.end) × (span.end ≤ span.behind) }
+    requires found { StepsText R.ReadRules.reads R.ReadRules.stands_at R.hinted hint frame.now at stand (part frame.now span.begin span.end) span.behind }
+    ensures kept { length cells.new ≡ length cells.old }
+    ensures past { IfSome result (λ x. IsPast at frame.now x.read) }
+    ensures grows { IfSome result (λ x. Grows at to x.read x.written) }
+    ensures takes { TookText R.ReadRules W.WireWrite R.hinted W.hinted hint frame.now at stand cells.old to cells.new result }
+{
+    let written = W::text(cells, to, stand, hint, frame, span.begin, span.end)?;
+    Some(Reach {
+        read: span.behind,
+        written,
+    })
 }
 
 /// Takes a string that is decoded first, into cells behind those that its spelling may take.

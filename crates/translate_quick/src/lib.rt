@@ -6,6 +6,7 @@
 
 mod fields;
 mod leaves;
+mod pairs;
 mod passing;
 mod quick;
 mod runs;

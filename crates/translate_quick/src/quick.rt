@@ -7,12 +7,14 @@ ghost use Rattle.protocol_traits.specs.declared.forms.Container.{Container};
 ghost use Rattle.protocol_traits.specs.declared.forms.Lead.{Lead};
 ghost use Rattle.protocol_traits.specs.declared.forms.Stand.{Stand};
 ghost use Rattle.protocol_traits.specs.Forms.{IsPast, container_kind};
-ghost use Rattle.translate_known.specs.Quick.{Grows, HasRoom, Informs, TookElements, TookField, TookFields, TookLead, TookList, TookMap, TookPairs, TookRun, TookValue, reached};
+ghost use Rattle.translate_known.specs.Quick.{Grows, HasRoom, Informs, TookElements, TookField, TookFields, TookLead, TookMap, TookPairs, TookRun, TookValue, reached};
 
-use crate::fields::{BEFORE_FIELD, take_flag, take_leaf_field, take_text_field};
+use crate::fields::{BEFORE_FIELD, is_hinted, take_plain_field};
 use crate::leaves::{
-    AROUND, BoolLeaf, DoubleLeaf, I8Leaf, I16Leaf, I32Leaf, I64Leaf, UuidLeaf, take_leaf, take_text,
+    AROUND, BoolLeaf, DoubleLeaf, I8Leaf, I16Leaf, I32Leaf, I64Leaf, UuidLeaf, take_leaf,
+    take_short_text,
 };
+use crate::pairs::{are_leaf_pairs, take_leaf_pairs};
 use crate::runs::{take_leaves, take_rare_leaves, take_texts};
 use protocol_traits::{Container, DEPTH, FormRead, FormWrite, Lead, Opening, Pairs, Stand};
 use thrift_value::Kind;
@@ -20,7 +22,7 @@ use translate_known::{Known, Reach, container_kind, mark_for, sequence_kind, seq
 use type_tables::Schema;
 
 /// The most cells that the end of a container takes.
-const END: usize = 2;
+pub const END: usize = 2;
 
 /// What the end of a struct leaves of the cells for its last byte.
 const BEHIND_STOP: usize = 8;
@@ -54,91 +56,60 @@ pub fn take_fields<R: FormRead, W: FormWrite, K: Known>(
     let mut opening = opening;
     let mut at = from;
     let mut to = *into;
+    // Each arm calls its own function and goes round the loop by itself: a function of all of them would be too long to stand in line.
     'fields: loop {
         let (lead, id, behind) = R::next_field(frame, at, opening, last)?;
-        if let Lead::Stop = lead {
-            let written = W::stop(cells, to, opening, depth);
-            *into = written;
-            return Some(behind);
-        }
-        if let Lead::Bad = lead {
-            // A way out of its own: joined with the one above, it would be a test a field more.
-            *into = to;
-            return None;
-        }
-        let reach = take_field::<R, W, K>(
-            known, schema, frame, at, cells, to, opening, last, lead, id, behind, depth,
-        )?;
-        at = reach.read;
-        to = reach.written;
-        last = id;
-        opening = Opening::Old;
-    }
-}
-
-/// Takes a field whose lead was read. The end of the struct is none. Each arm asks whether it took its field: asked once behind
-/// the match, it would be a test a field that the compiler doesn't lead the arms past.
-#[cycle(body)]
-#[inline(always)]
-fn take_field<R: FormRead, W: FormWrite, K: Known>(
-    known: K,
-    schema: &Schema,
-    frame: &[u8],
-    at: usize,
-    cells: &mut [u8],
-    to: usize,
-    opening: Opening,
-    last: i16,
-    lead: Lead,
-    id: i16,
-    behind: usize,
-    depth: usize,
-) -> Option<Reach>
-    requires known { K.sound known schema.now }
-    requires informed { Informs K.tells R.hinted W.hinted }
-    requires size { length frame.now < 2 ^ 31 }
-    requires place { IsPast at frame.now behind }
-    requires room { HasRoom BEFORE_FIELD frame.now at cells.old to }
-    requires shallow { depth ≤ DEPTH }
-    ensures kept { length cells.new ≡ length cells.old }
-    ensures past { IfSome result (λ x. IsPast at frame.now x.read) }
-    ensures grows { IfSome result (λ x. Grows at to x.read x.written) }
-    ensures takes { TookLead R.ReadRules W.WireWrite (K.means known) schema.now depth frame.now at opening last lead id behind cells.old to cells.new result }
-{
-    match lead {
-        Lead::Bool => Some(take_flag::<R, W>(frame, at, cells, to, opening, last, id, behind)?),
-        Lead::I8 => Some(take_leaf_field::<R, W, I8Leaf>(
-            frame, at, cells, to, opening, last, id, behind,
-        )?),
-        Lead::I16 => Some(take_leaf_field::<R, W, I16Leaf>(
-            frame, at, cells, to, opening, last, id, behind,
-        )?),
-        Lead::I32 => Some(take_leaf_field::<R, W, I32Leaf>(
-            frame, at, cells, to, opening, last, id, behind,
-        )?),
-        Lead::I64 => Some(take_leaf_field::<R, W, I64Leaf>(
-            frame, at, cells, to, opening, last, id, behind,
-        )?),
-        Lead::Double => Some(take_leaf_field::<R, W, DoubleLeaf>(
-            frame, at, cells, to, opening, last, id, behind,
-        )?),
-        Lead::Uuid => Some(take_leaf_field::<R, W, UuidLeaf>(
-            frame, at, cells, to, opening, last, id, behind,
-        )?),
-        Lead::Str => Some(take_text_field::<R, W, K>(
-            known, schema, frame, at, cells, to, opening, last, id, behind,
-        )?),
-        Lead::Struct => Some(take_struct_field::<R, W, K>(
-            known, schema, frame, at, cells, to, opening, last, id, behind, depth,
-        )?),
-        Lead::Map => Some(take_map_field::<R, W, K>(
-            known, schema, frame, at, cells, to, opening, last, id, behind, depth,
-        )?),
-        _ => {
-            let container = sequence_of(lead)?;
-            Some(take_list_field::<R, W, K>(
-                known, schema, frame, at, cells, to, opening, last, id, container, behind, depth,
-            )?)
+        match lead {
+            Lead::Stop => {
+                let written = W::stop(cells, to, opening, depth);
+                *into = written;
+                return Some(behind);
+            }
+            Lead::Bad => {
+                // A way out of its own: joined with the one above, it would be a test a field more.
+                *into = to;
+                return None;
+            }
+            Lead::Struct => {
+                let reach = take_struct_field::<R, W, K>(
+                    known, schema, frame, at, cells, to, opening, last, id, behind, depth,
+                )?;
+                at = reach.read;
+                to = reach.written;
+                last = id;
+                opening = Opening::Old;
+                continue 'fields;
+            }
+            Lead::Map => {
+                let reach = take_map_field::<R, W, K>(
+                    known, schema, frame, at, cells, to, opening, last, id, behind, depth,
+                )?;
+                at = reach.read;
+                to = reach.written;
+                last = id;
+                opening = Opening::Old;
+                continue 'fields;
+            }
+            Lead::Set | Lead::List => {
+                let reach = take_list_field::<R, W, K>(
+                    known, schema, frame, at, cells, to, opening, last, lead, id, behind, depth,
+                )?;
+                at = reach.read;
+                to = reach.written;
+                last = id;
+                opening = Opening::Old;
+                continue 'fields;
+            }
+            _ => {
+                let reach = take_plain_field::<R, W, K>(
+                    known, schema, frame, at, cells, to, opening, last, lead, id, behind,
+                )?;
+                at = reach.read;
+                to = reach.written;
+                last = id;
+                opening = Opening::Old;
+                continue 'fields;
+            }
         }
     }
 }
@@ -220,7 +191,7 @@ fn take_map_field<R: FormRead, W: FormWrite, K: Known>(
     Some(Reach { read, written })
 }
 
-/// Takes a field whose value is a list or set.
+/// Takes a field whose value is a list or set. Other leads are none.
 #[cycle(body)]
 #[inline(always)]
 fn take_list_field<R: FormRead, W: FormWrite, K: Known>(
@@ -232,8 +203,8 @@ fn take_list_field<R: FormRead, W: FormWrite, K: Known>(
     to: usize,
     opening: Opening,
     last: i16,
+    lead: Lead,
     id: i16,
-    container: Container,
     behind: usize,
     depth: usize,
 ) -> Option<Reach>
@@ -242,13 +213,13 @@ fn take_list_field<R: FormRead, W: FormWrite, K: Known>(
     requires size { length frame.now < 2 ^ 31 }
     requires place { IsPast at frame.now behind }
     requires room { HasRoom BEFORE_FIELD frame.now at cells.old to }
-    requires no_map { container ≡ Container.Map → ⊥ }
     requires shallow { depth ≤ DEPTH }
     ensures kept { length cells.new ≡ length cells.old }
     ensures past { IfSome result (λ x. IsPast at frame.now x.read) }
     ensures grows { IfSome result (λ x. Grows at to x.read x.written) }
-    ensures takes { TookList R.ReadRules W.WireWrite (K.means known) schema.now depth frame.now at opening last container id behind cells.old to cells.new result }
+    ensures takes { TookLead R.ReadRules W.WireWrite (K.means known) schema.now depth frame.now at opening last lead id behind cells.old to cells.new result }
 {
+    let container = sequence_of(lead)?;
     let kind = container_kind(container);
     let next = known.field(schema, id, kind);
     let value = W::field(cells, to, opening, last, id, kind);
@@ -363,7 +334,7 @@ fn take_value<R: FormRead, W: FormWrite, K: Known>(
     ensures takes { TookValue R.ReadRules W.WireWrite (K.means known) schema.now depth frame.now at stand kind cells.old to cells.new result }
 {
     match kind {
-        Kind::Str => take_text::<R, W>(frame, at, cells, to, stand, known.hint()),
+        Kind::Str => take_short_text::<R, W>(frame, at, cells, to, stand, known.hint()),
         Kind::Struct | Kind::Map | Kind::Set | Kind::List => take_inner::<R, W, K>(
             known, schema, frame, at, cells, to, stand, kind, depth,
         ),
@@ -628,7 +599,7 @@ fn take_levels<R: FormRead, W: FormWrite, K: Known>(
 
 /// Takes a map inside so many levels: answers the place behind it in the frame, and moves `to` to the one in the cells.
 #[cycle(body)]
-#[inline(never)]
+#[inline(always)]
 fn take_map<R: FormRead, W: FormWrite, K: Known>(
     known: K,
     schema: &Schema,
@@ -668,10 +639,41 @@ fn take_map<R: FormRead, W: FormWrite, K: Known>(
     Some(reach.read)
 }
 
-/// Takes the pairs of an open map, of whose keys and values this is known, to its end.
+/// Takes the pairs of an open map, of whose keys and values this is known, to its end. Those of most maps have a loop of their own, others
+/// go by a call.
 #[cycle(body)]
 #[inline(always)]
 fn take_pairs<R: FormRead, W: FormWrite, K: Known>(
+    key: K,
+    value: K,
+    schema: &Schema,
+    frame: &[u8],
+    cells: &mut [u8],
+    into: usize,
+    pairs: Pairs,
+    depth: usize,
+) -> Option<Reach>
+    requires key { K.sound key schema.now }
+    requires value { K.sound value schema.now }
+    requires informed { Informs K.tells R.hinted W.hinted }
+    requires size { length frame.now < 2 ^ 31 }
+    requires place { pairs.behind ≤ length frame.now }
+    requires room { HasRoom AROUND frame.now pairs.behind cells.old into }
+    requires shallow { depth ≤ DEPTH }
+    ensures kept { length cells.new ≡ length cells.old }
+    ensures place { IfSome result (λ x. (pairs.behind ≤ x.read) × (x.read ≤ length frame.now)) }
+    ensures grows { IfSome result (λ x. Grows pairs.behind (into + END) x.read x.written) }
+    ensures takes { TookPairs R.ReadRules W.WireWrite (K.means key) (K.means value) schema.now depth frame.now pairs cells.old into cells.new result }
+{
+    if !is_hinted::<R, W>() && are_leaf_pairs(pairs.key, pairs.value) {
+        return Some(take_leaf_pairs::<R, W>(frame, cells, into, pairs)?);
+    }
+    call_pairs::<R, W, K>(key, value, schema, frame, cells, into, pairs, depth)
+}
+
+/// The same pair by pair, whatever their kinds. It is a call but where `take_pairs` does nothing else.
+#[cycle(body)]
+fn call_pairs<R: FormRead, W: FormWrite, K: Known>(
     key: K,
     value: K,
     schema: &Schema,

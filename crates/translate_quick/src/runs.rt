@@ -2,7 +2,7 @@
 ghost use Rattle.std.specs.Prelude.{◌≡◌, ◌≤◌, ◌<◌, ◌^◌, length, IfSome};
 ghost use Rattle.translate_known.specs.Quick.{Grows, HasRoom, TookLeaves, TookTexts, reached};
 
-use crate::leaves::{AROUND, Leaf, take_text};
+use crate::leaves::{AROUND, Leaf, take_short_text};
 use protocol_traits::{FormRead, FormWrite, Hint, Stand};
 use translate_known::Reach;
 
@@ -98,7 +98,7 @@ pub fn take_texts<R: FormRead, W: FormWrite>(
     let mut at = from;
     let mut to = into;
     'elements: for i in 0..size {
-        let reach = take_text::<R, W>(frame, at, cells, to, Stand::Element, hint)?;
+        let reach = take_short_text::<R, W>(frame, at, cells, to, Stand::Element, hint)?;
         at = reach.read;
         to = reach.written;
     }

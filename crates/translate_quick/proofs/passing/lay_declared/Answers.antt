@@ -1,8 +1,8 @@
-use Rattle.std.proofs.Common.{ℕ, [], ◌++◌, take, refl, ap, Some, None}
+use Rattle.std.proofs.Common.{ℕ, [], take, refl, ap}
 use Rattle.protocol_traits.specs.Heads.{header_of}
 use Rattle.type_walk.specs.Positions.{start}
 use Rattle.translate_verdicts.specs.Positions.{typed}
-use Rattle.translate_verdicts.specs.Routes.{body_of, info_of, start_of}
+use Rattle.translate_verdicts.specs.Routes.{info_of, start_of}
 use Rattle.translate_verdicts.specs.Body.{source_in, target_in}
 use Rattle.translate_verdicts.proofs.Judging.{passed_whole}
 use Rattle.translate_known.proofs.Levels.{if_some}

@@ -1,4 +1,4 @@
-use Rattle.std.proofs.Common.{ℕ, [], ◌++◌, take, refl, ap, Some, None}
+use Rattle.std.proofs.Common.{ℕ, [], take, refl}
 use Rattle.protocol_traits.specs.Heads.{header_of}
 use Rattle.type_walk.specs.Positions.{start}
 use Rattle.translate_verdicts.specs.Positions.{typed}

@@ -1,7 +1,9 @@
-use Rattle.std.proofs.Common.{◌≡◌, ◌+◌, ◌-◌, ◌<◌, ℕ, ℤ, pos, List, ◌∷◌, Some, arith, refl, rules, subst, ◌∙◌, SFits, to_z, w16}
+use Rattle.std.proofs.Common.{◌≡◌, ◌+◌, ◌-◌, ◌<◌, ℕ, ℤ, pos, List, ◌∷◌, Some, arith, refl, rules, subst, sym, ◌∙◌, ◌⊎◌, inl, inr, SFits, to_z, w16}
 use Rattle.std.proofs.lemmas.Int.{to_z-of_z}
 use Rattle.thrift_value.specs.declared.kind.Kind.TheVariants as kinds
 use Rattle.thrift_value.specs.Items.{empty_map, end, map_begin, stop, struct_begin}
+use Rattle.protocol_traits.specs.declared.forms.Lead.{Lead}
+use Rattle.protocol_traits.specs.declared.forms.Lead.TheVariants as leads
 use Rattle.protocol_traits.specs.declared.forms.Opening.TheVariants as openings
 use Rattle.protocol_traits.specs.declared.nest.Slot.{Slot}
 use Rattle.protocol_traits.specs.declared.nest.Slot.TheVariants as slots
@@ -13,6 +15,17 @@ use Rattle.translate_known.specs.Quick.{Spot, Takes, called, in_elements, spot, 
 use Rattle.translate_known.proofs.Taking.{calls_some, takes_item, takes_none, takes_then}
 use Rattle.translate_known.proofs.Levels.{elements_after, elements_done, elements_nest, elements_opening, elements_weight, flat_elements, if_some, key_opening, pairs_some, takes_field, takes_level, turns_map}
 use Rattle.translate_quick.proofs.quick.+body.Goals as goal
+
+-- these leads tell a field
+struct_is_good : leads.Struct ≡ leads.Bad → ⊥
+struct_is_good bad = absurd (cc)
+
+map_is_good : leads.Map ≡ leads.Bad → ⊥
+map_is_good bad = absurd (cc)
+
+list_is_good : (lead : Lead) → (lead ≡ leads.Set) ⊎ (lead ≡ leads.List) → lead ≡ leads.Bad → ⊥
+list_is_good lead (inl set) bad = let same : leads.Set ≡ leads.Bad = sym set ∙ bad in absurd (cc)
+list_is_good lead (inr list) bad = let same : leads.List ≡ leads.Bad = sym list ∙ bad in absurd (cc)
 
 pub take_fields-fields-init : goal.take_fields-fields-init
 take_fields-fields-init g t c =
@@ -44,6 +57,28 @@ take_fields-returns-in-Stop-clause-takes g t c ty means up outer deep =
     c.fields.at c.in_ok-lead.behind c.fields.opening nest p stop c.fields.cells c.stop-written.new.cells c.fields.to c.stop-written.result (omega arith)
     (steps up (hint_of p) (λ bad. absurd (cc))) (c.stop-written.ensures.spells last up (mark_of p stop) deep))
 
+pub take_fields-fields-preserved-in-Set : goal.take_fields-fields-preserved-in-Set
+take_fields-fields-preserved-in-Set g t c =
+    let source = source_in g.R.ReadRules in
+    let target = target_in g.W.WireWrite in
+    let d = c.args.schema.now in
+    let inv = c.fields.invariant in
+    let last : ℤ = to_z w16 c.fields.last-bits in
+    let id_fits : SFits w16 c.in_ok-lead.id = search rules in
+    let steps = c.in_ok-lead.ensures.steps in
+    let taken = rw (to_z-of_z w16 c.in_ok-lead.id id_fits) at c.in_ok-reach-in-Set.ensures.takes in
+    record {
+      place = (omega (arith, inv.place, c.in_ok-reach-in-Set.ensures.past), omega (arith, c.in_ok-reach-in-Set.ensures.past));
+      kept = c.in_ok-reach-in-Set.ensures.kept ∙ inv.kept;
+      grows = omega (arith, inv.grows, c.in_ok-reach-in-Set.ensures.grows);
+      takes = λ ty up outer means deep.
+          let p : Position = standing d (in_struct ty ∷ outer) in
+          rw (to_z-of_z w16 c.in_ok-lead.id id_fits) (takes_then source target g.R.ReadRules.stands_at g.W.WireWrite.stands_at c.args.frame.now
+          (spot c.args.from c.args.opening (slots.Fields (pos 0) ∷ up) p) (spot c.fields.at c.fields.opening (slots.Fields last ∷ up) p) (spot c.in_ok-reach-in-Set.reach.read openings.Old (slots.Fields c.in_ok-lead.id ∷ up) p)
+          c.args.cells.now c.fields.cells c.take_list_field.new.cells c.args.into.now c.fields.to c.in_ok-reach-in-Set.reach.written
+          (inv.takes ty up outer means deep) (taken ty means up outer deep (λ hint. steps up hint (list_is_good c.in_ok-lead.lead c.in-Set.is))));
+    }
+
 pub take_fields-fields-preserved : goal.take_fields-fields-preserved
 take_fields-fields-preserved g t c =
     let source = source_in g.R.ReadRules in
@@ -53,73 +88,62 @@ take_fields-fields-preserved g t c =
     let last : ℤ = to_z w16 c.fields.last-bits in
     let id_fits : SFits w16 c.in_ok-lead.id = search rules in
     let steps = c.in_ok-lead.ensures.steps in
-    let taken = rw (to_z-of_z w16 c.in_ok-lead.id id_fits) at c.in_ok-reach.ensures.takes in
+    let taken = rw (to_z-of_z w16 c.in_ok-lead.id id_fits) at c.in_ok-reach-in_default.ensures.takes in
     record {
-      place = (omega (arith, inv.place, c.in_ok-reach.ensures.past), omega (arith, c.in_ok-reach.ensures.past));
-      kept = c.in_ok-reach.ensures.kept ∙ inv.kept;
-      grows = omega (arith, inv.grows, c.in_ok-reach.ensures.grows);
+      place = (omega (arith, inv.place, c.in_ok-reach-in_default.ensures.past), omega (arith, c.in_ok-reach-in_default.ensures.past));
+      kept = c.in_ok-reach-in_default.ensures.kept ∙ inv.kept;
+      grows = omega (arith, inv.grows, c.in_ok-reach-in_default.ensures.grows);
       takes = λ ty up outer means deep.
           let p : Position = standing d (in_struct ty ∷ outer) in
           rw (to_z-of_z w16 c.in_ok-lead.id id_fits) (takes_then source target g.R.ReadRules.stands_at g.W.WireWrite.stands_at c.args.frame.now
-          (spot c.args.from c.args.opening (slots.Fields (pos 0) ∷ up) p) (spot c.fields.at c.fields.opening (slots.Fields last ∷ up) p) (spot c.in_ok-reach.reach.read openings.Old (slots.Fields c.in_ok-lead.id ∷ up) p)
-          c.args.cells.now c.fields.cells c.take_field.new.cells c.args.into.now c.fields.to c.in_ok-reach.reach.written
-          (inv.takes ty up outer means deep) (taken ty means up outer deep (λ hint. steps up hint c.in_default-lead.not-Bad)));
+          (spot c.args.from c.args.opening (slots.Fields (pos 0) ∷ up) p) (spot c.fields.at c.fields.opening (slots.Fields last ∷ up) p) (spot c.in_ok-reach-in_default.reach.read openings.Old (slots.Fields c.in_ok-lead.id ∷ up) p)
+          c.args.cells.now c.fields.cells c.take_plain_field.new.cells c.args.into.now c.fields.to c.in_ok-reach-in_default.reach.written
+          (inv.takes ty up outer means deep) (taken ty c.args.depth means up outer deep (λ hint. steps up hint c.in_default.not-Bad)));
     }
 
-pub take_field-returns-in_ok-take_flag-in-Bool-clause-takes : goal.take_field-returns-in_ok-take_flag-in-Bool-clause-takes
-take_field-returns-in_ok-take_flag-in-Bool-clause-takes g t c ty means =
-    let takes = rw (to_z-of_z w16 c.args.last c.ranges.last, to_z-of_z w16 c.args.id c.ranges.id) at c.in_ok-take_flag-in-Bool.ensures.takes in
-    rw c.in-Bool.is (takes c.args.schema.now ty c.args.depth)
+pub take_fields-fields-preserved-in-Struct : goal.take_fields-fields-preserved-in-Struct
+take_fields-fields-preserved-in-Struct g t c =
+    let source = source_in g.R.ReadRules in
+    let target = target_in g.W.WireWrite in
+    let d = c.args.schema.now in
+    let inv = c.fields.invariant in
+    let last : ℤ = to_z w16 c.fields.last-bits in
+    let id_fits : SFits w16 c.in_ok-lead.id = search rules in
+    let steps = rw c.in-Struct.is at c.in_ok-lead.ensures.steps in
+    let taken = rw (to_z-of_z w16 c.in_ok-lead.id id_fits) at c.in_ok-reach-in-Struct.ensures.takes in
+    record {
+      place = (omega (arith, inv.place, c.in_ok-reach-in-Struct.ensures.past), omega (arith, c.in_ok-reach-in-Struct.ensures.past));
+      kept = c.in_ok-reach-in-Struct.ensures.kept ∙ inv.kept;
+      grows = omega (arith, inv.grows, c.in_ok-reach-in-Struct.ensures.grows);
+      takes = λ ty up outer means deep.
+          let p : Position = standing d (in_struct ty ∷ outer) in
+          rw (to_z-of_z w16 c.in_ok-lead.id id_fits) (takes_then source target g.R.ReadRules.stands_at g.W.WireWrite.stands_at c.args.frame.now
+          (spot c.args.from c.args.opening (slots.Fields (pos 0) ∷ up) p) (spot c.fields.at c.fields.opening (slots.Fields last ∷ up) p) (spot c.in_ok-reach-in-Struct.reach.read openings.Old (slots.Fields c.in_ok-lead.id ∷ up) p)
+          c.args.cells.now c.fields.cells c.take_struct_field.new.cells c.args.into.now c.fields.to c.in_ok-reach-in-Struct.reach.written
+          (inv.takes ty up outer means deep) (taken ty means up outer deep (λ hint. steps up hint struct_is_good)));
+    }
 
-pub take_field-returns-in_ok-take_leaf_field-in-I8-clause-takes : goal.take_field-returns-in_ok-take_leaf_field-in-I8-clause-takes
-take_field-returns-in_ok-take_leaf_field-in-I8-clause-takes g t c ty means =
-    let takes = rw (to_z-of_z w16 c.args.last c.ranges.last, to_z-of_z w16 c.args.id c.ranges.id) at c.in_ok-take_leaf_field-in-I8.ensures.takes in
-    rw c.in-I8.is (takes c.args.schema.now ty c.args.depth)
-
-pub take_field-returns-in_ok-take_leaf_field-in-I16-clause-takes : goal.take_field-returns-in_ok-take_leaf_field-in-I16-clause-takes
-take_field-returns-in_ok-take_leaf_field-in-I16-clause-takes g t c ty means =
-    let takes = rw (to_z-of_z w16 c.args.last c.ranges.last, to_z-of_z w16 c.args.id c.ranges.id) at c.in_ok-take_leaf_field-in-I16.ensures.takes in
-    rw c.in-I16.is (takes c.args.schema.now ty c.args.depth)
-
-pub take_field-returns-in_ok-take_leaf_field-in-I32-clause-takes : goal.take_field-returns-in_ok-take_leaf_field-in-I32-clause-takes
-take_field-returns-in_ok-take_leaf_field-in-I32-clause-takes g t c ty means =
-    let takes = rw (to_z-of_z w16 c.args.last c.ranges.last, to_z-of_z w16 c.args.id c.ranges.id) at c.in_ok-take_leaf_field-in-I32.ensures.takes in
-    rw c.in-I32.is (takes c.args.schema.now ty c.args.depth)
-
-pub take_field-returns-in_ok-take_leaf_field-in-I64-clause-takes : goal.take_field-returns-in_ok-take_leaf_field-in-I64-clause-takes
-take_field-returns-in_ok-take_leaf_field-in-I64-clause-takes g t c ty means =
-    let takes = rw (to_z-of_z w16 c.args.last c.ranges.last, to_z-of_z w16 c.args.id c.ranges.id) at c.in_ok-take_leaf_field-in-I64.ensures.takes in
-    rw c.in-I64.is (takes c.args.schema.now ty c.args.depth)
-
-pub take_field-returns-in_ok-take_leaf_field-in-Double-clause-takes : goal.take_field-returns-in_ok-take_leaf_field-in-Double-clause-takes
-take_field-returns-in_ok-take_leaf_field-in-Double-clause-takes g t c ty means =
-    let takes = rw (to_z-of_z w16 c.args.last c.ranges.last, to_z-of_z w16 c.args.id c.ranges.id) at c.in_ok-take_leaf_field-in-Double.ensures.takes in
-    rw c.in-Double.is (takes c.args.schema.now ty c.args.depth)
-
-pub take_field-returns-in_ok-take_leaf_field-in-Uuid-clause-takes : goal.take_field-returns-in_ok-take_leaf_field-in-Uuid-clause-takes
-take_field-returns-in_ok-take_leaf_field-in-Uuid-clause-takes g t c ty means =
-    let takes = rw (to_z-of_z w16 c.args.last c.ranges.last, to_z-of_z w16 c.args.id c.ranges.id) at c.in_ok-take_leaf_field-in-Uuid.ensures.takes in
-    rw c.in-Uuid.is (takes c.args.schema.now ty c.args.depth)
-
-pub take_field-returns-in_ok-take_text_field-in-Str-clause-takes : goal.take_field-returns-in_ok-take_text_field-in-Str-clause-takes
-take_field-returns-in_ok-take_text_field-in-Str-clause-takes g t c ty means =
-    let takes = rw (to_z-of_z w16 c.args.last c.ranges.last, to_z-of_z w16 c.args.id c.ranges.id) at c.in_ok-take_text_field-in-Str.ensures.takes in
-    rw c.in-Str.is (takes ty c.args.depth means)
-
-pub take_field-returns-in_ok-take_struct_field-in-Struct-clause-takes : goal.take_field-returns-in_ok-take_struct_field-in-Struct-clause-takes
-take_field-returns-in_ok-take_struct_field-in-Struct-clause-takes g t c ty means =
-    let takes = rw (to_z-of_z w16 c.args.last c.ranges.last, to_z-of_z w16 c.args.id c.ranges.id) at c.in_ok-take_struct_field-in-Struct.ensures.takes in
-    rw c.in-Struct.is (takes ty means)
-
-pub take_field-returns-in_ok-take_map_field-in-Map-clause-takes : goal.take_field-returns-in_ok-take_map_field-in-Map-clause-takes
-take_field-returns-in_ok-take_map_field-in-Map-clause-takes g t c ty means =
-    let takes = rw (to_z-of_z w16 c.args.last c.ranges.last, to_z-of_z w16 c.args.id c.ranges.id) at c.in_ok-take_map_field-in-Map.ensures.takes in
-    rw c.in-Map.is (takes ty means)
-
-pub take_field-returns-in_ok-take_list_field-in_default-clause-takes : goal.take_field-returns-in_ok-take_list_field-in_default-clause-takes
-take_field-returns-in_ok-take_list_field-in_default-clause-takes g t c ty means =
-    let takes = rw (to_z-of_z w16 c.args.last c.ranges.last, to_z-of_z w16 c.args.id c.ranges.id) at c.in_ok-take_list_field-in_default.ensures.takes in
-    rw (c.in_ok-container-in_default.ensures.item c.args.id) (takes ty means)
+pub take_fields-fields-preserved-in-Map : goal.take_fields-fields-preserved-in-Map
+take_fields-fields-preserved-in-Map g t c =
+    let source = source_in g.R.ReadRules in
+    let target = target_in g.W.WireWrite in
+    let d = c.args.schema.now in
+    let inv = c.fields.invariant in
+    let last : ℤ = to_z w16 c.fields.last-bits in
+    let id_fits : SFits w16 c.in_ok-lead.id = search rules in
+    let steps = rw c.in-Map.is at c.in_ok-lead.ensures.steps in
+    let taken = rw (to_z-of_z w16 c.in_ok-lead.id id_fits) at c.in_ok-reach-in-Map.ensures.takes in
+    record {
+      place = (omega (arith, inv.place, c.in_ok-reach-in-Map.ensures.past), omega (arith, c.in_ok-reach-in-Map.ensures.past));
+      kept = c.in_ok-reach-in-Map.ensures.kept ∙ inv.kept;
+      grows = omega (arith, inv.grows, c.in_ok-reach-in-Map.ensures.grows);
+      takes = λ ty up outer means deep.
+          let p : Position = standing d (in_struct ty ∷ outer) in
+          rw (to_z-of_z w16 c.in_ok-lead.id id_fits) (takes_then source target g.R.ReadRules.stands_at g.W.WireWrite.stands_at c.args.frame.now
+          (spot c.args.from c.args.opening (slots.Fields (pos 0) ∷ up) p) (spot c.fields.at c.fields.opening (slots.Fields last ∷ up) p) (spot c.in_ok-reach-in-Map.reach.read openings.Old (slots.Fields c.in_ok-lead.id ∷ up) p)
+          c.args.cells.now c.fields.cells c.take_map_field.new.cells c.args.into.now c.fields.to c.in_ok-reach-in-Map.reach.written
+          (inv.takes ty up outer means deep) (taken ty means up outer deep (λ hint. steps up hint map_is_good)));
+    }
 
 pub take_struct_field-returns-clause-takes : goal.take_struct_field-returns-clause-takes
 take_struct_field-returns-clause-takes g t c =
@@ -149,20 +173,21 @@ take_list_field-returns-clause-takes g t c =
     let source = source_in g.R.ReadRules in
     let target = target_in g.W.WireWrite in
     let d = c.args.schema.now in
+    let container = c.in_ok-container.container in
     let spells = rw (to_z-of_z w16 c.args.last c.ranges.last, to_z-of_z w16 c.args.id c.ranges.id, c.container_kind-kind.ensures.kind) at c.field-value.ensures.spells in
     let next = rw (to_z-of_z w16 c.args.id c.ranges.id, c.container_kind-kind.ensures.kind) at c.field-next.ensures.means in
-    if_some _ _ c.take_list.result (λ (x : Reach) whole ty means.
+    if_some _ _ c.take_list.result (λ (x : Reach) whole ty means. rw (c.in_ok-container.ensures.item c.args.id) (
     takes_field source target g.R.ReadRules.stands_at g.W.WireWrite.stands_at c.args.frame.now g.R.ReadRules.pays g.met.W.FormWrite.goes_on
-    d ty c.args.depth c.args.at c.args.behind x.read c.args.opening c.args.last c.args.id (container_kind c.args.container) c.args.cells.now c.field-value.new.cells c.take_list.new.cells c.args.to c.field-value.result x.written
-    spells (whole (field_type d (Some (in_struct ty)) c.args.id (container_kind c.args.container)) (next ty means))) c.take_list.ensures.takes
+    d ty c.args.depth c.args.at c.args.behind x.read c.args.opening c.args.last c.args.id (container_kind container) c.args.cells.now c.field-value.new.cells c.take_list.new.cells c.args.to c.field-value.result x.written
+    spells (whole (field_type d (Some (in_struct ty)) c.args.id (container_kind container)) (next ty means)))) c.take_list.ensures.takes
 
 pub take_level-returns-in_ok-container-in_default-clause-takes : goal.take_level-returns-in_ok-container-in_default-clause-takes
 take_level-returns-in_ok-container-in_default-clause-takes g t c = rw c.in_ok-container-in_default.ensures.kind c.take_list.ensures.takes
 
 pub take_value-returns-in-Str-clause-takes : goal.take_value-returns-in-Str-clause-takes
 take_value-returns-in-Str-clause-takes g t c =
-    rw c.in-Str.is (if_some _ _ c.take_text.result (λ (x : Reach) whole ty means.
-    whole c.args.schema.now ty c.args.depth (λ hinted. c.hint.ensures ty means (c.requires.informed.0 hinted)) (λ hinted. c.hint.ensures ty means (c.requires.informed.1 hinted))) c.take_text.ensures.takes)
+    rw c.in-Str.is (if_some _ _ c.take_short_text.result (λ (x : Reach) whole ty means.
+    whole c.args.schema.now ty c.args.depth (λ hinted. c.hint.ensures ty means (c.requires.informed.0 hinted)) (λ hinted. c.hint.ensures ty means (c.requires.informed.1 hinted))) c.take_short_text.ensures.takes)
 
 pub take_value-returns-in_default : goal.take_value-returns-in_default
 take_value-returns-in_default g t c =
@@ -368,8 +393,12 @@ take_map-returns-clause-takes g t c ty means =
     refl (λ nest. refl) (λ outer. refl) (omega arith) steps c.in_ok-written.ensures.spells
     (λ up outer deep. c.in_ok-reach.ensures.takes (in_map d ty pairs.key pairs.value) (turns_map d ty pairs.key pairs.value) (c.key-key.ensures.means ty means) (c.value-value.ensures.means ty means) up outer deep)
 
-pub take_pairs-pairs-init : goal.take_pairs-pairs-init
-take_pairs-pairs-init g t c =
+pub take_pairs-returns-then-are_leaf_pairs-clause-takes : goal.take_pairs-returns-then-are_leaf_pairs-clause-takes
+take_pairs-returns-then-are_leaf_pairs-clause-takes g t c level turns key value =
+    c.in_ok-take_leaf_pairs.ensures.takes c.args.schema.now level c.args.depth turns
+
+pub call_pairs-pairs-init : goal.call_pairs-pairs-init
+call_pairs-pairs-init g t c =
     let source = source_in g.R.ReadRules in
     let target = target_in g.W.WireWrite in
     let d = c.args.schema.now in
@@ -386,8 +415,8 @@ take_pairs-pairs-init g t c =
           (takes_none source target g.R.ReadRules.stands_at g.W.WireWrite.stands_at c.args.frame.now here c.args.cells.now c.args.into);
     }
 
-pub take_pairs-pairs-preserved : goal.take_pairs-pairs-preserved
-take_pairs-pairs-preserved g t c =
+pub call_pairs-pairs-preserved : goal.call_pairs-pairs-preserved
+call_pairs-pairs-preserved g t c =
     let source = source_in g.R.ReadRules in
     let target = target_in g.W.WireWrite in
     let d = c.args.schema.now in
@@ -418,8 +447,8 @@ take_pairs-pairs-preserved g t c =
           (c.in_ok-behind.ensures.takes (called_for (Some (turned level))) value openings.Old (slots.Values c.args.pairs.key c.args.pairs.value left ∷ up) (turned level ∷ outer) refl (omega (arith, deep)))));
     }
 
-pub take_pairs-returns-clause-takes : goal.take_pairs-returns-clause-takes
-take_pairs-returns-clause-takes g t c level turns key value up outer deep =
+pub call_pairs-returns-clause-takes : goal.call_pairs-returns-clause-takes
+call_pairs-returns-clause-takes g t c level turns key value up outer deep =
     let source = source_in g.R.ReadRules in
     let target = target_in g.W.WireWrite in
     let d = c.args.schema.now in

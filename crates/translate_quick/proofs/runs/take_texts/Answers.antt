@@ -47,8 +47,8 @@ elements-preserved g c =
             openings.Old,
             takes_then source target g.R.ReadRules.stands_at g.W.WireWrite.stands_at c.args.frame.now
                 (spot c.args.from opening (slots.Elements kinds.Str c.args.size ∷ up) p) here done
-                c.args.cells.now c.elements.cells c.take_text.new.cells c.args.into c.elements.to c.in_ok-reach.reach.written before.1
-                (subst (λ (b : Spot). Takes source target g.R.ReadRules.stands_at g.W.WireWrite.stands_at c.args.frame.now here b c.elements.cells c.elements.to c.take_text.new.cells c.in_ok-reach.reach.written) same
+                c.args.cells.now c.elements.cells c.take_short_text.new.cells c.args.into c.elements.to c.in_ok-reach.reach.written before.1
+                (subst (λ (b : Spot). Takes source target g.R.ReadRules.stands_at g.W.WireWrite.stands_at c.args.frame.now here b c.elements.cells c.elements.to c.take_short_text.new.cells c.in_ok-reach.reach.written) same
                 (c.in_ok-reach.ensures.takes d (called_for (Some level)) depth reads writes before.0 (slots.Elements kinds.Str left ∷ up) (level ∷ outer) (refl, omega arith) (omega (arith, deep)))),
           );
     }

@@ -1,0 +1,2 @@
+-- What the quick way takes.
+pub mod Pairs
