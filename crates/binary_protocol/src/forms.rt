@@ -8,9 +8,9 @@ ghost use Rattle.binary_protocol.specs.Scan.{field_at, bool_at, i8_at, i16_at, i
 ghost use Rattle.binary_protocol.specs.Heads.{head_at, header_scan, seq_at, type_at, version_at};
 ghost use Rattle.binary_protocol.specs.Forms.{Finds, IsGood, lead_of};
 
-use crate::codes::{kind_of_code, type_of_code};
+use crate::codes::{code_of_kind, kind_of_code, type_of_code};
 use cell_writes::SHORT;
-use protocol_traits::{Head, Lead};
+use protocol_traits::{Head, Lead, Pairs};
 use thrift_value::{Kind, MessageType};
 
 /// A field's kind and id or the end of the struct, at a place of a frame, and the place behind it.
@@ -283,48 +283,87 @@ pub fn short_text_from(frame: &[u8], at: usize) -> Option<(usize, usize)>
     Some((begin, begin + size))
 }
 
-/// What stands before the elements of a list or set, in five bytes.
+/// A size or length at a place of a frame, and the place behind it.
 #[inline(always)]
-#[tactic(auto, unfolding(crate::specs::Scan::elements_at))]
-pub fn elements_front(bytes: &[u8]) -> Option<(Kind, u32)>
-    ensures { IfSome result (λ x. Finds bytes.now (elements_at bytes.now) x 5) }
+#[tactic(auto, unfolding(crate::specs::Scan::size_at))]
+fn size_from(frame: &[u8], at: usize) -> Option<(u32, usize)>
+    requires { at ≤ length frame.now + 2 }
+    ensures place { IfSome result (λ x. x.1 ≡ at + 4) }
+    ensures within { IfSome result (λ x. x.1 ≤ length frame.now) }
+    ensures found { IfSome result (λ x. Finds (drop at frame.now) (size_at (drop at frame.now)) x.0 4) }
 {
-    if bytes.is_empty() {
+    let behind = at + 4;
+    if behind > frame.len() {
         return None;
     }
-    let size = size_front(&bytes[1..])?;
-    let kind = kind_of_code(bytes[0])?;
-    Some((kind, size))
+    let bytes = &frame[at..behind];
+    let size = u32::from_be_bytes([bytes[0], bytes[1], bytes[2], bytes[3]]);
+    if size >= 0x8000_0000 {
+        return None;
+    }
+    Some((size, behind))
 }
 
-/// The kinds and the number of a map's pairs, in six bytes. An empty map may have the byte 0 in the place of a kind.
+/// What stands before the elements of a list or set, in five bytes, and the place behind it.
 #[inline(always)]
-pub fn pairs_front(bytes: &[u8]) -> Option<(Kind, Kind, u32)>
-    ensures { IfSome result (λ x. Finds bytes.now (map_at bytes.now) (pairs_item x.0 x.1 x.2) 6) }
+pub fn elements_from(frame: &[u8], at: usize) -> Option<(Kind, u32, usize)>
+    requires { at ≤ length frame.now }
+    ensures place { IfSome result (λ x. x.2 ≡ at + 5) }
+    ensures found { IfSome result (λ x. Finds (drop at frame.now) (elements_at (drop at frame.now)) (x.0, x.1) 5) }
 {
-    if bytes.len() < 6 {
-        return None;
-    }
-    let size = size_front(&bytes[2..])?;
+    let (size, behind) = size_from(frame, at + 1)?;
+    let kind = kind_of_code(frame[at])?;
+    Some((kind, size, behind))
+}
+
+/// The kinds and the number of a map's pairs, in six bytes, and the place behind them. An empty map may have the byte 0 in the place of a kind.
+#[inline(always)]
+pub fn pairs_from(frame: &[u8], at: usize) -> Option<Pairs>
+    requires { at ≤ length frame.now }
+    ensures place { IfSome result (λ x. x.behind ≡ at + 6) }
+    ensures found { IfSome result (λ x. Finds (drop at frame.now) (map_at (drop at frame.now)) (pairs_item x.key x.value x.size) 6) }
+{
+    let (size, behind) = size_from(frame, at + 2)?;
     if size == 0 {
-        return blank_front(bytes, size);
+        return blank_from(frame, at, behind);
     }
-    let key = kind_of_code(bytes[0])?;
-    let value = kind_of_code(bytes[1])?;
-    Some((key, value, size))
+    // Most keys are strings: behind this test the machine's code for their values asks for no key.
+    if frame[at] == code_of_kind(Kind::Str) {
+        let value = kind_of_code(frame[at + 1])?;
+        return Some(Pairs {
+            key: Kind::Str,
+            value,
+            size,
+            behind,
+        });
+    }
+    let key = kind_of_code(frame[at])?;
+    let value = kind_of_code(frame[at + 1])?;
+    Some(Pairs {
+        key,
+        value,
+        size,
+        behind,
+    })
 }
 
 /// An empty map. Its kinds mean nothing, but each is 0 or a kind's.
 #[inline(always)]
-fn blank_front(bytes: &[u8], size: u32) -> Option<(Kind, Kind, u32)>
-    requires long { 6 ≤ length bytes.now }
-    requires size { Finds (drop 2 bytes.now) (size_at (drop 2 bytes.now)) size 4 }
-    ensures { IfSome result (λ x. Finds bytes.now (map_at bytes.now) (pairs_item x.0 x.1 x.2) 6) }
+fn blank_from(frame: &[u8], at: usize, behind: usize) -> Option<Pairs>
+    requires place { behind ≡ at + 6 }
+    requires size { Finds (drop (at + 2) frame.now) (size_at (drop (at + 2) frame.now)) 0 4 }
+    ensures place { IfSome result (λ x. x.behind ≡ at + 6) }
+    ensures found { IfSome result (λ x. Finds (drop at frame.now) (map_at (drop at frame.now)) (pairs_item x.key x.value x.size) 6) }
 {
-    if size > 0 || is_bad_kind(bytes[0]) || is_bad_kind(bytes[1]) {
+    if is_bad_kind(frame[at]) || is_bad_kind(frame[at + 1]) {
         return None;
     }
-    Some((Kind::Bool, Kind::Bool, 0))
+    Some(Pairs {
+        key: Kind::Bool,
+        value: Kind::Bool,
+        size: 0,
+        behind,
+    })
 }
 
 /// A map's kind byte that is neither 0 nor a kind's.

@@ -12,8 +12,8 @@ ghost use Rattle.binary_protocol.specs.Reading.{begun, reads_head};
 ghost use Rattle.binary_protocol.specs.Forms.{stands_at, next_read, whole_ends};
 
 use crate::forms::{
-    bool_front, double_from, elements_front, head_front, i8_front, i16_from, i32_from, i64_from,
-    lead_from, pairs_front, short_text_from, text_from,
+    bool_front, double_from, elements_from, head_front, i8_front, i16_from, i32_from, i64_from,
+    lead_from, pairs_from, short_text_from, text_from,
 };
 use crate::reader::BinaryRead;
 use protocol_traits::{
@@ -220,8 +220,7 @@ impl<'f> FormRead for BinaryRead<'f> {
         ensures past { IfSome result (λ x. IsPast at frame.now x.2) }
         ensures steps { IfSome result (λ x. StepsInto next_read stands_at frame.now at stand (container_kind container) (elements_item container x.0 x.1) x.2) }
     {
-        let (kind, size) = elements_front(&frame[at..])?;
-        Some((kind, size, at + 5))
+        elements_from(frame, at)
     }
 
     #[inline(always)]
@@ -231,13 +230,7 @@ impl<'f> FormRead for BinaryRead<'f> {
         ensures long { IfSome result (λ x. 0 < x.size → at + 2 ≤ x.behind) }
         ensures steps { IfSome result (λ x. StepsInto next_read stands_at frame.now at stand Kind.Map (pairs_item x.key x.value x.size) x.behind) }
     {
-        let (key, value, size) = pairs_front(&frame[at..])?;
-        Some(Pairs {
-            key,
-            value,
-            size,
-            behind: at + 6,
-        })
+        pairs_from(frame, at)
     }
 
     #[inline(always)]

@@ -43,8 +43,8 @@ impl FormWrite for BinaryWrite {
         id: i16,
         kind: Kind,
     ) -> usize {
-        let [high, low] = id.to_be_bytes();
-        lay(cells, to, &[code_of_kind(kind), high, low])
+        let to = lay(cells, to, &[code_of_kind(kind)]);
+        lay(cells, to, &id.to_be_bytes())
     }
 
     #[inline(always)]

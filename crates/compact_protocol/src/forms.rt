@@ -11,6 +11,7 @@ ghost use Rattle.compact_protocol.specs.Forms.{Finds, IsGood, lead_of_kind};
 
 use crate::scan::{next_id, type_of};
 use crate::values::kind_of;
+use crate::writer::code_of;
 use cell_writes::SHORT;
 use protocol_traits::{Lead, Pairs};
 use thrift_value::{Kind, MessageType};
@@ -258,6 +259,16 @@ pub fn pairs_from(frame: &[u8], at: usize) -> Option<Pairs>
     }
     if mid >= frame.len() {
         return None;
+    }
+    // Most keys are strings: behind this test the machine's code for their values asks for no key.
+    if frame[mid] / 16 == code_of(Kind::Str) {
+        let value = kind_of(frame[mid] % 16)?;
+        return Some(Pairs {
+            key: Kind::Str,
+            value,
+            size,
+            behind: mid + 1,
+        });
     }
     let key = kind_of(frame[mid] / 16)?;
     let value = kind_of(frame[mid] % 16)?;
