@@ -1,2 +1,2 @@
 -- What the quick way takes.
-pub mod Pairs
+pub mod Levels

@@ -6,6 +6,7 @@
 
 mod fields;
 mod leaves;
+mod lists;
 mod pairs;
 mod passing;
 mod quick;

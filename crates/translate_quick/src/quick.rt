@@ -7,6 +7,7 @@ ghost use Rattle.protocol_traits.specs.declared.forms.Container.{Container};
 ghost use Rattle.protocol_traits.specs.declared.forms.Lead.{Lead};
 ghost use Rattle.protocol_traits.specs.declared.forms.Stand.{Stand};
 ghost use Rattle.protocol_traits.specs.Forms.{IsPast, container_kind};
+ghost use Rattle.translate_quick.specs.Levels.{FoundList};
 ghost use Rattle.translate_known.specs.Quick.{Grows, HasRoom, Informs, TookElements, TookField, TookFields, TookLead, TookMap, TookPairs, TookRun, TookValue, reached};
 
 use crate::fields::{BEFORE_FIELD, is_hinted, take_plain_field};
@@ -14,8 +15,9 @@ use crate::leaves::{
     AROUND, BoolLeaf, DoubleLeaf, I8Leaf, I16Leaf, I32Leaf, I64Leaf, UuidLeaf, take_leaf,
     take_short_text,
 };
-use crate::pairs::{are_leaf_pairs, take_leaf_pairs};
-use crate::runs::{take_leaves, take_rare_leaves, take_texts};
+use crate::lists::{take_leaf_list, take_text_list};
+use crate::pairs::{call_text_map, take_text_map};
+use crate::runs::take_rare_leaves;
 use protocol_traits::{Container, DEPTH, FormRead, FormWrite, Lead, Opening, Pairs, Stand};
 use thrift_value::Kind;
 use translate_known::{Known, Reach, container_kind, mark_for, sequence_kind, sequence_of};
@@ -460,13 +462,57 @@ fn take_list<R: FormRead, W: FormWrite, K: Known>(
         return None;
     }
     let (kind, size, read) = R::elements(frame, at, stand, container)?;
+    // Each arm writes a kind that is known when the code is built.
+    match kind {
+        Kind::I32 => Some(take_leaf_list::<R, W, I32Leaf>(
+            frame, at, read, cells, to, stand, container, size,
+        )?),
+        Kind::Str => Some(take_text_list::<R, W, K>(
+            known, schema, frame, at, read, cells, to, stand, container, size,
+        )?),
+        _ => Some(take_other_list::<R, W, K>(
+            known, schema, frame, at, read, cells, to, stand, container, kind, size, depth,
+        )?),
+    }
+}
+
+/// Takes a list or set of other kinds that was read to its elements, inside so many levels.
+#[cycle(body)]
+#[inline(always)]
+fn take_other_list<R: FormRead, W: FormWrite, K: Known>(
+    known: K,
+    schema: &Schema,
+    frame: &[u8],
+    at: usize,
+    behind: usize,
+    cells: &mut [u8],
+    to: usize,
+    stand: Stand,
+    container: Container,
+    kind: Kind,
+    size: u32,
+    depth: usize,
+) -> Option<Reach>
+    requires known { K.sound known schema.now }
+    requires informed { Informs K.tells R.hinted W.hinted }
+    requires size { length frame.now < 2 ^ 31 }
+    requires place { IsPast at frame.now behind }
+    requires found { FoundList R.ReadRules frame.now at stand container kind size behind }
+    requires room { HasRoom AROUND frame.now at cells.old to }
+    requires no_map { container ≡ Container.Map → ⊥ }
+    requires shallow { depth < DEPTH }
+    ensures kept { length cells.new ≡ length cells.old }
+    ensures past { IfSome result (λ x. IsPast at frame.now x.read) }
+    ensures grows { IfSome result (λ x. Grows at to x.read x.written) }
+    ensures takes { TookValue R.ReadRules W.WireWrite (K.means known) schema.now depth frame.now at stand (container_kind container) cells.old to cells.new result }
+{
     let written = W::elements(cells, to, stand, container, kind, size)?;
     let element = known.element(schema, container, kind);
     take_elements::<R, W, K>(
         element,
         schema,
         frame,
-        read,
+        behind,
         cells,
         written,
         container,
@@ -509,7 +555,8 @@ fn take_elements<R: FormRead, W: FormWrite, K: Known>(
     Some(Reach { read, written })
 }
 
-/// Takes so many elements of a kind. Which kind it is is asked once, for it is a constant in each loop.
+/// Takes so many elements of a kind. Which kind it is is asked once, for it is a constant in each loop. Those that have lists of their own
+/// are none.
 #[cycle(body)]
 #[inline(always)]
 fn take_run<R: FormRead, W: FormWrite, K: Known>(
@@ -538,11 +585,10 @@ fn take_run<R: FormRead, W: FormWrite, K: Known>(
         Kind::Bool => take_rare_leaves::<R, W, BoolLeaf>(frame, at, cells, to, size),
         Kind::I8 => take_rare_leaves::<R, W, I8Leaf>(frame, at, cells, to, size),
         Kind::I16 => take_rare_leaves::<R, W, I16Leaf>(frame, at, cells, to, size),
-        Kind::I32 => take_leaves::<R, W, I32Leaf>(frame, at, cells, to, size),
-        Kind::I64 => take_leaves::<R, W, I64Leaf>(frame, at, cells, to, size),
         Kind::Double => take_rare_leaves::<R, W, DoubleLeaf>(frame, at, cells, to, size),
         Kind::Uuid => take_rare_leaves::<R, W, UuidLeaf>(frame, at, cells, to, size),
-        Kind::Str => take_texts::<R, W>(frame, at, cells, to, known.hint(), size),
+        Kind::I64 => take_rare_leaves::<R, W, I64Leaf>(frame, at, cells, to, size),
+        Kind::I32 | Kind::Str => None,
         Kind::Struct | Kind::Map | Kind::Set | Kind::List => take_levels::<R, W, K>(
             known, schema, frame, at, cells, to, kind, size, depth,
         ),
@@ -597,7 +643,8 @@ fn take_levels<R: FormRead, W: FormWrite, K: Known>(
     })
 }
 
-/// Takes a map inside so many levels: answers the place behind it in the frame, and moves `to` to the one in the cells.
+/// Takes a map inside so many levels: answers the place behind it in the frame, and moves `to` to the one in the cells. Most maps have a
+/// loop of their own, where nothing asks for a hint.
 #[cycle(body)]
 #[inline(always)]
 fn take_map<R: FormRead, W: FormWrite, K: Known>(
@@ -631,6 +678,22 @@ fn take_map<R: FormRead, W: FormWrite, K: Known>(
         *to = written;
         return Some(pairs.behind);
     }
+    if !is_hinted::<R, W>() {
+        if let Kind::Str = pairs.key {
+            match pairs.value {
+                Kind::Bool => return take_text_map::<R, W, BoolLeaf>(
+                    frame, at, cells, to, stand, pairs,
+                ),
+                Kind::I32 => return call_text_map::<R, W, I32Leaf>(
+                    frame, at, cells, to, stand, pairs,
+                ),
+                Kind::I64 => return call_text_map::<R, W, I64Leaf>(
+                    frame, at, cells, to, stand, pairs,
+                ),
+                _ => {}
+            }
+        }
+    }
     let written = W::pairs(cells, *to, stand, pairs.key, pairs.value, pairs.size)?;
     let key = known.key(schema, pairs.key, pairs.value);
     let value = known.value(schema, pairs.key, pairs.value);
@@ -639,41 +702,9 @@ fn take_map<R: FormRead, W: FormWrite, K: Known>(
     Some(reach.read)
 }
 
-/// Takes the pairs of an open map, of whose keys and values this is known, to its end. Those of most maps have a loop of their own, others
-/// go by a call.
+/// Takes the pairs of an open map, of whose keys and values this is known, to its end. It is a call but where `take_map` does nothing else.
 #[cycle(body)]
-#[inline(always)]
 fn take_pairs<R: FormRead, W: FormWrite, K: Known>(
-    key: K,
-    value: K,
-    schema: &Schema,
-    frame: &[u8],
-    cells: &mut [u8],
-    into: usize,
-    pairs: Pairs,
-    depth: usize,
-) -> Option<Reach>
-    requires key { K.sound key schema.now }
-    requires value { K.sound value schema.now }
-    requires informed { Informs K.tells R.hinted W.hinted }
-    requires size { length frame.now < 2 ^ 31 }
-    requires place { pairs.behind ≤ length frame.now }
-    requires room { HasRoom AROUND frame.now pairs.behind cells.old into }
-    requires shallow { depth ≤ DEPTH }
-    ensures kept { length cells.new ≡ length cells.old }
-    ensures place { IfSome result (λ x. (pairs.behind ≤ x.read) × (x.read ≤ length frame.now)) }
-    ensures grows { IfSome result (λ x. Grows pairs.behind (into + END) x.read x.written) }
-    ensures takes { TookPairs R.ReadRules W.WireWrite (K.means key) (K.means value) schema.now depth frame.now pairs cells.old into cells.new result }
-{
-    if !is_hinted::<R, W>() && are_leaf_pairs(pairs.key, pairs.value) {
-        return Some(take_leaf_pairs::<R, W>(frame, cells, into, pairs)?);
-    }
-    call_pairs::<R, W, K>(key, value, schema, frame, cells, into, pairs, depth)
-}
-
-/// The same pair by pair, whatever their kinds. It is a call but where `take_pairs` does nothing else.
-#[cycle(body)]
-fn call_pairs<R: FormRead, W: FormWrite, K: Known>(
     key: K,
     value: K,
     schema: &Schema,

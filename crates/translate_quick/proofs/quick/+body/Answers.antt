@@ -11,7 +11,7 @@ use Rattle.protocol_traits.specs.Forms.{container_kind, elements_item}
 use Rattle.type_walk.specs.Positions.{Position, called_for, field_type, hint_of, in_map, in_struct, mark_of, passed, standing}
 use Rattle.translate_verdicts.specs.Body.{source_in, target_in}
 use Rattle.translate_known.specs.declared.reach.Reach.{Reach}
-use Rattle.translate_known.specs.Quick.{Spot, Takes, called, in_elements, spot, turned}
+use Rattle.translate_known.specs.Quick.{Spot, Takes, called, in_elements, reached, spot, turned}
 use Rattle.translate_known.proofs.Taking.{calls_some, takes_item, takes_none, takes_then}
 use Rattle.translate_known.proofs.Levels.{elements_after, elements_done, elements_nest, elements_opening, elements_weight, flat_elements, if_some, key_opening, pairs_some, takes_field, takes_level, turns_map}
 use Rattle.translate_quick.proofs.quick.+body.Goals as goal
@@ -208,9 +208,21 @@ take_struct-returns-clause-takes g t c ty means =
     c.args.to c.struct_begin-written.result c.take_fields.new.into refl (λ nest. refl) (λ outer. refl) (omega arith)
     c.in_ok-inside.ensures.steps c.struct_begin-written.ensures.spells (λ up outer deep. c.in_ok-read.ensures.takes ty means up outer deep)
 
-pub take_list-take_elements-requires : goal.take_list-take_elements-requires
-take_list-take_elements-requires g t c =
-    let light = elements_weight c.args.container c.in_ok-kind.kind c.in_ok-kind.size in
+pub take_list-take_leaf_list-requires-clause-found : goal.take_list-take_leaf_list-requires-clause-found
+take_list-take_leaf_list-requires-clause-found g t c = rw c.in-I32.is at c.in_ok-kind.ensures.steps
+
+pub take_list-take_text_list-requires-clause-found : goal.take_list-take_text_list-requires-clause-found
+take_list-take_text_list-requires-clause-found g t c = rw c.in-Str.is at c.in_ok-kind.ensures.steps
+
+pub take_list-returns-in_ok-take_leaf_list-in-I32-clause-takes : goal.take_list-returns-in_ok-take_leaf_list-in-I32-clause-takes
+take_list-returns-in_ok-take_leaf_list-in-I32-clause-takes g t c ty means = c.in_ok-take_leaf_list-in-I32.ensures.takes c.args.schema.now ty c.args.depth (omega arith)
+
+pub take_list-returns-in_ok-take_text_list-in-Str-clause-takes : goal.take_list-returns-in_ok-take_text_list-in-Str-clause-takes
+take_list-returns-in_ok-take_text_list-in-Str-clause-takes g t c ty means = c.in_ok-take_text_list-in-Str.ensures.takes ty c.args.depth means (omega arith)
+
+pub take_other_list-take_elements-requires : goal.take_other_list-take_elements-requires
+take_other_list-take_elements-requires g t c =
+    let light = elements_weight c.args.container c.args.kind c.args.size in
     λ κs lives. (
       omega arith,
       (
@@ -226,8 +238,8 @@ take_list-take_elements-requires g t c =
                 (
                   c.requires.size,
                   (
-                    omega (arith, c.in_ok-kind.ensures.past),
-                    (omega (arith, light, c.requires.room, c.in_ok-kind.ensures.past, c.in_ok-written.ensures.kept, c.in_ok-written.ensures.short), (c.requires.no_map, omega arith)),
+                    omega (arith, c.requires.place),
+                    (omega (arith, light, c.requires.room, c.requires.place, c.in_ok-written.ensures.kept, c.in_ok-written.ensures.short), (c.requires.no_map, omega arith)),
                   ),
                 ),
               ),
@@ -237,20 +249,20 @@ take_list-take_elements-requires g t c =
       ),
     )
 
-pub take_list-returns-clause-takes : goal.take_list-returns-clause-takes
-take_list-returns-clause-takes g t c =
+pub take_other_list-returns-clause-takes : goal.take_other_list-returns-clause-takes
+take_other_list-returns-clause-takes g t c =
     let source = source_in g.R.ReadRules in
     let target = target_in g.W.WireWrite in
     let d = c.args.schema.now in
-    let kind = c.in_ok-kind.kind in
-    let size = c.in_ok-kind.size in
+    let kind = c.args.kind in
+    let size = c.args.size in
     let container = c.args.container in
     if_some _ _ c.take_elements.result (λ (x : Reach) whole ty means.
     takes_level source target g.R.ReadRules.stands_at g.W.WireWrite.stands_at c.args.frame.now g.R.ReadRules.pays g.met.W.FormWrite.goes_on
-    d ty c.args.depth c.args.at c.in_ok-kind.read x.read c.args.stand (container_kind container) (elements_item container kind size) (slots.Elements kind size) (in_elements d container ty kind)
-    c.args.cells.now c.elements-2.new.cells c.take_elements.new.cells c.args.to c.in_ok-written.written x.written
+    d ty c.args.depth c.args.at c.args.behind x.read c.args.stand (container_kind container) (elements_item container kind size) (slots.Elements kind size) (in_elements d container ty kind)
+    c.args.cells.now c.elements.new.cells c.take_elements.new.cells c.args.to c.in_ok-written.written x.written
     (elements_opening container kind size) (elements_nest container kind size) (elements_after d ty container kind size) (omega arith)
-    c.in_ok-kind.ensures.steps c.in_ok-written.ensures.spells
+    c.requires.found c.in_ok-written.ensures.spells
     (λ up outer deep. whole (in_elements d container ty kind) (flat_elements d container ty kind) (c.element-element.ensures.means ty means) openings.New up outer deep)) c.take_elements.ensures.takes
 
 pub take_levels-elements-init : goal.take_levels-elements-init
@@ -325,13 +337,9 @@ pub take_run-returns-in-I16-clause-takes : goal.take_run-returns-in-I16-clause-t
 take_run-returns-in-I16-clause-takes g t c =
     rw c.in-I16.is (if_some _ _ c.take_rare_leaves-in-I16.result (λ (x : Reach) whole level flat means. whole c.args.schema.now level c.args.depth flat) c.take_rare_leaves-in-I16.ensures.takes)
 
-pub take_run-returns-in-I32-clause-takes : goal.take_run-returns-in-I32-clause-takes
-take_run-returns-in-I32-clause-takes g t c =
-    rw c.in-I32.is (if_some _ _ c.take_leaves.result (λ (x : Reach) whole level flat means. whole c.args.schema.now level c.args.depth flat) c.take_leaves.ensures.takes)
-
 pub take_run-returns-in-I64-clause-takes : goal.take_run-returns-in-I64-clause-takes
 take_run-returns-in-I64-clause-takes g t c =
-    rw c.in-I64.is (if_some _ _ c.take_leaves-in-I64.result (λ (x : Reach) whole level flat means. whole c.args.schema.now level c.args.depth flat) c.take_leaves-in-I64.ensures.takes)
+    rw c.in-I64.is (if_some _ _ c.take_rare_leaves-in-I64.result (λ (x : Reach) whole level flat means. whole c.args.schema.now level c.args.depth flat) c.take_rare_leaves-in-I64.ensures.takes)
 
 pub take_run-returns-in-Double-clause-takes : goal.take_run-returns-in-Double-clause-takes
 take_run-returns-in-Double-clause-takes g t c =
@@ -340,11 +348,6 @@ take_run-returns-in-Double-clause-takes g t c =
 pub take_run-returns-in-Uuid-clause-takes : goal.take_run-returns-in-Uuid-clause-takes
 take_run-returns-in-Uuid-clause-takes g t c =
     rw c.in-Uuid.is (if_some _ _ c.take_rare_leaves-in-Uuid.result (λ (x : Reach) whole level flat means. whole c.args.schema.now level c.args.depth flat) c.take_rare_leaves-in-Uuid.ensures.takes)
-
-pub take_run-returns-in-Str-clause-takes : goal.take_run-returns-in-Str-clause-takes
-take_run-returns-in-Str-clause-takes g t c =
-    rw c.in-Str.is (if_some _ _ c.take_texts.result (λ (x : Reach) whole level flat means.
-    whole c.args.schema.now level c.args.depth flat (λ hinted. c.hint.ensures (called_for (Some level)) means (c.requires.informed.0 hinted)) (λ hinted. c.hint.ensures (called_for (Some level)) means (c.requires.informed.1 hinted))) c.take_texts.ensures.takes)
 
 pub take_elements-returns-clause-takes : goal.take_elements-returns-clause-takes
 take_elements-returns-clause-takes g t c level flat means opening up outer deep =
@@ -378,6 +381,18 @@ take_map-returns-then-pairs-eq0-clause-takes g t c ty means opening nest outer c
     (steps opening nest (hint_of p) calls (omega (arith, deep)))
     (c.no_pairs-written.ensures.spells opening nest (mark_of p empty_map) (λ marked. c.in_ok-mark.ensures ty means marked) calls)
 
+pub take_map-returns-in-Bool-clause-takes : goal.take_map-returns-in-Bool-clause-takes
+take_map-returns-in-Bool-clause-takes g t c =
+    if_some _ _ (reached c.take_text_map.result c.take_text_map.new.to) (λ (x : Reach) whole ty means. whole c.args.schema.now ty c.args.depth (omega arith)) c.take_text_map.ensures.takes
+
+pub take_map-returns-in-I32-clause-takes : goal.take_map-returns-in-I32-clause-takes
+take_map-returns-in-I32-clause-takes g t c =
+    if_some _ _ (reached c.call_text_map.result c.call_text_map.new.to) (λ (x : Reach) whole ty means. whole c.args.schema.now ty c.args.depth (omega arith)) c.call_text_map.ensures.takes
+
+pub take_map-returns-in-I64-clause-takes : goal.take_map-returns-in-I64-clause-takes
+take_map-returns-in-I64-clause-takes g t c =
+    if_some _ _ (reached c.call_text_map-in-I64.result c.call_text_map-in-I64.new.to) (λ (x : Reach) whole ty means. whole c.args.schema.now ty c.args.depth (omega arith)) c.call_text_map-in-I64.ensures.takes
+
 pub take_map-returns-clause-takes : goal.take_map-returns-clause-takes
 take_map-returns-clause-takes g t c ty means =
     let source = source_in g.R.ReadRules in
@@ -393,12 +408,8 @@ take_map-returns-clause-takes g t c ty means =
     refl (λ nest. refl) (λ outer. refl) (omega arith) steps c.in_ok-written.ensures.spells
     (λ up outer deep. c.in_ok-reach.ensures.takes (in_map d ty pairs.key pairs.value) (turns_map d ty pairs.key pairs.value) (c.key-key.ensures.means ty means) (c.value-value.ensures.means ty means) up outer deep)
 
-pub take_pairs-returns-then-are_leaf_pairs-clause-takes : goal.take_pairs-returns-then-are_leaf_pairs-clause-takes
-take_pairs-returns-then-are_leaf_pairs-clause-takes g t c level turns key value =
-    c.in_ok-take_leaf_pairs.ensures.takes c.args.schema.now level c.args.depth turns
-
-pub call_pairs-pairs-init : goal.call_pairs-pairs-init
-call_pairs-pairs-init g t c =
+pub take_pairs-pairs-init : goal.take_pairs-pairs-init
+take_pairs-pairs-init g t c =
     let source = source_in g.R.ReadRules in
     let target = target_in g.W.WireWrite in
     let d = c.args.schema.now in
@@ -415,8 +426,8 @@ call_pairs-pairs-init g t c =
           (takes_none source target g.R.ReadRules.stands_at g.W.WireWrite.stands_at c.args.frame.now here c.args.cells.now c.args.into);
     }
 
-pub call_pairs-pairs-preserved : goal.call_pairs-pairs-preserved
-call_pairs-pairs-preserved g t c =
+pub take_pairs-pairs-preserved : goal.take_pairs-pairs-preserved
+take_pairs-pairs-preserved g t c =
     let source = source_in g.R.ReadRules in
     let target = target_in g.W.WireWrite in
     let d = c.args.schema.now in
@@ -447,8 +458,8 @@ call_pairs-pairs-preserved g t c =
           (c.in_ok-behind.ensures.takes (called_for (Some (turned level))) value openings.Old (slots.Values c.args.pairs.key c.args.pairs.value left ∷ up) (turned level ∷ outer) refl (omega (arith, deep)))));
     }
 
-pub call_pairs-returns-clause-takes : goal.call_pairs-returns-clause-takes
-call_pairs-returns-clause-takes g t c level turns key value up outer deep =
+pub take_pairs-returns-clause-takes : goal.take_pairs-returns-clause-takes
+take_pairs-returns-clause-takes g t c level turns key value up outer deep =
     let source = source_in g.R.ReadRules in
     let target = target_in g.W.WireWrite in
     let d = c.args.schema.now in

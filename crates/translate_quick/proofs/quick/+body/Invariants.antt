@@ -26,10 +26,7 @@ abbrev pub decreases-take_levels : goal.decreases-take_levels
 decreases-take_levels g l = rank l.depth 10
 
 abbrev pub decreases-take_pairs : goal.decreases-take_pairs
-decreases-take_pairs g l = rank l.depth 10
-
-abbrev pub decreases-call_pairs : goal.decreases-call_pairs
-decreases-call_pairs g l = rank l.depth 9
+decreases-take_pairs g l = rank l.depth 9
 
 abbrev pub decreases-take_fields : goal.decreases-take_fields
 decreases-take_fields g l = rank l.depth 9
@@ -57,6 +54,9 @@ decreases-take_level g l = rank l.depth 5
 
 abbrev pub decreases-take_list : goal.decreases-take_list
 decreases-take_list g l = rank l.depth 3
+
+abbrev pub decreases-take_other_list : goal.decreases-take_other_list
+decreases-take_other_list g l = rank l.depth 2
 
 abbrev pub decreases-take_map : goal.decreases-take_map
 decreases-take_map g l = rank l.depth 3
@@ -93,8 +93,8 @@ invariant-take_levels-elements g l =
           (spot l.at now (slots.Elements l.kind (l.size - l.i) ∷ up) (standing l.schema (level ∷ outer))) l.fn.cells l.fn.into l.cells l.to;
     }
 
-abbrev pub invariant-call_pairs-pairs : goal.invariant-call_pairs-pairs
-invariant-call_pairs-pairs g l =
+abbrev pub invariant-take_pairs-pairs : goal.invariant-take_pairs-pairs
+invariant-take_pairs-pairs g l =
     let source = source_in g.R.ReadRules in
     let target = target_in g.W.WireWrite in
     record {

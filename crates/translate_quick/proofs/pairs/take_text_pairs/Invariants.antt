@@ -10,7 +10,7 @@ use Rattle.type_walk.specs.Positions.{standing}
 use Rattle.translate_verdicts.specs.Body.{source_in, target_in}
 use Rattle.translate_known.specs.Quick.{Grows, Takes, Turns, spot}
 use Rattle.translate_known.proofs.Levels.{key_opening}
-use Rattle.translate_quick.proofs.pairs.take_leaf_pairs.Given as goal
+use Rattle.translate_quick.proofs.pairs.take_text_pairs.Given as goal
 
 abbrev pub invariant-pairs : goal.invariant-pairs
 invariant-pairs g l =

@@ -9,7 +9,7 @@ use Rattle.translate_verdicts.specs.Body.{source_in, target_in}
 use Rattle.translate_known.specs.Quick.{Spot, Takes, spot, turned}
 use Rattle.translate_known.proofs.Taking.{takes_item, takes_none, takes_then}
 use Rattle.translate_known.proofs.Levels.{key_opening}
-use Rattle.translate_quick.proofs.pairs.take_leaf_pairs.Goals as goal
+use Rattle.translate_quick.proofs.pairs.take_text_pairs.Goals as goal
 
 -- what asks for no hint is told none
 unasked : (hinted : Bool) (A : Type 0) → hinted ≡ false → hinted ≡ true → A
@@ -57,14 +57,14 @@ pairs-preserved g c =
           let back : spot value.read openings.Old (slots.Keys c.args.pairs.key c.args.pairs.value (left - 1) ∷ up) (standing d (passed (turned level ∷ outer))) ≡ done = rw ((turns outer).1, less) refl in
           let ty = called_for (Some level) in
           takes_then source target g.R.ReadRules.stands_at g.W.WireWrite.stands_at c.args.frame.now first here done
-          c.args.cells.now c.pairs.cells c.take_pair_value.new.cells c.args.into c.pairs.to value.written (inv.takes d level depth up outer turns deep)
+          c.args.cells.now c.pairs.cells c.take.new.cells c.args.into c.pairs.to value.written (inv.takes d level depth up outer turns deep)
           (takes_then source target g.R.ReadRules.stands_at g.W.WireWrite.stands_at c.args.frame.now here turn done
-          c.pairs.cells c.take_short_text.new.cells c.take_pair_value.new.cells c.pairs.to key.written value.written
+          c.pairs.cells c.take_short_text.new.cells c.take.new.cells c.pairs.to key.written value.written
           (subst (λ (b : Spot). Takes source target g.R.ReadRules.stands_at g.W.WireWrite.stands_at c.args.frame.now here b c.pairs.cells c.pairs.to c.take_short_text.new.cells key.written) turned_so
           (c.in_ok-key.ensures.takes d ty depth (unasked g.R.FormRead.hinted (hint_at ty ≡ hints.Unknown) c.requires.reads) (unasked g.W.FormWrite.hinted (hint_at ty ≡ hints.Unknown) c.requires.writes)
           (key_opening c.pairs.stand) (slots.Keys c.args.pairs.key c.args.pairs.value left ∷ up) (level ∷ outer) (inv.key left up more) (omega (arith, deep))))
-          (subst (λ (b : Spot). Takes source target g.R.ReadRules.stands_at g.W.WireWrite.stands_at c.args.frame.now turn b c.take_short_text.new.cells key.written c.take_pair_value.new.cells value.written) back
-          (c.in_ok-value.ensures.takes d (called_for (Some (turned level))) depth openings.Old (slots.Values c.args.pairs.key c.args.pairs.value left ∷ up) (turned level ∷ outer) refl (omega (arith, deep)))));
+          (subst (λ (b : Spot). Takes source target g.R.ReadRules.stands_at g.W.WireWrite.stands_at c.args.frame.now turn b c.take_short_text.new.cells key.written c.take.new.cells value.written) back
+          (c.in_ok-value.ensures.takes d (called_for (Some (turned level))) depth openings.Old (slots.Values c.args.pairs.key c.args.pairs.value left ∷ up) (turned level ∷ outer) c.requires.values (omega (arith, deep)))));
     }
 
 pub returns-clause-takes : goal.returns-clause-takes
