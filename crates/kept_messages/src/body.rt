@@ -2,7 +2,7 @@
 //! container that stands in one.
 //!
 //! From the place on that the walk has reached, the cells are a copy of the frame, so one number is the place in both.
-ghost use Rattle.std.specs.Prelude.{◌≡◌, ◌≤◌, length, drop, true, IfSome};
+ghost use Rattle.std.specs.Prelude.{◌≡◌, ◌≤◌, length, drop, true, Some, IfSome};
 ghost use Rattle.thrift_value.specs.declared.kind.Kind.{Kind};
 ghost use Rattle.protocol_traits.specs.declared.forms.Container.{Container};
 ghost use Rattle.protocol_traits.specs.declared.forms.Stand.{Stand};
@@ -19,6 +19,7 @@ use type_tables::Schema;
 
 /// Keeps the fields of an open struct of which this is known, to its end: answers the place behind it.
 #[cycle(body)]
+#[inline(always)]
 pub fn keep_fields<R: FormKeep<W>, W: FormWrite, K: Known>(
     known: K,
     schema: &Schema,
@@ -36,20 +37,56 @@ pub fn keep_fields<R: FormKeep<W>, W: FormWrite, K: Known>(
     ensures mirrors { IfSome result (λ x. Mirrors cells.new x frame.now) }
     ensures keeps { KeptFields R.ReadRules W.WireWrite (K.means known) schema.now depth frame.now from opening cells.old cells.new result }
 {
+    let mut to = from;
+    if walk_fields::<R, W, K>(known, schema, frame, from, cells, &mut to, opening, depth) {
+        return Some(to);
+    }
+    None
+}
+
+/// The same by a call: answers whether all were kept, and moves `to` to the place behind. A bool costs each way out of the loop
+/// less than an `Option` of a place.
+#[cycle(body)]
+fn walk_fields<R: FormKeep<W>, W: FormWrite, K: Known>(
+    known: K,
+    schema: &Schema,
+    frame: &[u8],
+    from: usize,
+    cells: &mut [u8],
+    to: &mut usize,
+    opening: Opening,
+    depth: usize,
+) -> bool
+    requires known { K.sound known schema.now }
+    requires place { from ≤ length frame.now }
+    requires mirrors { Mirrors cells.old from frame.now }
+    requires shallow { depth ≤ DEPTH }
+    ensures past { result ≡ true → IsPast from frame.now to.new }
+    ensures mirrors { result ≡ true → Mirrors cells.new to.new frame.now }
+    ensures keeps { result ≡ true → KeptFields R.ReadRules W.WireWrite (K.means known) schema.now depth frame.now from opening cells.old cells.new (Some to.new) }
+{
     let mut last = 0;
     let mut opening = opening;
     let mut at = from;
     'fields: loop {
-        let (lead, id, behind) = R::keep_next(frame, at, opening, last)?;
+        let Some((lead, id, behind)) = R::keep_next(frame, at, opening, last) else {
+            return false;
+        };
         if let Lead::Stop = lead {
-            return Some(behind);
+            *to = behind;
+            return true;
         }
         if let Lead::Bad = lead {
-            return None;
+            // A way out of its own: joined with the others, it would be a test a field more.
+            *to = at;
+            return false;
         }
-        at = keep_field::<R, W, K>(
+        let Some(next) = keep_field::<R, W, K>(
             known, schema, frame, at, cells, opening, last, lead, id, behind, depth,
-        )?;
+        ) else {
+            return false;
+        };
+        at = next;
         last = id;
         opening = Opening::Old;
     }

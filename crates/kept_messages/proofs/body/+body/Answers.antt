@@ -17,8 +17,8 @@ use Rattle.kept_messages.proofs.Keeping.{lead_spells, takes_leaf}
 use Rattle.kept_messages.proofs.Mirroring.{if_both, mirrors_on, spells_mirrored, takes_mirrored}
 use Rattle.kept_messages.proofs.body.+body.Goals as goal
 
-pub keep_fields-fields-init : goal.keep_fields-fields-init
-keep_fields-fields-init g t c =
+pub walk_fields-fields-init : goal.walk_fields-fields-init
+walk_fields-fields-init g t c =
     let source = source_in g.R.ReadRules in
     let target = target_in g.W.WireWrite in
     let d = c.args.schema.now in
@@ -28,13 +28,13 @@ keep_fields-fields-init g t c =
       takes = λ ty up outer means deep. takes_none source target g.R.ReadRules.stands_at g.W.WireWrite.stands_at c.args.frame.now (spot c.args.from c.args.opening (slots.Fields (pos 0) ∷ up) (standing d (in_struct ty ∷ outer))) c.args.cells.now c.args.from;
     }
 
-pub keep_fields-returns-in-Stop-clause-mirrors : goal.keep_fields-returns-in-Stop-clause-mirrors
-keep_fields-returns-in-Stop-clause-mirrors g t c =
-    let past = (rw c.in-Stop.is at c.in_ok-lead.ensures.past) (λ bad. absurd (cc)) in
-    mirrors_on c.fields.cells c.args.frame.now c.fields.at c.in_ok-lead.behind (omega (arith, past)) c.fields.invariant.mirrors
+pub walk_fields-returns-in-Stop-clause-mirrors : goal.walk_fields-returns-in-Stop-clause-mirrors
+walk_fields-returns-in-Stop-clause-mirrors g t c kept =
+    let past = (rw c.in-Stop.is at c.in-Some.ensures.past) (λ bad. absurd (cc)) in
+    mirrors_on c.fields.cells c.args.frame.now c.fields.at c.in-Some.behind (omega (arith, past)) c.fields.invariant.mirrors
 
-pub keep_fields-returns-in-Stop-clause-keeps : goal.keep_fields-returns-in-Stop-clause-keeps
-keep_fields-returns-in-Stop-clause-keeps g t c ty means up outer deep =
+pub walk_fields-returns-in-Stop-clause-keeps : goal.walk_fields-returns-in-Stop-clause-keeps
+walk_fields-returns-in-Stop-clause-keeps g t c kept ty means up outer deep =
     let source = source_in g.R.ReadRules in
     let target = target_in g.W.WireWrite in
     let d = c.args.schema.now in
@@ -42,44 +42,44 @@ keep_fields-returns-in-Stop-clause-keeps g t c ty means up outer deep =
     let last : ℤ = to_z w16 c.fields.last-bits in
     let nest : List Slot = slots.Fields last ∷ up in
     let p : Position = standing d (in_struct ty ∷ outer) in
-    let past = (rw c.in-Stop.is at c.in_ok-lead.ensures.past) (λ bad. absurd (cc)) in
-    let keeps = rw c.in-Stop.is at c.in_ok-lead.ensures.keeps in
+    let past = (rw c.in-Stop.is at c.in-Some.ensures.past) (λ bad. absurd (cc)) in
+    let keeps = rw c.in-Stop.is at c.in-Some.ensures.keeps in
     takes_then source target g.R.ReadRules.stands_at g.W.WireWrite.stands_at c.args.frame.now
-    (spot c.args.from c.args.opening (slots.Fields (pos 0) ∷ up) p) (spot c.fields.at c.fields.opening nest p) (spot c.in_ok-lead.behind openings.Old up (standing d outer))
-    c.args.cells.now c.fields.cells c.fields.cells c.args.from c.fields.at c.in_ok-lead.behind
+    (spot c.args.from c.args.opening (slots.Fields (pos 0) ∷ up) p) (spot c.fields.at c.fields.opening nest p) (spot c.in-Some.behind openings.Old up (standing d outer))
+    c.args.cells.now c.fields.cells c.fields.cells c.args.from c.fields.at c.in-Some.behind
     (inv.takes ty up outer means deep)
     (takes_item source target g.R.ReadRules.stands_at g.W.WireWrite.stands_at c.args.frame.now g.R.ReadRules.pays g.met.W.FormWrite.goes_on
-    c.fields.at c.in_ok-lead.behind c.fields.opening nest p stop c.fields.cells c.fields.cells c.fields.at c.in_ok-lead.behind (omega arith)
+    c.fields.at c.in-Some.behind c.fields.opening nest p stop c.fields.cells c.fields.cells c.fields.at c.in-Some.behind (omega arith)
     (keeps.0 up (hint_of p) (λ bad. absurd (cc)))
-    (spells_mirrored target.bar target.plain g.W.WireWrite.stands_at c.args.frame.now c.fields.cells c.fields.at c.in_ok-lead.behind c.fields.opening nest (mark_of p stop) stop (omega (arith, past)) inv.mirrors
+    (spells_mirrored target.bar target.plain g.W.WireWrite.stands_at c.args.frame.now c.fields.cells c.fields.at c.in-Some.behind c.fields.opening nest (mark_of p stop) stop (omega (arith, past)) inv.mirrors
     (keeps.1 c.args.depth last up (mark_of p stop) deep)))
 
-pub keep_fields-fields-preserved : goal.keep_fields-fields-preserved
-keep_fields-fields-preserved g t c =
+pub walk_fields-fields-preserved : goal.walk_fields-fields-preserved
+walk_fields-fields-preserved g t c =
     let source = source_in g.R.ReadRules in
     let target = target_in g.W.WireWrite in
     let d = c.args.schema.now in
     let inv = c.fields.invariant in
     let last : ℤ = to_z w16 c.fields.last-bits in
-    let id_fits : SFits w16 c.in_ok-lead.id = search rules in
-    let keeps = c.in_ok-lead.ensures.keeps in
-    let taken = rw (to_z-of_z w16 c.in_ok-lead.id id_fits) at c.in_ok-at.ensures.keeps in
+    let id_fits : SFits w16 c.in-Some.id = search rules in
+    let keeps = c.in-Some.ensures.keeps in
+    let taken = rw (to_z-of_z w16 c.in-Some.id id_fits) at c.in-Some-keep_field.ensures.keeps in
     record {
-      place = (omega (arith, inv.place, c.in_ok-at.ensures.past), omega (arith, c.in_ok-at.ensures.past));
-      mirrors = c.in_ok-at.ensures.mirrors;
+      place = (omega (arith, inv.place, c.in-Some-keep_field.ensures.past), omega (arith, c.in-Some-keep_field.ensures.past));
+      mirrors = c.in-Some-keep_field.ensures.mirrors;
       takes = λ ty up outer means deep.
           let p : Position = standing d (in_struct ty ∷ outer) in
-          rw (to_z-of_z w16 c.in_ok-lead.id id_fits) (takes_then source target g.R.ReadRules.stands_at g.W.WireWrite.stands_at c.args.frame.now
-          (spot c.args.from c.args.opening (slots.Fields (pos 0) ∷ up) p) (spot c.fields.at c.fields.opening (slots.Fields last ∷ up) p) (spot c.in_ok-at.at openings.Old (slots.Fields c.in_ok-lead.id ∷ up) p)
-          c.args.cells.now c.fields.cells c.keep_field.new.cells c.args.from c.fields.at c.in_ok-at.at
-          (inv.takes ty up outer means deep) (taken ty means up outer deep (λ hint. keeps.0 up hint c.in_default-lead.not-Bad)));
+          rw (to_z-of_z w16 c.in-Some.id id_fits) (takes_then source target g.R.ReadRules.stands_at g.W.WireWrite.stands_at c.args.frame.now
+          (spot c.args.from c.args.opening (slots.Fields (pos 0) ∷ up) p) (spot c.fields.at c.fields.opening (slots.Fields last ∷ up) p) (spot c.in-Some-keep_field.next openings.Old (slots.Fields c.in-Some.id ∷ up) p)
+          c.args.cells.now c.fields.cells c.keep_field.new.cells c.args.from c.fields.at c.in-Some-keep_field.next
+          (inv.takes ty up outer means deep) (taken ty means up outer deep (λ hint. keeps.0 up hint c.in_default-lead-2.not-Bad)));
     }
 
-pub keep_fields-keep_field-requires : goal.keep_fields-keep_field-requires
-keep_fields-keep_field-requires g t c =
-    let id_fits : SFits w16 c.in_ok-lead.id = search rules in
-    let past = c.in_ok-lead.ensures.past c.in_default-lead.not-Bad in
-    λ κs lives. (omega arith, (lives.0, (lives.1.0, (lives.1.1, (c.requires.known, (past, (rw (to_z-of_z w16 c.in_ok-lead.id id_fits) c.in_ok-lead.ensures.keeps, (c.fields.invariant.mirrors, c.requires.shallow))))))))
+pub walk_fields-keep_field-requires : goal.walk_fields-keep_field-requires
+walk_fields-keep_field-requires g t c =
+    let id_fits : SFits w16 c.in-Some.id = search rules in
+    let past = c.in-Some.ensures.past c.in_default-lead-2.not-Bad in
+    λ κs lives. (omega arith, (lives.0, (lives.1.0, (lives.1.1, (c.requires.known, (past, (rw (to_z-of_z w16 c.in-Some.id id_fits) c.in-Some.ensures.keeps, (c.fields.invariant.mirrors, c.requires.shallow))))))))
 
 pub keep_field-keep_level_field-requires : goal.keep_field-keep_level_field-requires
 keep_field-keep_level_field-requires g t c =

@@ -33,7 +33,10 @@ abbrev pub decreases-call_pairs : goal.decreases-call_pairs
 decreases-call_pairs g l = rank l.depth 9
 
 abbrev pub decreases-keep_fields : goal.decreases-keep_fields
-decreases-keep_fields g l = rank l.depth 9
+decreases-keep_fields g l = rank l.depth 10
+
+abbrev pub decreases-walk_fields : goal.decreases-walk_fields
+decreases-walk_fields g l = rank l.depth 9
 
 abbrev pub decreases-keep_field : goal.decreases-keep_field
 decreases-keep_field g l = rank l.depth 8
@@ -59,11 +62,11 @@ decreases-keep_map g l = rank l.depth 3
 abbrev pub decreases-keep_struct : goal.decreases-keep_struct
 decreases-keep_struct g l = rank l.depth 3
 
-abbrev pub decreases-keep_fields-fields : goal.decreases-keep_fields-fields
-decreases-keep_fields-fields g l = length l.frame - l.at
+abbrev pub decreases-walk_fields-fields : goal.decreases-walk_fields-fields
+decreases-walk_fields-fields g l = length l.frame - l.at
 
-abbrev pub invariant-keep_fields-fields : goal.invariant-keep_fields-fields
-invariant-keep_fields-fields g l =
+abbrev pub invariant-walk_fields-fields : goal.invariant-walk_fields-fields
+invariant-walk_fields-fields g l =
     let source = source_in g.R.ReadRules in
     let target = target_in g.W.WireWrite in
     record {
