@@ -7,7 +7,7 @@ use Rattle.std.proofs.lemmas.List.{drop-drop}
 use Rattle.thrift_value.specs.declared.kind.Kind.{Kind}
 use Rattle.thrift_value.specs.declared.kind.MessageType.{MessageType}
 use Rattle.thrift_value.specs.declared.kind.Kind.TheVariants as kinds
-use Rattle.thrift_value.specs.Items.{Item, field, stop, bool_value, text, struct_begin, empty_map, end, uuid_value}
+use Rattle.thrift_value.specs.Items.{Item, field, stop, bool_value, struct_begin, empty_map, end, uuid_value}
 use Rattle.protocol_traits.specs.declared.forms.Container.{Container}
 use Rattle.protocol_traits.specs.declared.forms.Container.TheVariants as containers
 use Rattle.protocol_traits.specs.declared.forms.Lead.{Lead}

@@ -13,6 +13,12 @@ use cell_writes::SHORT;
 use protocol_traits::{Head, Lead, Pairs};
 use thrift_value::{Kind, MessageType};
 
+/// The version that stands in front of the strict form.
+const VERSION: u16 = 0x8001;
+
+/// A header of the strict form has so many bytes around its name: the version and the type, the name's length, and the sequence number.
+const AROUND_NAME: usize = 12;
+
 /// A field's kind and id or the end of the struct, at a place of a frame, and the place behind it.
 #[inline(always)]
 pub fn lead_from(frame: &[u8], at: usize) -> Option<(Lead, i16, usize)>
@@ -62,12 +68,27 @@ fn lead_of(code: u8) -> (Lead, usize)
 pub fn head_front(bytes: &[u8]) -> Option<(Head<'_>, usize)>
     ensures { IfSome result (λ x. head_at bytes.now ≡ Ok (header_scan x)) }
 {
+    let size = name_front(bytes)?;
     let mtype = version_front(bytes)?;
-    let size = length_front(&bytes[4..])?;
     let behind = 8 + size;
     let seq = seq_front(&bytes[behind..])?;
     let name = &bytes[8..behind];
     Some((Head { name, mtype, seq }, behind + 4))
+}
+
+/// The length of a header's name, behind which a sequence number still fits.
+#[inline(always)]
+fn name_front(bytes: &[u8]) -> Option<usize>
+    ensures { IfSome result (λ n. Finds (drop 4 bytes.now) (string_at (drop 4 bytes.now)) (take n (drop 4 (drop 4 bytes.now))) (n + 4)) }
+{
+    if bytes.len() < AROUND_NAME {
+        return None;
+    }
+    let size = u32::from_be_bytes([bytes[4], bytes[5], bytes[6], bytes[7]]);
+    if size >= 0x8000_0000 || size as usize > bytes.len() - AROUND_NAME {
+        return None;
+    }
+    Some(size as usize)
 }
 
 /// The version, the unused byte and the type of the strict form, in four bytes.
@@ -77,7 +98,7 @@ fn version_front(bytes: &[u8]) -> Option<MessageType>
     ensures strict { IfSome result (λ t. slice_index bytes.now 0 ≡ 128) }
     ensures long { IfSome result (λ t. 4 ≤ length bytes.now) }
 {
-    if bytes.len() < 4 || bytes[0] != 0x80 || bytes[1] != 1 {
+    if bytes.len() < 4 || u16::from_be_bytes([bytes[0], bytes[1]]) != VERSION {
         return None;
     }
     let mtype = type_front(&bytes[3..])?;
@@ -213,32 +234,6 @@ pub fn double_from(frame: &[u8], at: usize) -> Option<(u64, usize)>
     ))
 }
 
-/// A size or length, in four bytes.
-#[inline(always)]
-#[tactic(auto, unfolding(crate::specs::Scan::size_at))]
-pub fn size_front(bytes: &[u8]) -> Option<u32>
-    ensures { IfSome result (λ n. Finds bytes.now (size_at bytes.now) n 4) }
-{
-    if bytes.len() < 4 {
-        return None;
-    }
-    let size = u32::from_be_bytes([bytes[0], bytes[1], bytes[2], bytes[3]]);
-    if size < 0x8000_0000 { Some(size) } else { None }
-}
-
-/// The length of a text whose bytes stand behind it.
-#[inline(always)]
-#[tactic(auto, unfolding(crate::specs::Scan::string_at))]
-pub fn length_front(bytes: &[u8]) -> Option<usize>
-    ensures { IfSome result (λ n. Finds bytes.now (string_at bytes.now) (take n (drop 4 bytes.now)) (n + 4)) }
-{
-    let size = size_front(bytes)? as usize;
-    if bytes.len() - 4 < size {
-        return None;
-    }
-    Some(size)
-}
-
 /// Where a text of a frame begins and ends whose length stands at a place.
 #[inline(always)]
 #[tactic(auto, unfolding(crate::specs::Scan::string_at, crate::specs::Scan::size_at))]
@@ -247,6 +242,7 @@ pub fn text_from(frame: &[u8], at: usize) -> Option<(usize, usize)>
     ensures place { IfSome result (λ x. (x.0 ≡ at + 4) × (x.0 ≤ x.1)) }
     ensures found { IfSome result (λ x. Finds (drop at frame.now) (string_at (drop at frame.now)) (take (x.1 - x.0) (drop x.0 frame.now)) (x.1 - at)) }
 {
+    // Not by `size_from`: with one call more in line the compiler would make a call of each struct, list and map that is kept.
     let begin = at + 4;
     if begin > frame.len() {
         return None;

@@ -8,3 +8,4 @@ pub mod Progress
 pub mod Running
 pub mod Sending
 pub mod Treating
+pub mod Turned

@@ -103,14 +103,16 @@ fn lay_behind<P: Pair>(
     task.lay::<P>(frame, room, &mut cells[at..])
 }
 
-/// Lays a frame's length into four cells.
+/// Lays a frame's length into four cells. It is turned as a number: two turns of one that was read are none, so a frame that keeps its
+/// length has it laid as it came.
 #[inline(always)]
 fn lay_length(cells: &mut [u8], to: usize, size: usize)
     requires room { to + 4 ≤ length cells.old }
     requires small { size < 2 ^ 31 }
     ensures { cells.new ≡ take to cells.old ++ to_be_bytes w32 size ++ drop (to + 4) cells.old }
 {
-    cells[to..to + LENGTH].copy_from_slice(&(size as u32).to_be_bytes());
+    let turned = (size as u32).swap_bytes();
+    cells[to..to + LENGTH].copy_from_slice(&turned.to_le_bytes());
 }
 
 /// The room for what is written of a frame of so many bytes.

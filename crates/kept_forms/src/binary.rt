@@ -38,10 +38,11 @@ impl<'f> FormKeep<BinaryWrite> for BinaryRead<'f> {
         ensures place { IfSome result (λ x. (length x.0.name.now ≤ x.1) × (x.1 ≤ length frame.now)) }
         ensures own { IfSome result (λ x. take x.1 frame.now ≡ plain_head (header_of x.0)) }
     {
+        let front = BinaryRead::front(frame, room)?;
         if frame.len() < FRONT || frame[0] != VERSIONED || frame[2] != UNUSED {
             return None;
         }
-        BinaryRead::front(frame, room)
+        Some(front)
     }
 
     #[inline(always)]

@@ -9,4 +9,4 @@ returns c =
     let fits : SFits w32 c.in_ok-seq.seq = search rules in
     rw (to_z-of_z w32 c.in_ok-seq.seq fits)
     (head_found c.args.bytes.now c.in_ok-mtype.mtype c.in_ok-size.size c.in_ok-seq.seq c.in_ok-mtype.ensures.long c.in_ok-mtype.ensures.strict c.in_ok-mtype.ensures.found
-    ((rw take_rest at c.in_ok-size.ensures).0) ((rw take_rest at c.in_ok-seq.ensures).0))
+    (c.in_ok-size.ensures.0) ((rw take_rest at c.in_ok-seq.ensures).0))
