@@ -69,9 +69,10 @@ pub fn container_end(container: Container) -> &'static [u8]
 
 /// A kind's name in quotes.
 #[inline(always)]
-pub fn quoted_name(kind: Kind) -> &'static [u8]
+fn quoted_name(kind: Kind) -> &'static [u8]
     ensures name { result.now ≡ quoted (kind_name kind) }
     ensures few { length result.now ≤ 5 }
+    ensures some { 4 ≤ length result.now }
 {
     match kind {
         Kind::Bool => b"\"tf\"",
@@ -115,6 +116,21 @@ pub fn lay_marks(cells: &mut [u8], to: usize, marks: &[u8]) -> usize
         [] => to,
         [only] => lay(cells, to, &[only]),
         [first, second, ..] => lay(cells, to, &[first, second]),
+    }
+}
+
+/// Lays a kind's name in quotes. It has four or five bytes, and which is often not known when the code is built, so each number of bytes
+/// has a copy of its own.
+#[inline(always)]
+pub fn lay_name(cells: &mut [u8], to: usize, kind: Kind) -> usize
+    requires { to + 5 ≤ length cells.old }
+    ensures laid { take result cells.new ≡ take to cells.old ++ quoted (kind_name kind) }
+    ensures short { result ≤ to + 5 }
+{
+    match *quoted_name(kind) {
+        [quote, first, second, end] => lay(cells, to, &[quote, first, second, end]),
+        [quote, first, second, third, end] => lay(cells, to, &[quote, first, second, third, end]),
+        _ => to,
     }
 }
 

@@ -7,7 +7,7 @@ ghost use Rattle.json_protocol.specs.Writing.{flag, kinds_spelling, sequence_spe
 ghost use Rattle.json_protocol.specs.WriteForms.{starts_at, goes_on, stand_lead};
 
 use crate::lay::{
-    container_end, flag_word, lay_both, lay_field, lay_marks, lay_whole, quoted_name, stand_key,
+    container_end, flag_word, lay_both, lay_field, lay_marks, lay_name, lay_whole, stand_key,
     stand_lead, stop_marks,
 };
 use crate::put::type_digit;
@@ -236,9 +236,10 @@ fn lay_sequence(cells: &mut [u8], to: usize, kind: Kind, size: u32) -> usize
     ensures laid { take result cells.new ≡ take to cells.old ++ sequence_spelling kind size }
     ensures short { result ≤ to + 17 }
 {
-    let to = lay_both(cells, to, b"[", quoted_name(kind));
-    let to = lay(cells, to, b",");
-    lay_int(cells, to, i64::from(size))
+    let name = lay(cells, to, b"[");
+    let behind = lay_name(cells, name, kind);
+    let number = lay(cells, behind, b",");
+    lay_int(cells, number, i64::from(size))
 }
 
 /// Lays the kinds of a map's keys and values with the marks before them.
@@ -248,8 +249,10 @@ fn lay_kinds(cells: &mut [u8], to: usize, stand: Stand, key: Kind, value: Kind) 
     ensures laid { take result cells.new ≡ take to cells.old ++ (stand_lead stand ++ kinds_spelling key value) }
     ensures short { result ≤ to + 15 }
 {
-    let to = lay_marks(cells, to, stand_lead(stand));
-    let to = lay_both(cells, to, b"[", quoted_name(key));
-    let to = lay_both(cells, to, b",", quoted_name(value));
-    lay(cells, to, b",")
+    let begin = lay_marks(cells, to, stand_lead(stand));
+    let first = lay(cells, begin, b"[");
+    let behind = lay_name(cells, first, key);
+    let second = lay(cells, behind, b",");
+    let end = lay_name(cells, second, value);
+    lay(cells, end, b",")
 }

@@ -13,7 +13,6 @@ ghost use Rattle.json_protocol.specs.Weights.{plain_nests, light_head, light};
 use crate::opening::{Opening, opening_after};
 use crate::put::{is_key, lead, put_head, put_item};
 use gate_io::Out;
-use json_text::is_plain_ascii;
 use protocol_traits::{Bar, Head, Hint, Mark, Nest, Slot, WireWrite, follow};
 use std::marker::Model;
 use thrift_value::{Event, Kind};
@@ -71,7 +70,7 @@ impl WireWrite for JsonWrite {
     }
 
     fn takes_name(name: &[u8]) -> Result<(), Bar> {
-        if is_plain_ascii(name) || is_text(name) {
+        if is_text(name) {
             return Ok(());
         }
         Err(Bar::NotUtf8)
@@ -107,7 +106,10 @@ impl WireWrite for JsonWrite {
 pub fn is_text(bytes: &[u8]) -> bool
     ensures { result ≡ is_utf8 bytes.now }
 {
-    simdutf8::is_utf8(bytes)
+    match simdutf8::basic::from_utf8(bytes) {
+        Ok(_) => true,
+        Err(_) => false,
+    }
 }
 
 fn takes_string(bytes: &[u8], hint: Hint) -> Result<(), Bar>

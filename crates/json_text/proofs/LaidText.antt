@@ -1,11 +1,12 @@
 -- A run of plain bytes laid into cells, a vector at a time.
-use Rattle.std.proofs.Common.{◌≡◌, ℕ, zero, suc, ◌+◌, ◌-◌, ◌<◌, ◌≤◌, Bool, true, false, List, [], ◌∷◌, ◌++◌, length, take, drop, set, get_or, map, refl, sym, ap, subst, ◌∙◌, inl, inr, arith, append-nil, append_assoc, length-append, length-drop}
+use Rattle.std.proofs.Common.{◌≡◌, ℕ, zero, suc, ◌+◌, ◌-◌, ◌<◌, ◌≤◌, Bool, true, false, List, [], ◌∷◌, ◌++◌, length, take, drop, get_or, map, refl, sym, ap, subst, ◌∙◌, inl, inr, arith, append-nil, append_assoc, length-append, length-drop}
 use Rattle.std.specs.Prelude.{slice_index, cond, min, not}
 use Rattle.std.specs.List.{prefix_len}
 use Rattle.std.specs.Str.{IsAscii, is_utf8}
 use Rattle.std.proofs.lemmas.Bool.{cases_lt}
 use Rattle.std.proofs.lemmas.Bool.Decides.{nat_tests}
-use Rattle.std.proofs.lemmas.List.{drop-drop, drop-take, take-take, take_more_set, drop_more, get_or-drop}
+use Rattle.std.proofs.lemmas.List.{drop-drop, drop-take, drop_at, take-take, length-take, get_or-drop, get_or-take}
+use Rattle.std.proofs.lemmas.Simd.{length-chunk}
 use Rattle.std.proofs.lemmas.List.Sums.{prefix_len_passes, prefix_len_stops}
 use lib.Lanes.{chunk, mask_l}
 use lib.Count.{count_trailing_zeros}
@@ -68,20 +69,26 @@ rest_joined old cells new bytes to from at stop order past before laid =
     subst (λ k. take (to + (k - from)) new ≡ take to old ++ take (k - from) (drop from bytes)) there (joined_part old cells new bytes to from at (stop - at) order before laid)
 
 -- the first lanes of a vector, which ends at a place of its own
-pub lanes_joined : (old cells new bytes : List ℕ) (to from at run behind wide : ℕ) → from ≤ at → run ≤ 32 → to + (at - from) ≤ length cells → take (to + (at - from)) cells ≡ take to old ++ take (at - from) (drop from bytes)
-    → take behind new ≡ take (to + (at - from)) cells ++ take wide (drop at bytes) → behind ≡ to + (at - from) + 32 → wide ≡ 32 → take (to + (at + run - from)) new ≡ take to old ++ take (at + run - from) (drop from bytes)
-lanes_joined old cells new bytes to from at run behind wide order few within before laid place all =
+pub lanes_joined : (old cells new bytes : List ℕ) (to from at run behind : ℕ) → from ≤ at → at + 32 ≤ length bytes → run ≤ 32 → to + (at - from) ≤ length cells → take (to + (at - from)) cells ≡ take to old ++ take (at - from) (drop from bytes)
+    → take behind new ≡ take (to + (at - from)) cells ++ chunk at 32 bytes → behind ≡ to + (at - from) + length (chunk at 32 bytes) → take (to + (at + run - from)) new ≡ take to old ++ take (at + run - from) (drop from bytes)
+lanes_joined old cells new bytes to from at run behind order there few within before laid place =
     let front = take (to + (at - from)) cells in
-    let vector : take (to + (at - from) + 32) new ≡ front ++ take 32 (drop at bytes) = ap (λ k. take k new) (sym place) ∙ laid ∙ ap (λ k. front ++ take k (drop at bytes)) all in
+    let ends : behind ≡ to + (at - from) + 32 = omega (arith, place, length-chunk at 32 bytes there) in
+    let vector : take (to + (at - from) + 32) new ≡ front ++ take 32 (drop at bytes) = ap (λ k. take k new) (sym ends) ∙ laid in
     joined_part old cells new bytes to from at run order before
     (front_laid cells new (take 32 (drop at bytes)) (to + (at - from)) 32 run vector within few ∙ ap (λ xs. front ++ xs) (take-take run 32 (drop at bytes) few))
 
--- one byte
-pub byte_joined : (old cells bytes : List ℕ) (to from at : ℕ) → from ≤ at → at < length bytes → to + (at - from) < length cells → take (to + (at - from)) cells ≡ take to old ++ take (at - from) (drop from bytes)
-    → take (to + (at + 1 - from)) (set cells (to + (at - from)) (get_or bytes at 0)) ≡ take to old ++ take (at + 1 - from) (drop from bytes)
-byte_joined old cells bytes to from at order there room before =
-    joined_part old cells (set cells (to + (at - from)) (get_or bytes at 0)) bytes to from at 1 order before
-    (take_more_set cells (to + (at - from)) (get_or bytes at 0) room ∙ ap (λ xs. take (to + (at - from)) cells ++ xs) (sym (ap (take 1) (drop_more bytes at 0 there))))
+-- the rest of a text, laid as a whole
+pub rest_laid : (old new bytes : List ℕ) (to from size behind : ℕ) → to ≤ length old → take behind new ≡ take to old ++ take (size - from) (drop from bytes) → behind ≡ to + (size - from) → take (size - from) (drop to new) ≡ take (size - from) (drop from bytes)
+rest_laid old new bytes to from size behind within laid place =
+    sym (drop-take to (size - from) new) ∙ ap (λ k. drop to (take k new)) (sym place) ∙ ap (drop to) laid ∙ drop_at (take to old) (take (size - from) (drop from bytes)) to (omega (arith, length-take to old))
+
+-- the first bytes of it
+pub run_of_rest : (old new bytes : List ℕ) (to from run n behind : ℕ) → to ≤ length old → run ≤ n → take behind new ≡ take to old ++ take n (drop from bytes) → behind ≡ to + n → take (to + (from + run - from)) new ≡ take to old ++ take (from + run - from) (drop from bytes)
+run_of_rest old new bytes to from run n behind within few laid place =
+    let far : from + run - from ≡ run = omega arith in
+    ap (λ k. take (to + k) new) far ∙ front_laid old new (take n (drop from bytes)) to n run (ap (λ k. take k new) (sym place) ∙ laid) within few
+    ∙ ap (λ xs. take to old ++ xs) (take-take run n (drop from bytes) few) ∙ ap (λ k. take to old ++ take k (drop from bytes)) (sym far)
 
 -- ---- what the masks of a vector tell
 
@@ -130,6 +137,32 @@ prefix_of_take q (suc n) (x ∷ xs) = by (q x) (prefix_of_take q n xs)
     by true h = (λ few. ap (λ k. 1 + k) (h.0 (omega arith)), λ most. omega (arith, h.1 (omega arith)))
     by false h = (λ few. refl, λ most. absurd (omega arith))
 
+-- how far a run goes in cells that hold so many bytes of the text
+pub run_of_cells : (cells bytes : List ℕ) (to from run n : ℕ) → take n (drop to cells) ≡ take n (drop from bytes) → run ≤ n → (run ≤ prefix_len is_plain (drop to cells)) × (run < n → run ≡ prefix_len is_plain (drop to cells))
+    → (run ≤ prefix_len is_plain (drop from bytes)) × (run < n → run ≡ prefix_len is_plain (drop from bytes))
+run_of_cells cells bytes to from run n same few seen = elim (cases_lt run n) [
+  | inl before ↦
+      let cut : prefix_len is_plain (take n (drop from bytes)) ≡ run = omega (arith, laid.0 (omega (arith, seen.1 before, before)), e, seen.1 before) in
+      elim (cases_lt n (prefix_len is_plain (drop from bytes))) [
+        | inl more ↦ absurd (omega (arith, text.1 (omega (arith, more)), cut, before))
+        | inr all ↦ (omega (arith, text.0 all, cut), λ _. omega (arith, text.0 all, cut))
+      ]
+  | inr last ↦
+      let cut : prefix_len is_plain (take n (drop from bytes)) ≡ n = omega (arith, laid.1 (omega (arith, seen.0, last)), e) in (
+        elim (cases_lt n (prefix_len is_plain (drop from bytes))) [ inl more ↦ omega (arith, more, few) | inr all ↦ omega (arith, text.0 all, cut, few) ],
+        λ before. absurd (omega (arith, last, before)),
+      )
+]
+  where
+    e : prefix_len is_plain (take n (drop to cells)) ≡ prefix_len is_plain (take n (drop from bytes))
+    e = ap (prefix_len is_plain) same
+
+    laid : (prefix_len is_plain (drop to cells) ≤ n → prefix_len is_plain (take n (drop to cells)) ≡ prefix_len is_plain (drop to cells)) × (n ≤ prefix_len is_plain (drop to cells) → prefix_len is_plain (take n (drop to cells)) ≡ n)
+    laid = prefix_of_take is_plain n (drop to cells)
+
+    text : (prefix_len is_plain (drop from bytes) ≤ n → prefix_len is_plain (take n (drop from bytes)) ≡ prefix_len is_plain (drop from bytes)) × (n ≤ prefix_len is_plain (drop from bytes) → prefix_len is_plain (take n (drop from bytes)) ≡ n)
+    text = prefix_of_take is_plain n (drop from bytes)
+
 -- where the run of the text stops
 pub stop_is : (bytes : List ℕ) (from size stop : ℕ) → size ≤ length bytes → StopsAt bytes from size stop → stop ≡ from + prefix_len is_plain (drop from (take size bytes))
 stop_is bytes from size stop within h =
@@ -168,6 +201,16 @@ stop_low bytes from size stop within h before =
   where
     no_plain : (x : ℕ) → is_plain x ≡ false → x < 128
     no_plain x e = grind (arith, nat_tests)
+
+-- the run is ASCII where it is in cells that hold so many bytes of the text
+pub ascii_of_cells : (cells bytes : List ℕ) (to from run n : ℕ) → take n (drop to cells) ≡ take n (drop from bytes) → run ≤ n → IsAsciiRun cells to (to + run) → IsAsciiRun bytes from (from + run)
+ascii_of_cells cells bytes to from run n same few low i above below =
+    let there : from + (i - from) ≡ i = omega (arith, above) in
+    let inside : i - from < n = omega (arith, above, below, few) in
+    let here : get_or cells (to + (i - from)) 0 ≡ get_or bytes i 0 =
+    sym (get_or-drop to cells (i - from) 0) ∙ sym (get_or-take n (drop to cells) (i - from) 0 inside) ∙ ap (λ xs. get_or xs (i - from) 0) same
+    ∙ get_or-take n (drop from bytes) (i - from) 0 inside ∙ get_or-drop from bytes (i - from) 0 ∙ ap (λ k. get_or bytes k 0) there in
+    subst (λ x. x < 128) here (low (to + (i - from)) (omega arith) (omega (arith, above, below)))
 
 pub ascii_utf8 : (bytes : List ℕ) (size : ℕ) → size ≤ length bytes → IsAsciiRun bytes 0 size → is_utf8 (take size bytes) ≡ true
 ascii_utf8 bytes size within run =

@@ -1,14 +1,14 @@
 -- A string without escapes where it stands.
 use Rattle.std.proofs.Common.{◌≡◌, ℕ, ◌+◌, ◌-◌, ◌<◌, ◌≤◌, Bool, true, false, List, [], length, take, drop, refl, sym, ap, subst, ◌∙◌, arith, length-drop, map}
 use Rattle.std.specs.Prelude.{nat_le, slice_index, not, ◌&&◌, ◌==◌}
-use Rattle.std.specs.Str.{IsAscii, is_utf8}
+use Rattle.std.specs.Str.{IsAscii}
 use Rattle.std.specs.Str.Lossy.{utf8_valid_len}
 use Rattle.std.specs.List.{prefix_len}
 use Rattle.std.proofs.lemmas.Bool.Decides.{nat_tests}
 use Rattle.std.proofs.lemmas.List.{take_all, length-take-le, get_or-take, get_or-drop, get_or_past}
 use Rattle.std.proofs.lemmas.Simd.{none_from_empty_mask, length-chunk, trailing_mask_l}
 use Rattle.std.proofs.lemmas.List.Sums.{prefix_len-le-length}
-use Rattle.std.proofs.lemmas.Str.{IsUtf8-from_ascii, utf8_valid_len-IsUtf8, is_utf8-from_IsUtf8}
+use Rattle.std.proofs.lemmas.Str.{IsUtf8-from_ascii, utf8_valid_len-IsUtf8}
 use lib.Lanes.{chunk, mask_l}
 use lib.Count.{count_trailing_zeros}
 use Rattle.json_text.specs.declared.scanned.Scan.{Scan}
@@ -113,13 +113,3 @@ pub ascii_valid : (bytes : List ℕ) (at stop : ℕ) → at ≤ stop → stop �
 ascii_valid bytes at stop order most run =
     utf8_valid_len-IsUtf8 (take (stop - at) (drop at bytes)) (IsUtf8-from_ascii (take (stop - at) (drop at bytes)) (ascii_run bytes at stop order most run))
     ∙ length-take-le (stop - at) (drop at bytes) (omega (arith, length-drop at bytes))
-
-pub ascii_text : (bytes : List ℕ) → IsAsciiRun bytes 0 (length bytes) → is_utf8 bytes ≡ true
-ascii_text bytes run = is_utf8-from_IsUtf8 bytes (IsUtf8-from_ascii bytes ascii)
-  where
-    ascii : IsAscii bytes
-    ascii i = inside (nat_le (length bytes) i) refl
-      where
-        inside : (b : Bool) → nat_le (length bytes) i ≡ b → slice_index bytes i < 128
-        inside true e = omega (arith, get_or_past bytes i 0 (grind (arith, nat_tests)))
-        inside false e = run i (omega arith) (grind (arith, nat_tests))

@@ -256,8 +256,8 @@ fn lay_run(cells: &mut [u8], to: usize, bytes: &[u8], from: usize, size: usize) 
     let mut at = from;
     let mut is_ascii = true;
     'vectors: while bytes.len() - at >= 32 {
-        lay(cells, to + (at - from), &bytes[at..at + 32]);
         let block = u8x32::from_slice(&bytes[at..]);
+        lay(cells, to + (at - from), &block.to_array());
         let run = (stops(block).trailing_zeros() as usize).min(size - at);
         is_ascii = is_ascii & (run <= highs(block).trailing_zeros() as usize);
         if run < 32 {
@@ -268,7 +268,9 @@ fn lay_run(cells: &mut [u8], to: usize, bytes: &[u8], from: usize, size: usize) 
     last_run(cells, to + (at - from), bytes, at, size, is_ascii)
 }
 
-/// The same as `lay_run`, byte by byte, behind bytes that were seen to be ASCII or not.
+/// The same as `lay_run` for fewer bytes than a vector has, behind bytes that were seen to be ASCII or not. All of them are laid
+/// first, and then looked at in the cells, where a whole vector can be loaded.
+#[inline(always)]
 fn last_run(
     cells: &mut [u8],
     to: usize,
@@ -279,18 +281,16 @@ fn last_run(
 ) -> (usize, bool)
     requires order { from ≤ size }
     requires size { size ≤ length bytes.now }
-    requires room { to + (size - from) ≤ length cells.old }
+    requires few { size - from < SLACK }
+    requires room { to + (size - from) + SLACK ≤ length cells.old }
     ensures stops { StopsAt bytes.now from size result.0 }
     ensures laid { take (to + (result.0 - from)) cells.new ≡ take to cells.old ++ take (result.0 - from) (drop from bytes.now) }
     ensures ascii { result.1 ≡ true → IsAsciiRun bytes.now from result.0 }
     ensures before { result.1 ≡ true → were_ascii ≡ true }
 {
-    let mut at = from;
-    let mut is_ascii = were_ascii;
-    'bytes: while at < size && bytes[at] != b'"' && bytes[at] != b'\\' && bytes[at] >= 0x20 {
-        is_ascii = is_ascii & (bytes[at] < 128);
-        cells[to + (at - from)] = bytes[at];
-        at += 1;
-    }
-    (at, is_ascii)
+    cell_writes::lay_short(cells, to, &bytes[from..size]);
+    let block = u8x32::from_slice(&cells[to..]);
+    let run = (stops(block).trailing_zeros() as usize).min(size - from);
+    let is_ascii = run <= highs(block).trailing_zeros() as usize;
+    (from + run, were_ascii & is_ascii)
 }

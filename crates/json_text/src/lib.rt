@@ -18,7 +18,7 @@ pub use blob_write::{lay_blob, write_blob};
 pub use int::read_int;
 pub use lay::{lay_int, lay_text, lay_utf8};
 pub use number::read_number;
-pub use places::{is_plain_ascii, plain_int, plain_small_int, plain_text};
+pub use places::{plain_int, plain_small_int, plain_text};
 pub use run::skip_white;
 pub use scanned::Scan;
 pub use text::read_text;

@@ -3,7 +3,6 @@ ghost use Rattle.std.specs.Prelude.{◌≡◌, ◌≤◌, ◌<◌, ◌+◌, ◌-
 ghost use Rattle.std.specs.List.{prefix_len};
 ghost use Rattle.std.specs.Char.{is_ascii_digit};
 ghost use Rattle.std.specs.Simd.Lanes.{mask_l};
-ghost use Rattle.std.specs.Str.{is_utf8};
 ghost use Rattle.json_text.specs.declared.scanned.Scan.TheVariants.{Whole};
 ghost use Rattle.json_text.specs.Int.{is_int_byte, digits_from, magnitude, int_at};
 ghost use Rattle.json_text.specs.Text.{is_plain, text_at};
@@ -140,15 +139,6 @@ pub fn plain_text(bytes: &[u8], at: usize) -> Option<usize>
         Run::Good => Some(stop),
         Run::EndsEarly | Run::Wrong(_) => None,
     }
-}
-
-/// Whether a text was seen to have neither a byte that is escaped nor one that is not ASCII.
-#[inline(always)]
-pub fn is_plain_ascii(text: &[u8]) -> bool
-    ensures { result ≡ true → is_utf8 text.now ≡ true }
-{
-    let (stop, is_ascii) = plain_run(text, 0);
-    is_ascii && stop == text.len()
 }
 
 /// The first byte from a place on that is a quote, a backslash or a control byte, or the length; and whether those before

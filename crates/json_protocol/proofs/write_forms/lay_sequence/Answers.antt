@@ -9,7 +9,7 @@ pub returns-clause-short : goal.returns-clause-short
 returns-clause-short c =
     let fits : FitsSigned w64 c.from.result = search rules in
     let digits = size_short _ c.args.size (to_z-of_z w64 c.from.result fits ∙ c.from.ensures) (omega arith) in
-    omega (arith, digits, c.lay_int.ensures.place, c.lay-to.ensures.place, c.lay_both-to.ensures.place, c.quoted_name.ensures.few)
+    omega (arith, digits, c.lay_int.ensures.place, c.lay-name.ensures.place, c.lay_name-behind.ensures.short, c.lay-number.ensures.place)
 
 pub returns-clause-laid : goal.returns-clause-laid
 returns-clause-laid c = grind (arith, common_steps)

@@ -15,7 +15,7 @@ returns-then-run-lt32-clause-stops c =
 pub returns-then-run-lt32-clause-laid : goal.returns-then-run-lt32-clause-laid
 returns-then-run-lt32-clause-laid c =
     let v = c.vectors in
-    lanes_joined c.args.cells.now v.cells c.lay.new.cells c.args.bytes.now c.args.to c.args.from v.at c.min-run.result c.lay.result _ v.invariant.order (omega (arith, c.if-run-lt32.true)) (omega (arith, v.invariant.order, v.invariant.within)) v.invariant.laid c.lay.ensures.laid (omega (arith, c.lay.ensures.place)) (omega arith)
+    lanes_joined c.args.cells.now v.cells c.lay.new.cells c.args.bytes.now c.args.to c.args.from v.at c.min-run.result c.lay.result v.invariant.order (omega arith) (omega (arith, c.if-run-lt32.true)) (omega (arith, v.invariant.order, v.invariant.within)) v.invariant.laid c.lay.ensures.laid c.lay.ensures.place
 
 pub returns-then-run-lt32-clause-ascii : goal.returns-then-run-lt32-clause-ascii
 returns-then-run-lt32-clause-ascii c = λ e.
@@ -34,7 +34,7 @@ vectors-preserved c =
       plain = omega (arith, copied.plain, here);
       order = omega (arith, copied.order);
       within = omega (arith, copied.within, long, c.min-run.ensures);
-      laid = lanes_joined c.args.cells.now v.cells c.lay.new.cells c.args.bytes.now c.args.to c.args.from v.at 32 c.lay.result _ copied.order (omega arith) (omega (arith, copied.order, copied.within)) copied.laid c.lay.ensures.laid (omega (arith, c.lay.ensures.place)) (omega arith);
+      laid = lanes_joined c.args.cells.now v.cells c.lay.new.cells c.args.bytes.now c.args.to c.args.from v.at 32 c.lay.result copied.order (omega arith) (omega arith) (omega (arith, copied.order, copied.within)) copied.laid c.lay.ensures.laid c.lay.ensures.place;
       ascii = λ e.
           let both = both_true v.is_ascii _ e in
           let low : c.min-run.result ≤ count_trailing_zeros 64 c.highs.result = grind (arith, nat_tests, both.1) in
