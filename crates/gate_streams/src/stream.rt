@@ -25,7 +25,8 @@ use gate_start::{Ending, Page, end_with};
 use gate_words::GREATEST_LIMIT;
 use line_transport::{Excess, MessageBuf, Next, Transport};
 use protocol_pairs::{
-    BinaryKept, BinaryToCompact, CompactKept, CompactToBinary, DeclaredKept, DeclaredToBinary, Pair,
+    BinaryKept, BinaryToCompact, BinaryToJson, CompactKept, CompactToBinary, CompactToJson,
+    DeclaredKept, DeclaredToBinary, JsonToBinary, JsonToCompact, Pair,
 };
 use protocol_traits::Proto;
 use std::alloc::Global;
@@ -367,7 +368,11 @@ impl<'s> Work<'s> {
                     self.run_as::<CompactToBinary>(task, room);
                 }
             }
-            _ => (),
+            (Proto::Binary, Proto::Json) => self.run_as::<BinaryToJson>(task, room),
+            (Proto::Compact, Proto::Json) => self.run_as::<CompactToJson>(task, room),
+            (Proto::Json, Proto::Binary) => self.run_as::<JsonToBinary>(task, room),
+            (Proto::Json, Proto::Compact) => self.run_as::<JsonToCompact>(task, room),
+            (Proto::Json, Proto::Json) => (),
         }
     }
 

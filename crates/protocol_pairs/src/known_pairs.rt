@@ -9,6 +9,7 @@ ghost use Rattle.protocol_pairs.specs.Pairs.{judged};
 
 use binary_protocol::{BinaryRead, BinaryWrite};
 use compact_protocol::{CompactRead, CompactWrite};
+use json_protocol::{JsonRead, JsonWrite};
 use kept_forms::FormKeep;
 use kept_messages::{lay_kept, lay_kept_declared};
 use protocol_traits::FormWrite;
@@ -169,6 +170,90 @@ impl Pair for CompactKept {
         cells: &mut [u8],
     ) -> Option<usize> {
         keep::<CompactRead, CompactWrite>(schema, frame, room, cells)
+    }
+}
+
+/// From Binary to JSON, with what is declared of a message.
+pub struct BinaryToJson;
+
+impl Pair for BinaryToJson {
+    ghost from = { Proto.Binary };
+
+    ghost to = { Proto.Json };
+
+    #[inline(always)]
+    #[tactic(auto, unfolding(crate::specs::Pairs::judged))]
+    fn lay(
+        schema: &Schema,
+        route: Route,
+        frame: &[u8],
+        room: &mut [u8],
+        cells: &mut [u8],
+    ) -> Option<usize> {
+        lay_declared::<BinaryRead, JsonWrite>(schema, route, frame, room, cells)
+    }
+}
+
+/// From Compact to JSON, with what is declared of a message.
+pub struct CompactToJson;
+
+impl Pair for CompactToJson {
+    ghost from = { Proto.Compact };
+
+    ghost to = { Proto.Json };
+
+    #[inline(always)]
+    #[tactic(auto, unfolding(crate::specs::Pairs::judged))]
+    fn lay(
+        schema: &Schema,
+        route: Route,
+        frame: &[u8],
+        room: &mut [u8],
+        cells: &mut [u8],
+    ) -> Option<usize> {
+        lay_declared::<CompactRead, JsonWrite>(schema, route, frame, room, cells)
+    }
+}
+
+/// From JSON to Binary, with what is declared of a message.
+pub struct JsonToBinary;
+
+impl Pair for JsonToBinary {
+    ghost from = { Proto.Json };
+
+    ghost to = { Proto.Binary };
+
+    #[inline(always)]
+    #[tactic(auto, unfolding(crate::specs::Pairs::judged))]
+    fn lay(
+        schema: &Schema,
+        route: Route,
+        frame: &[u8],
+        room: &mut [u8],
+        cells: &mut [u8],
+    ) -> Option<usize> {
+        lay_declared::<JsonRead, BinaryWrite>(schema, route, frame, room, cells)
+    }
+}
+
+/// From JSON to Compact, with what is declared of a message.
+pub struct JsonToCompact;
+
+impl Pair for JsonToCompact {
+    ghost from = { Proto.Json };
+
+    ghost to = { Proto.Compact };
+
+    #[inline(always)]
+    #[tactic(auto, unfolding(crate::specs::Pairs::judged))]
+    fn lay(
+        schema: &Schema,
+        route: Route,
+        frame: &[u8],
+        room: &mut [u8],
+        cells: &mut [u8],
+    ) -> Option<usize> {
+        lay_declared::<JsonRead, CompactWrite>(schema, route, frame, room, cells)
     }
 }
 

@@ -11,7 +11,8 @@ mod pairs;
 
 pub use answers::answer;
 pub use known_pairs::{
-    BinaryKept, BinaryToCompact, CompactKept, CompactToBinary, DeclaredKept, DeclaredToBinary, Pair,
+    BinaryKept, BinaryToCompact, BinaryToJson, CompactKept, CompactToBinary, CompactToJson,
+    DeclaredKept, DeclaredToBinary, JsonToBinary, JsonToCompact, Pair,
 };
 pub use methods::{served, translate_method};
 pub use pairs::{translate, translate_by_events, translate_quickly};
